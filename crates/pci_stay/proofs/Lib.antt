@@ -1,5 +1,6 @@
 pub mod Opened
 pub mod Rows
+pub mod BehindItems
 pub mod Rooms
 pub mod Held
 pub mod Marks

@@ -10,6 +10,7 @@ use Rattle.pci_spec.specs.Window.{WindowKind, IoWindow, MemoryWindow, PrefetchWi
 use Rattle.pci_spec.specs.System.{System, Function, Window, IsSystem, is_bridge}
 use Rattle.pci_spec.specs.Bus.{secondary, IsNested}
 use Rattle.pci_spec.specs.Decoded.{Range, HasRecords}
+use Rattle.pci_spec.proofs.Members.{in_nil, in_cons_cases}
 use Rattle.plan_spec.specs.Plan.{is_open}
 use Rattle.plan_spec.specs.Planning.Layout.{range_of}
 use Rattle.pci_base.specs.declared.window_kind.WindowKind.{WindowKind as CodeKind}
@@ -26,21 +27,42 @@ use Rattle.pci_place.specs.Records.{IsRecordOf}
 use Rattle.pci_place.proofs.Records.{FunctionAt, function_at, same_count}
 use Rattle.pci_stand.proofs.OfRecord.{window_is}
 use Rattle.settle_spec.specs.FirstPlace.{Extent as ExtentValue, ends_by, first_spot, first_place, else_at}
+use Rattle.settle_spec.specs.Lines.{taken_for}
 use Rattle.settle_spec.specs.Lists.{Request}
 use Rattle.settle_spec.specs.Parts.{FunctionPart}
-use Rattle.settle_spec.specs.Items.{has_of, bus_items, new_window, are_placed, place_all}
+use Rattle.settle_spec.specs.Stands.{window_part}
+use Rattle.settle_spec.specs.Items.{Item as ItemValue, Placing, AllPlaced, Lacks, and_placed, place_next, place_each, taken_by, has_of, bus_items, new_window, are_placed}
 use Rattle.settle_spec.proofs.FirstSpot.{least_spot, spot_gives}
 use Rattle.settle_spec.proofs.NewWindows.{window_is_around}
 use Rattle.pci_settle.specs.declared.extent.Extent.{Extent}
 use Rattle.pci_settle.specs.Spots.{extent_value}
 use Rattle.pci_settle.specs.Buses.{AreBehind, Classing, TellsClasses}
 use Rattle.pci_settle.specs.NewWindows.{nowhere, IsTooLarge, AreNewWindows, AreMarkedWindows, HasMarkedWindows, told_extent}
-use Rattle.pci_settle.proofs.Marked.{told_is, told_fits, same_or_large, none_placed, some_page}
+use Rattle.pci_settle.proofs.Marked.{told_is, told_fits, same_or_large, some_page}
 use Rattle.pci_stay.specs.declared.windows.TooLarge.{TooLarge}
 use Rattle.pci_stay.specs.Windows.{HasAllWindows, HasAllMarked, AreAllNew, first_of, is_whole_range, opens_whole, whole_by, has_whole, HasWhole, IsWhole, HasWholeWindow}
-use Rattle.pci_stay.specs.Rooms.{HasSameRoom}
+use Rattle.pci_stay.specs.Rooms.{place_off, HasSameRoom}
 use Rattle.pci_stay.specs.Holding.{HasNewBeside, HasNewWhereStands}
 use Rattle.pci_stay.proofs.Held.{some_range, some_open, record_at}
+
+placed_less : (i : ItemValue) (a : ℕ) (p : Placing) → are_placed p ≡ false → are_placed (and_placed i a p) ≡ false
+placed_less i a (AllPlaced placed) not = not
+placed_less i a (Lacks j) not = refl
+
+-- where for one of some items no place is found, whatever is taken, not all of them have one
+none_found : (find : ItemValue → List Range → Option ℕ) (taken : List Range) (items : List ItemValue) (i : ItemValue) → Contains items i
+    → ((now : List Range) → find i now ≡ None) → are_placed (place_each find taken items) ≡ false
+none_found find taken [] i listed none = absurd (in_nil i listed)
+none_found find taken (j ∷ items) i listed none =
+    by (find j taken) refl (λ a later. none_found find (taken_by j a ∷ taken) items i later none)
+  where
+    by : (o : Option ℕ) → find j taken ≡ o → ((a : ℕ) → Contains items i → are_placed (place_each find (taken_by j a ∷ taken) items) ≡ false)
+        → are_placed (place_next j o (λ a. place_each find (taken_by j a ∷ taken) items)) ≡ false
+    by None is rest = refl
+    by (Some a) is rest = elim (in_cons_cases j items i listed) [
+      | inl here ↦ absurd (let none_here : find j taken ≡ None = subst (λ (x : ItemValue). find x taken ≡ None) (sym here) (none taken) in let no : Some a ≡ None = sym is ∙ none_here in cc)
+      | inr later ↦ placed_less j a (place_each find (taken_by j a ∷ taken) items) (rest a later)
+    ]
 
 -- what ends in no range from its first place on has none
 no_place : (r : Range) (now : List Range) (e : ExtentValue) → ends_by r e (first_spot r.first now e) ≡ false → first_place (r ∷ []) now e ≡ None
@@ -75,12 +97,12 @@ module _ (q : Request) (s : System) (system : IsSystem s) (nested : IsNested q.r
   same_room keeps windows r bus marked small narrow taken =
       elim (same_or_large q s c keeps (told_extent windows) (new_window q s c) bus
       (λ f listed beside bridge has. told_fits (has_of q s c f) (new_window q s c f) (get_or windows (secondary f) None) (marked f listed bridge) has)) [
-        | inl same ↦ ap (λ xs. are_placed (place_all (λ i. r ∷ []) taken xs)) same
+        | inl same ↦ ap (λ xs. are_placed (place_each (place_off q r) taken xs)) same
         | inr has ↦
-            none_placed (λ i. r ∷ []) taken (bus_items q s c keeps (told_extent windows) bus) _ has.in_low
-            (λ now. subst (λ (e : ExtentValue). first_place (r ∷ []) now e ≡ None) (sym has.mark) (mark_none r now))
-            ∙ sym (none_placed (λ i. r ∷ []) taken (bus_items q s c keeps (new_window q s c) bus) _ has.in_high
-            (λ now. large_none r now (new_window q s c has.of) (new_aligned has.of has.listed has.bridge) has.large small narrow))
+            none_found (place_off q r) taken (bus_items q s c keeps (told_extent windows) bus) _ has.in_low
+            (λ now. subst (λ (e : ExtentValue). first_place (r ∷ []) (taken_for q (window_part c has.of) now) e ≡ None) (sym has.mark) (mark_none r (taken_for q (window_part c has.of) now)))
+            ∙ sym (none_found (place_off q r) taken (bus_items q s c keeps (new_window q s c) bus) _ has.in_high
+            (λ now. large_none r (taken_for q (window_part c has.of) now) (new_window q s c has.of) (new_aligned has.of has.listed has.bridge) has.large small narrow))
       ]
 
 -- the items of a bus are listed with such extents, and a range has room for them exactly where it has with their own

@@ -1,46 +1,52 @@
 -- A window has room where what is wanted has places off what is taken.
-use Rattle.std.proofs.Common.{◌≡◌, ℕ, zero, suc, ◌<◌, inl, inr, List, [], ◌∷◌, map, length, drop, get_or, Bool, true, false, not, ◌&&◌, ◌||◌, arith, refl, sym, ◌∙◌, ap, subst, Option, Some, None}
+use Rattle.std.proofs.Common.{◌≡◌, ℕ, zero, suc, ◌<◌, inl, inr, List, [], ◌∷◌, ◌++◌, map, length, drop, get_or, Bool, true, false, not, ◌&&◌, ◌||◌, arith, refl, sym, ◌∙◌, ap, subst, Option, Some, None}
 use Rattle.std.specs.Bool.{◌==◌}
 use Rattle.std.specs.Option.{IfSome, is_some}
 use Rattle.std.specs.List.{All, Contains, filter, slice_get}
 use Rattle.std.specs.List.Sorted.{IsPermutation}
 use Rattle.std.proofs.lemmas.Bool.{cases_Bool, and_parts}
 use Rattle.std.proofs.lemmas.List.{length-map, get_or-map, get_or_default}
-use Rattle.std.proofs.lemmas.List.Elements.{All-contains, All-map}
-use Rattle.std.proofs.lemmas.List.Sorted.{IsPermutation-refl, IsPermutation-sym, Contains-permutation}
+use Rattle.std.proofs.lemmas.List.Elements.{All-map, Contains-get_or}
+use Rattle.std.proofs.lemmas.List.Sorted.{IsPermutation-refl, IsPermutation-sym, IsPermutation-append_left, Contains-permutation}
 use Rattle.std.proofs.lemmas.Option.{slice_get-get_or}
 use Rattle.pci_spec.specs.Window.{WindowKind}
 use Rattle.pci_spec.specs.System.{System, Function, Part, Bar, Rom, Window, is_bridge, is_window, has_part, window_space}
 use Rattle.pci_spec.specs.Bus.{is_root, are_siblings}
+use Rattle.pci_spec.specs.Decoded.{HasRecords}
 use Rattle.pci_spec.specs.Decoded as decoded
 use Rattle.pci_spec.proofs.Members.{IsInPiece, in_flat_map_to, in_map_to, in_map_from, IsMade, in_filter_to}
 use Rattle.settle_spec.specs.Lists.{Request}
 use Rattle.settle_spec.specs.Parts.{FunctionPart, system_parts, function_parts, parts_of, is_part, header_parts, addresses, are_same_space}
 use Rattle.settle_spec.specs.Stands.{window_part, part_space}
-use Rattle.settle_spec.specs.Items.{Item as ItemValue, bus_items, new_window, taken_on, are_placed, place_all, has_places}
-use Rattle.settle_spec.specs.FirstPlace.{first_place}
-use Rattle.settle_spec.specs.Growth.{place_each}
-use Rattle.settle_spec.proofs.SameTaken.{HaveSame, same_places}
-use Rattle.settle_laws.proofs.EachPlaced.{each_all}
+use Rattle.settle_spec.specs.Lines.{lines_on, lines_behind}
+use Rattle.settle_spec.specs.Items.{Item as ItemValue, bus_items, new_window, taken_on, are_placed, place_each, has_places}
+use Rattle.settle_spec.specs.FirstPlace.{Extent as ExtentValue, first_place}
+use Rattle.settle_spec.proofs.SameTaken.{HaveSame, same_first_place}
+use Rattle.settle_spec.proofs.ItemsOn.{each_on}
 use Rattle.pci_base.specs.declared.range.Range.{Range}
 use Rattle.pci_base.specs.Ranges.{decoded_range_of}
 use Rattle.pci_base.specs.Space.{space_of}
+use Rattle.pci_function.specs.declared.record.Record.{Record}
+use Rattle.pci_function.specs.Values.{record_value}
 use Rattle.pci_place.specs.Items.{no_function}
 use Rattle.pci_place.proofs.Mapped.{kept_same}
 use Rattle.pci_place.proofs.Owned.{map_twice}
 use Rattle.pci_settle.specs.declared.item.Item.{Item}
 use Rattle.pci_settle.specs.declared.kept.Kept.{Kept}
+use Rattle.pci_settle.specs.declared.lines.Line.{Line}
 use Rattle.pci_settle.specs.declared.placing.Wanted.{Wanted}
 use Rattle.pci_settle.specs.Kept.{spec_part, AreKeptParts}
 use Rattle.pci_settle.specs.Own.{asked_item_value}
 use Rattle.pci_settle.specs.Buses.{Listing, AreInTurn}
 use Rattle.pci_settle.specs.Placings.{HasListAt, IsWanted, AreWanted, placing_of, lacks_first}
 use Rattle.pci_settle.specs.Turns.{HasExtent}
+use Rattle.pci_settle.proofs.AllPlaced.{each_same_taken, wanted_same}
 use Rattle.pci_settle.proofs.Headers.{filter_same, header_has}
 use Rattle.pci_stand.specs.declared.region.Region.{Region as CodeRegion}
 use Rattle.pci_stand.specs.Known.{Known, known, known_of, region_value, AreParts}
 use Rattle.pci_stand.proofs.Whole.{known_sorted}
-use Rattle.pci_stay.specs.Rooms.{region_range, is_taken_on, wanted_value, IsRoomOf}
+use Rattle.pci_stay.specs.Rooms.{region_range, is_taken_on, AreTakenOn, wanted_value, place_off, IsRoomOf}
+use Rattle.pci_stay.specs.Behind.{IsPartIn, AreBehindTo, AreBehindEach}
 
 -- a part of a system is one that its function has
 pub part_there : (q : Request) (s : System) (r : FunctionPart) → Contains (system_parts q s) r → has_part r.function r.part ≡ true
@@ -92,22 +98,30 @@ module _ (q : Request) (s : System) (c : WindowKind) (keeps : FunctionPart → B
       ∙ ap (λ b. b && are_same_space (window_space c) (part_space r) && keeps r)
       (sym (ap (λ b. bus == r.function.slot.bus || (b && is_root q.roots r.function.slot.bus)) no_root ∙ or_false (bus == r.function.slot.bus)))
 
-  -- what the table tells to keep its place on a bus is taken there
-  pub taken_is : map decoded_range_of (map region_range (filter (is_taken_on bus (window_space c) table) rs)) ≡ taken_on q s c keeps bus
+  -- what the table tells to keep its place on a bus is taken there, beside what lines hold
+  pub taken_is : lines_on q (window_space c) bus ++ map decoded_range_of (map region_range (filter (is_taken_on bus (window_space c) table) rs)) ≡ taken_on q s c keeps bus
   taken_is =
-      map_twice decoded_range_of region_range (filter (is_taken_on bus (window_space c) table) rs)
+      ap (λ xs. lines_on q (window_space c) bus ++ xs)
+      (map_twice decoded_range_of region_range (filter (is_taken_on bus (window_space c) table) rs)
       ∙ ap (map (λ (x : CodeRegion). decoded_range_of x.range)) (filter_same (is_taken_on bus (window_space c) table) by_value rs told)
-      ∙ kept_same (known s) (known_of q s) by_value by_region same_test (λ (x : CodeRegion). decoded_range_of x.range) addresses (λ x r e. ap (λ (k : Known). k.range) e) rs (system_parts q s) parts.same
+      ∙ kept_same (known s) (known_of q s) by_value by_region same_test (λ (x : CodeRegion). decoded_range_of x.range) addresses (λ x r e. ap (λ (k : Known). k.range) e) rs (system_parts q s) parts.same)
 
 -- ---- places
 
-have_same : (xs ys : List Range) → IsPermutation xs ys → HaveSame (map decoded_range_of xs) (map decoded_range_of ys)
+have_same : (xs ys : List decoded.Range) → IsPermutation xs ys → HaveSame xs ys
 have_same xs ys moved = record {
-  to = λ t listed. (let made : IsMade decoded_range_of xs t = in_map_to decoded_range_of xs t listed in
-      subst (Contains (map decoded_range_of ys)) made.is (in_map_from decoded_range_of ys made.from (Contains-permutation xs ys made.from moved made.has)));
-  back = λ t listed. (let made : IsMade decoded_range_of ys t = in_map_to decoded_range_of ys t listed in
-      subst (Contains (map decoded_range_of xs)) made.is (in_map_from decoded_range_of xs made.from (Contains-permutation ys xs made.from (IsPermutation-sym xs ys moved) made.has)));
+  to = λ t listed. Contains-permutation xs ys t moved listed;
+  back = λ t listed. Contains-permutation ys xs t (IsPermutation-sym xs ys moved) listed;
 }
+
+same_before : (xs ys rest : List decoded.Range) → IsPermutation xs ys → HaveSame (xs ++ rest) (ys ++ rest)
+same_before xs ys rest moved = have_same (xs ++ rest) (ys ++ rest) (IsPermutation-append_left rest xs ys moved)
+
+-- an item of a bus is a part that its function has
+part_in : (q : Request) (s : System) (c : WindowKind) (keeps : FunctionPart → Bool) (extent : Function → ExtentValue) (bus : ℕ) (i : ItemValue) → Contains (bus_items q s c keeps extent bus) i → has_part i.region.function i.region.part ≡ true
+part_in q s c keeps extent bus = each_on q s c keeps extent bus (λ i. has_part i.region.function i.region.part ≡ true)
+    (λ f on p is. header_has f p is.there is.plain)
+    (λ f on is. is.bridge)
 
 item_at : (items : List Item) (k : ℕ) → k < length items → (i : Item) × (get_or items k i ≡ i)
 item_at [] k less = absurd (let no : ⊥ = omega (arith, less) in no)
@@ -124,67 +138,84 @@ placed_where items places None false none within = cc
 placed_where items places (Some k) true none within = cc
 placed_where items places (Some k) false none within = lacking items k within
 
+-- what is wanted past the end
+no_wanted : Wanted
+no_wanted = record { extent = record { size = 0; alignment = 0; highest = 0 }; list = 0; at = None }
+
 -- each item is wanted in a list
 pub wanted_lawful : (items : List Item) → All HasExtent items → (wanted : List Wanted) → wanted ≡ map wanted_value items → (lists : ℕ) → lists ≡ 1 → All (HasListAt lists) wanted
 wanted_lawful items lawful wanted is lists one =
     subst (All (HasListAt lists)) (sym is) (All-map (HasListAt lists) wanted_value items (λ n d within. record { extent = lawful n d within; list = omega (arith, one); ends = tt }))
 
-module _ (l : Listing) (rs : List CodeRegion) (range : Range)
+module _ (l : Listing) (rs : List CodeRegion) (lines : List Line) (range : Range)
     (items : List Item) (turn : AreInTurn l items) (lawful : All HasExtent items) (wanted : List Wanted) (wanted_is : wanted ≡ map wanted_value items)
-    (taken : List Range) (moved : IsPermutation (map region_range (filter (is_taken_on l.bus (window_space l.class) l.kept) rs)) taken)
+    (taken : List Range) (taken_are : AreTakenOn rs lines l.bus (window_space l.class) l.kept taken)
+    (records : List Record) (has : HasRecords l.classing.system (map record_value records)) (behind : List (List Range)) (behind_are : AreBehindEach records lines l.class items behind)
     (lists : List (List Range)) (lists_are : lists ≡ (range ∷ []) ∷ []) (places : List ℕ) (lack : Option ℕ) (within : IfSome lack (λ k. k < length wanted))
-    (placing : (find : ItemValue → List decoded.Range → Option ℕ) (all : List ItemValue) → AreWanted lists find all wanted → place_each find (map decoded_range_of taken) all ≡ placing_of all places lack) where
+    (placing : (find : ItemValue → List decoded.Range → Option ℕ) (all : List ItemValue) → AreWanted lists behind find all wanted → place_each find (map decoded_range_of taken) all ≡ placing_of all places lack) where
   abbrev values : List ItemValue
   values = map (asked_item_value l.classing.system l.class) items
 
   long : length wanted ≡ length items
   long = ap length wanted_is ∙ length-map items wanted_value
 
-  module _ (q : Request) (keeps : FunctionPart → Bool) (b : Function) (is : IsRoomOf l rs range q keeps b) where
-    abbrev in_window : ItemValue → List decoded.Range
-    in_window i = addresses (window_part l.class b) ∷ []
+  module _ (q : Request) (keeps : FunctionPart → Bool) (b : Function) (is : IsRoomOf l rs lines range q keeps b) where
+    abbrev window : decoded.Range
+    window = addresses (window_part l.class b)
+
+    abbrev find : ItemValue → List decoded.Range → Option ℕ
+    find = place_off q window
 
     values_are : values ≡ bus_items q l.classing.system l.class keeps is.extent l.bus
     values_are = turn record { request = q; keeps = keeps; extent = is.extent } is.listed
 
-    abbrev first_in_window : ItemValue → List decoded.Range → Option ℕ
-    first_in_window i xs = first_place (in_window i) xs i.extent
+    are_parts : All (IsPartIn l.classing.system l.class) items
+    are_parts k d less =
+        let i = asked_item_value l.classing.system l.class (get_or items k d) in
+        part_in q l.classing.system l.class keeps is.extent l.bus i
+        (subst (λ xs. Contains xs i) values_are (in_map_from (asked_item_value l.classing.system l.class) items (get_or items k d) (Contains-get_or items k d less)))
 
-    are_wanted : AreWanted lists first_in_window values wanted
+    behind_to : AreBehindTo q l.classing.system l.class items (length items) behind
+    behind_to = behind_are q l.classing.system has is.told are_parts
+
+    are_wanted : AreWanted lists behind find values wanted
     are_wanted = record {
       count = length-map items (asked_item_value l.classing.system l.class) ∙ sym long;
       each = λ k i w less. each k i w (let size = long in omega (arith, less, size));
     }
       where
-        each : (k : ℕ) (i : ItemValue) (w : Wanted) → k < length items → IsWanted lists first_in_window (get_or values k i) (get_or wanted k w)
+        each : (k : ℕ) (i : ItemValue) (w : Wanted) → k < length items → IsWanted lists (get_or behind k []) find (get_or values k i) (get_or wanted k w)
         each k i w less =
             let item = item_at items k less in
-            let value : get_or values k i ≡ asked_item_value l.classing.system l.class item.0 = get_or-map (asked_item_value l.classing.system l.class) items k item.0 i less ∙ ap (asked_item_value l.classing.system l.class) item.1 in
+            let own = asked_item_value l.classing.system l.class item.0 in
+            let held = map decoded_range_of (get_or behind k []) in
+            let value : get_or values k i ≡ own = get_or-map (asked_item_value l.classing.system l.class) items k item.0 i less ∙ ap (asked_item_value l.classing.system l.class) item.1 in
             let want : get_or wanted k w ≡ wanted_value item.0 = ap (λ ws. get_or ws k w) wanted_is ∙ get_or-map wanted_value items k item.0 w less ∙ ap wanted_value item.1 in
-            subst (λ x. IsWanted lists first_in_window x (get_or wanted k w)) (sym value) (subst (IsWanted lists first_in_window (asked_item_value l.classing.system l.class item.0)) (sym want) record {
+            let off : IsPermutation (lines_behind q own.region) held = subst (λ x. IsPermutation (lines_behind q (asked_item_value l.classing.system l.class x).region) held) item.1 (behind_to k item.0 less) in
+            let pos : 0 < own.extent.alignment = subst (λ (x : Item). 0 < x.extent.alignment) item.1 (lawful k item.0 less).alignment in
+            subst (λ x. IsWanted lists (get_or behind k []) find x (get_or wanted k w)) (sym value) (subst (IsWanted lists (get_or behind k []) find own) (sym want) record {
               extent = refl;
               place = λ xs.
-                  ap (λ rs. first_place rs xs (asked_item_value l.classing.system l.class item.0).extent)
+                  same_first_place (window ∷ []) (lines_behind q own.region ++ xs) (held ++ xs) own.extent pos (same_before (lines_behind q own.region) held xs off)
+                  ∙ ap (λ rs. first_place rs (held ++ xs) own.extent)
                   (ap (λ r. r ∷ []) (sym is.range_is) ∙ sym (ap (λ ls. map decoded_range_of (get_or ls 0 [])) lists_are));
             })
 
-    aligned : (i : ItemValue) → Contains values i → 0 < i.extent.alignment
-    aligned i listed =
-        let made : IsMade (asked_item_value l.classing.system l.class) items i = in_map_to (asked_item_value l.classing.system l.class) items i listed in
-        let has = All-contains HasExtent items made.from lawful made.has in
-        subst (λ (x : ItemValue). 0 < x.extent.alignment) made.is has.alignment
+    lawful_wanted : All (HasListAt (length lists)) wanted
+    lawful_wanted = wanted_lawful items lawful wanted wanted_is (length lists) (ap length lists_are)
 
     pub room_is : (all : Bool) → is_some lack ≡ not all → all ≡ has_places q l.classing.system keeps b l.class
     room_is all none =
-        let found = map region_range (filter (is_taken_on l.bus (window_space l.class) l.kept) rs) in
+        let on = lines_on q (window_space l.class) l.bus ++ map decoded_range_of (map region_range (filter (is_taken_on l.bus (window_space l.class) l.kept) rs)) in
+        let now = map decoded_range_of taken in
+        let moved : IsPermutation on now = taken_are q is.told is.no_root in
         sym (placed_where values places lack all none (within_values lack within))
-        ∙ ap are_placed (sym (placing first_in_window values are_wanted))
-        ∙ ap are_placed (each_all in_window (map decoded_range_of taken) values)
-        ∙ ap are_placed (sym (same_places in_window values (map decoded_range_of found) (map decoded_range_of taken) aligned (have_same found taken moved)))
-        ∙ ap (λ xs. are_placed (place_all in_window xs values)) (taken_is q l.classing.system l.class keeps rs l.kept is.parts is.listed.keeps_is l.bus is.no_root)
-        ∙ ap (λ xs. are_placed (place_all in_window (taken_on q l.classing.system l.class keeps l.bus) xs)) values_are
+        ∙ ap are_placed (sym (placing find values are_wanted))
+        ∙ ap are_placed (sym (each_same_taken find values on now (wanted_same lists behind find values wanted (length lists) are_wanted lawful_wanted no_wanted) (have_same on now moved)))
+        ∙ ap (λ xs. are_placed (place_each find xs values)) (taken_is q l.classing.system l.class keeps rs l.kept is.parts is.listed.keeps_is l.bus is.no_root)
+        ∙ ap (λ xs. are_placed (place_each find (taken_on q l.classing.system l.class keeps l.bus) xs)) values_are
         ∙ is.same (taken_on q l.classing.system l.class keeps l.bus)
-        ∙ ap (λ n. are_placed (place_all in_window (taken_on q l.classing.system l.class keeps n) (bus_items q l.classing.system l.class keeps (new_window q l.classing.system l.class) n))) (sym is.bus_is)
+        ∙ ap (λ n. are_placed (place_each find (taken_on q l.classing.system l.class keeps n) (bus_items q l.classing.system l.class keeps (new_window q l.classing.system l.class) n))) (sym is.bus_is)
       where
         within_values : (o : Option ℕ) → IfSome o (λ k. k < length wanted) → IfSome o (λ k. k < length values)
         within_values None none = tt

@@ -5,14 +5,20 @@ use Rattle.std.specs.List.Sorted.{IsPermutation}
 use Rattle.std.proofs.lemmas.Bool.{cases_lt, ne_eqb, eq-eqb}
 use Rattle.std.proofs.lemmas.List.{take_more, take_all, take-append-drop, map-append, append-nil}
 use Rattle.std.proofs.lemmas.List.Elements.{filter-append, All-contains, Contains-get_or, Contains-append_left}
-use Rattle.std.proofs.lemmas.List.Sorted.{IsPermutation-sym, Contains-permutation}
+use Rattle.std.proofs.lemmas.List.Sorted.{IsPermutation-trans, IsPermutation-map, IsPermutation-append_comm, IsPermutation-append_right, All-permutation}
 use Rattle.pci_spec.proofs.Members.{in_map_to, IsMade, in_filter_to}
 use Rattle.pci_spec.specs.System.{Space}
+use Rattle.settle_spec.specs.Lists.{Request}
+use Rattle.settle_spec.specs.Lines.{lines_on}
 use Rattle.pci_base.specs.declared.range.Range.{Range}
+use Rattle.pci_base.specs.Ranges.{decoded_range_of}
 use Rattle.pci_settle.specs.declared.kept.Kept.{Kept}
+use Rattle.pci_settle.specs.declared.lines.Line.{Line}
+use Rattle.pci_settle.specs.Lines.{level_of, AreForwardRanges, AreLines, AreAdded}
+use Rattle.pci_settle.specs.Spots.{FirstsRise, AreRisingRanges}
 use Rattle.pci_stand.specs.declared.region.Region.{Region}
 use Rattle.pci_stand.specs.Passing.{CanBeNoted}
-use Rattle.pci_stay.specs.Rooms.{region_range, is_taken, is_taken_on}
+use Rattle.pci_stay.specs.Rooms.{region_range, is_taken, is_taken_on, AreTakenOn}
 
 module _ {X : Type 0} (test : X → Bool) where
   next_off : (xs : List X) (d : X) (n : ℕ) → n < length xs → test (get_or xs n d) ≡ false → filter test (take (n + 1) xs) ≡ filter test (take n xs)
@@ -96,12 +102,32 @@ begins_before (r ∷ rs) bus next i j e bound below from = elim (cases_lt j i) [
 in_take : (n : ℕ) (rs : List Region) (r : Region) → Contains (take n rs) r → Contains rs r
 in_take n rs r listed = subst (λ xs. Contains xs r) (take-append-drop n rs) (Contains-append_left (take n rs) (drop n rs) r listed)
 
--- what is taken are ranges of parts, none of them backward
-pub row_forward : (rs : List Region) (bus : ℕ) (space : Space) (table : List Kept) (functions : ℕ) → All (CanBeNoted functions) rs → (n : ℕ) (taken : List Range) → IsPermutation (taken_to rs bus space table n) taken
-    → (k : ℕ) (d : Range) → k < length taken → (get_or taken k d).first ≤ (get_or taken k d).last
-row_forward rs bus space table functions ready n taken moved k d low =
+-- these are ranges of parts, none of them backward
+pub row_forward : (rs : List Region) (bus : ℕ) (space : Space) (table : List Kept) (functions : ℕ) → All (CanBeNoted functions) rs → (n : ℕ) (taken : List Range) → taken ≡ taken_to rs bus space table n → AreForwardRanges taken
+row_forward rs bus space table functions ready n taken are k d low =
     let x = get_or taken k d in
-    let there = Contains-permutation taken (taken_to rs bus space table n) x (IsPermutation-sym (taken_to rs bus space table n) taken moved) (Contains-get_or taken k d low) in
+    let there = subst (λ xs. Contains xs x) are (Contains-get_or taken k d low) in
     let made : IsMade region_range (filter (on rs bus space table) (take n rs)) x = in_map_to region_range (filter (on rs bus space table) (take n rs)) x there in
     let has = in_take n rs made.from (in_filter_to (on rs bus space table) (take n rs) made.from made.has).0 in
     subst (λ (y : Range). y.first ≤ y.last) made.is (All-contains (CanBeNoted functions) rs made.from ready has).forward
+
+-- ---- with what lines hold there
+
+pub taken_with : (rs : List Region) (lines : List Line) (bus n : ℕ) → n ≡ bus + 1 → (space : Space) (table : List Kept) (parts added taken : List Range) → parts ≡ map region_range (filter (is_taken_on bus space table) rs)
+    → ((q : Request) (b : ℕ) → AreLines q.roots q.told.ranges lines → n ≡ level_of q.roots b → AreAdded parts added (lines_on q space b)) → IsPermutation added taken → AreTakenOn rs lines bus space table taken
+taken_with rs lines bus n next space table parts added taken parts_are more sorted q are no_root =
+    let put = more q bus are (next ∙ sym (ap (λ b. cond b 0 (bus + 1)) no_root)) in
+    let held = lines_on q space bus in
+    let own = map decoded_range_of parts in
+    let both : map decoded_range_of added ≡ own ++ map decoded_range_of put.added = ap (map decoded_range_of) put.put ∙ map-append decoded_range_of parts put.added in
+    subst (λ xs. IsPermutation (held ++ map decoded_range_of xs) (map decoded_range_of taken)) parts_are
+    (IsPermutation-trans (held ++ own) (map decoded_range_of added) (map decoded_range_of taken)
+    (IsPermutation-trans (held ++ own) (own ++ held) (map decoded_range_of added) (IsPermutation-append_comm held own)
+    (subst (IsPermutation (own ++ held)) (sym both) (IsPermutation-append_right own held (map decoded_range_of put.added) put.same)))
+    (IsPermutation-map decoded_range_of added taken sorted))
+
+pub rising_sorted : (added taken : List Range) → AreForwardRanges added → IsPermutation added taken → FirstsRise taken → AreRisingRanges taken
+rising_sorted added taken forward sorted order = record {
+  order = order;
+  forward = All-permutation (λ (r : Range). r.first ≤ r.last) added taken sorted forward;
+}

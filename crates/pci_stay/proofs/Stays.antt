@@ -1,5 +1,5 @@
 -- What a table tells of what stays, part by part as slots rise.
-use Rattle.std.proofs.Common.{◌≡◌, ◌≢◌, ℕ, ◌+◌, ◌<◌, ◌≤◌, inl, inr, ◌⊎◌, List, [], ◌∷◌, map, length, set, get_or, Bool, true, false, cond, ◌&&◌, not, arith, refl, sym, ◌∙◌, ap, subst, Some}
+use Rattle.std.proofs.Common.{◌≡◌, ◌≢◌, ℕ, ◌+◌, ◌<◌, ◌≤◌, inl, inr, ◌⊎◌, List, [], ◌∷◌, map, length, set, get_or, Bool, true, false, cond, ◌&&◌, ◌||◌, not, arith, refl, sym, ◌∙◌, ap, subst, Some}
 use Rattle.std.specs.List.{Contains, list_all, range_with_len, slice_get}
 use Rattle.std.specs.List.Sorted.{IsNonDecreasingBy}
 use Rattle.std.proofs.lemmas.Bool.{cases_Bool, cases_eq, cases_lt, and_parts, both_ways, false_from_ne_true, ltb-true}
@@ -19,7 +19,7 @@ use Rattle.plan_spec.proofs.Planning.AboveBuses.{all_above_root}
 use Rattle.plan_spec.proofs.Planning.Safe.{slots_of, order_of}
 use Rattle.settle_spec.specs.Lists.{Request}
 use Rattle.settle_spec.specs.Parts.{FunctionPart, system_parts, function_parts, parts_of, is_part, header_bars, header_parts, addresses, lies_within, class_in, bridge_over}
-use Rattle.settle_spec.specs.Stands.{rank, window_part, part_space, is_in_lists, is_in_window, is_in_place, takes_from, stands}
+use Rattle.settle_spec.specs.Stands.{rank, window_part, part_space, is_in_lists, is_in_window, is_kept_off, leads_to_told, is_in_place, takes_from, stands}
 use Rattle.settle_spec.specs.Items.{has_room, has_room_behind}
 use Rattle.settle_spec.proofs.BridgeOver.{over_is}
 use Rattle.stand_laws.proofs.Standing.{part_of, stands_by_itself}
@@ -179,8 +179,9 @@ module _ (q : Request) (s : System) (system : IsSystem s) (nested : IsNested q.r
       stands_there : stands q s v ≡ true → is_in_place q s (stands q s) v ≡ true
       stands_there is =
           let all = sym ((stands_by_itself q s nested).each v (known_of_code x in_rs).listed) ∙ is in
-          let front = (and_parts (not q.anew && is_part q s v.function v.part && is_in_place q s (stands q s) v) (list_all (λ t. not (takes_from q t v && stands q s t)) (system_parts q s)) all).0 in
-          (and_parts (not q.anew && is_part q s v.function v.part) (is_in_place q s (stands q s) v) front).1
+          let before = not (is_kept_off q s v) && (leads_to_told q s v || not q.anew) && is_part q s v.function v.part in
+          let front = (and_parts (before && is_in_place q s (stands q s) v) (list_all (λ t. not (takes_from q s t v && stands q s t)) (system_parts q s)) all).0 in
+          (and_parts before (is_in_place q s (stands q s) v) front).1
 
       -- the window over a part that holds comes before it, and is told of
       module _ (b : Function) (leads : LeadsTo s b bus) (c : WindowKind) (is : stands q s (window_part c b) ≡ true) where

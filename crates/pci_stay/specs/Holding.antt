@@ -15,8 +15,10 @@ use Rattle.pci_base.specs.declared.window_kind.ByKind.{ByKind}
 use Rattle.pci_base.specs.WindowKinds.{kind_value, by_kind}
 use Rattle.pci_settle.specs.declared.extent.Extent.{Extent}
 use Rattle.pci_settle.specs.declared.kept.Kept.{Kept}
+use Rattle.pci_settle.specs.declared.lines.Line.{Line}
 use Rattle.pci_settle.specs.Kept.{kept_of, nothing_kept}
 use Rattle.pci_settle.specs.Buses.{Classing, TellsClasses}
+use Rattle.pci_settle.specs.Lines.{AreLines}
 use Rattle.pci_settle.specs.NewWindows.{HasNewWindows, HasMarkedWindows}
 use Rattle.pci_stand.specs.declared.region.Region.{Region as CodeRegion}
 use Rattle.pci_stand.specs.Boards.{AreOpen}
@@ -38,13 +40,14 @@ HasNewWhereStands q p class windows =
     → IsTrue (stands q p.system (window_part (kind_value class) f))
     → HasNewBeside q p (kind_value class) windows f
 
--- what is asked for of a lawful system, with the parts, the open windows and the new ones
+-- what is asked for of a lawful system, with the parts, the told ranges, the open windows and the new ones
 pub record IsAsking (p : Classing) (windows : ByKind (List (Option Extent))) (regions : List CodeRegion)
-    (q : Request) : Type 0 where
+    (lines : List Line) (q : Request) : Type 0 where
   pub system : IsSystem p.system
   pub nested : IsNested q.roots p.system
   pub left : TellsClasses p q
   pub parts : AreParts q p.system regions
+  pub told : AreLines q.roots q.told.ranges lines
   pub new : (class : CodeKind) → HasNewWhereStands q p class (by_kind windows class)
 
 -- a request leaves the open windows over each bus, and these are the new ones of each class of which a window stands

@@ -1,4 +1,5 @@
 pub mod Windows
 pub mod Rooms
+pub mod Behind
 pub mod Holding
 pub mod Staying

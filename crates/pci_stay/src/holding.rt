@@ -7,17 +7,20 @@ ghost use Rattle.settle_spec.specs.Lists.{Request};
 ghost use Rattle.pci_base.specs.WindowKinds.{kind_value};
 ghost use Rattle.pci_place.specs.Above.{AreAboves, system_in};
 ghost use Rattle.pci_settle.specs.Buses.{classing_value};
+ghost use Rattle.pci_settle.specs.Lines.{AreLineRows};
 ghost use Rattle.pci_stand.specs.Passing.{CanBeNoted, AreStanding};
 ghost use Rattle.pci_stay.specs.Windows.{AreAllLawful};
 ghost use Rattle.pci_stay.specs.Rooms.{region_bus};
 ghost use Rattle.pci_stay.specs.Holding.{IsAsking, IsHeldFrom, IsWindowHolding, AreHolding};
 
 use crate::room::has_places;
+use crate::taken::Takers;
 use pci_base::memory::OutOfMemory;
 use pci_base::slot::BUSES;
 use pci_base::window_kind::{ByKind, WindowKind};
 use pci_settle::extent::Extent;
 use pci_settle::kept::Kept;
+use pci_settle::lines::Line;
 use pci_settle::listing::{Classing, Listing};
 use pci_settle::over::open_range;
 use pci_stand::region::Region;
@@ -25,13 +28,15 @@ use std::alloc::Allocator;
 
 /// What is behind windows.
 #[derive(Drop)]
-pub struct Behind<'a, 's, 'b, B: Allocator> {
+pub struct Behind<'a, 's, 'b, 'r, 'l, B: Allocator> {
     /// What the classes of BARs are told by.
     pub classing: &'b Classing<'a, 's, B>,
     /// The new windows over each bus, by class.
     pub windows: &'b ByKind<[Option<Extent>; BUSES]>,
     /// The parts of all functions, by rising slots.
-    pub regions: &'b [Region],
+    pub regions: &'r [Region],
+    /// All told ranges, by rising levels of their buses.
+    pub lines: &'l [Line],
 }
 
 /// Whether a window of a function stands, and has a place for each item behind it that doesn't keep its place.
@@ -46,12 +51,13 @@ fn window_holds<A: Allocator + Copy, B: Allocator>(
         behind.now.classing.now.aboves.now }
     requires lawful { AreAllLawful behind.now.windows.now }
     requires order { IsNonDecreasingBy region_bus behind.now.regions.now }
+    requires lines { AreLineRows behind.now.lines.now }
     requires ready { All (CanBeNoted (length table.now)) behind.now.regions.now }
     requires function { function < length table.now }
     requires count { length table.now ≡ length (system_in behind.now.classing.now.admitted.now) }
     ensures { IfOk result (λ holds. (q : Request) → (f : Function)
         → IsAsking (classing_value behind.now.classing.now) behind.now.windows.now
-        behind.now.regions.now q
+        behind.now.regions.now behind.now.lines.now q
         → slice_get (system_in behind.now.classing.now.admitted.now) function ≡ Some f
         → IsHeldFrom q (system_in behind.now.classing.now.admitted.now) table.now (function + 1)
         → IsWindowHolding q (system_in behind.now.classing.now.admitted.now) table.now f
@@ -73,7 +79,11 @@ fn window_holds<A: Allocator + Copy, B: Allocator>(
         windows: behind.windows.get(class),
         kept: table,
     };
-    let room = has_places(alloc, &listing, bridge.secondary, range, behind.regions)?;
+    let takers = Takers {
+        regions: behind.regions,
+        lines: behind.lines,
+    };
+    let room = has_places(alloc, &listing, bridge.secondary, range, &takers)?;
     Ok(room)
 }
 
@@ -88,12 +98,13 @@ fn hold_bridge<A: Allocator + Copy, B: Allocator>(
         behind.now.classing.now.aboves.now }
     requires lawful { AreAllLawful behind.now.windows.now }
     requires order { IsNonDecreasingBy region_bus behind.now.regions.now }
+    requires lines { AreLineRows behind.now.lines.now }
     requires ready { All (CanBeNoted (length table.old)) behind.now.regions.now }
     requires function { function < length table.old }
     requires count { length table.old ≡ length (system_in behind.now.classing.now.admitted.now) }
     ensures { OnOk result ((q : Request) → (f : Function)
         → IsAsking (classing_value behind.now.classing.now) behind.now.windows.now
-        behind.now.regions.now q
+        behind.now.regions.now behind.now.lines.now q
         → slice_get (system_in behind.now.classing.now.admitted.now) function ≡ Some f
         → IsHeldFrom q (system_in behind.now.classing.now.admitted.now) table.old (function + 1)
         → IsHeldFrom q (system_in behind.now.classing.now.admitted.now) table.new function) }
@@ -123,13 +134,15 @@ pub fn hold_all<A: Allocator + Copy, B: Allocator>(
     requires lawful { AreAllLawful behind.now.windows.now }
     // the parts of a bus stand in a row, whose ends are found by halving
     requires order { IsNonDecreasingBy region_bus behind.now.regions.now }
+    // so do the told ranges of a bus
+    requires lines { AreLineRows behind.now.lines.now }
     // each part names a function that the table has
     requires ready { All (CanBeNoted (length table.old)) behind.now.regions.now }
     // a function's entry stands where its record does
     requires count { length table.old ≡ length (system_in behind.now.classing.now.admitted.now) }
     ensures { OnOk result ((q : Request)
         → IsAsking (classing_value behind.now.classing.now) behind.now.windows.now
-        behind.now.regions.now q
+        behind.now.regions.now behind.now.lines.now q
         → AreStanding q (system_in behind.now.classing.now.admitted.now) table.old
         → AreHolding q (system_in behind.now.classing.now.admitted.now) table.new) }
 {

@@ -4,6 +4,7 @@
 //! In the comments "Bridge 1.2" is the PCI-to-PCI Bridge Architecture Specification 1.2.
 #![tactic(auto)]
 
+pub mod behind;
 pub mod holding;
 pub mod room;
 pub mod staying;

@@ -2,38 +2,27 @@
 ghost use Rattle.std.specs.Prelude.{◌≡◌, Bool, IfOk, length, map};
 ghost use Rattle.std.specs.List.{All};
 ghost use Rattle.std.specs.List.Sorted.{IsNonDecreasingBy};
-ghost use Rattle.pci_spec.specs.System.{Function, window_space};
+ghost use Rattle.pci_spec.specs.System.{Function};
 ghost use Rattle.settle_spec.specs.Lists.{Request};
 ghost use Rattle.settle_spec.specs.Parts.{FunctionPart as RegionValue};
 ghost use Rattle.settle_spec.specs.Items.{has_places};
-ghost use Rattle.pci_base.specs.Space.{space_of};
 ghost use Rattle.pci_base.specs.WindowKinds.{kind_value};
 ghost use Rattle.pci_place.specs.Above.{AreAboves, system_in};
 ghost use Rattle.pci_settle.specs.Buses.{AreWindows, listing_value};
+ghost use Rattle.pci_settle.specs.Lines.{AreLineRows};
 ghost use Rattle.pci_stand.specs.Passing.{CanBeNoted};
 ghost use Rattle.pci_stay.specs.Rooms.{region_bus, wanted_value, IsRoomOf};
 
-use crate::taken::taken_on;
+use crate::behind::behind_each;
+use crate::taken::{Takers, taken_on};
 use pci_base::memory::OutOfMemory;
 use pci_base::range::Range;
 use pci_base::space::Space;
-use pci_base::window_kind::WindowKind;
 use pci_settle::bus::items_in_turn;
 use pci_settle::item::Item;
 use pci_settle::listing::Listing;
-use pci_settle::placing::{Wanted, place_all};
-use pci_stand::region::Region;
+use pci_settle::placing::{Search, Wanted, place_all};
 use std::alloc::Allocator;
-
-/// The space of a class.
-fn space_of(class: WindowKind) -> Space
-    ensures { space_of result ≡ window_space (kind_value class) }
-{
-    match class {
-        WindowKind::Io => Space::Io,
-        WindowKind::Memory | WindowKind::Prefetchable => Space::Mem,
-    }
-}
 
 /// What is wanted for each item: its extent in the one list.
 fn wanted_of<A: Allocator>(alloc: A, items: &[Item]) -> Result<Vec<Wanted, A>, OutOfMemory>
@@ -50,13 +39,14 @@ fn wanted_of<A: Allocator>(alloc: A, items: &[Item]) -> Result<Vec<Wanted, A>, O
     Ok(wanted)
 }
 
-/// Whether a window has a place for each item on the bus behind it that doesn't keep its place, off those that do.
+/// Whether a window has a place for each item on the bus behind it that doesn't keep its place: off those that do, and off
+/// told ranges, also off those behind a new window.
 pub fn has_places<A: Allocator + Copy, B: Allocator>(
     alloc: A,
     listing: &Listing<B>,
     bus: u8,
     range: Range,
-    regions: &[Region],
+    takers: &Takers,
 ) -> Result<bool, OutOfMemory>
     // which windows lead to a BAR decides its class
     requires above { AreAboves (system_in listing.now.classing.now.admitted.now)
@@ -64,26 +54,41 @@ pub fn has_places<A: Allocator + Copy, B: Allocator>(
     // places are looked for by sizes and alignments
     requires lawful { AreWindows listing.now.windows.now }
     // the parts of a bus stand in a row, whose ends are found by halving
-    requires order { IsNonDecreasingBy region_bus regions.now }
+    requires order { IsNonDecreasingBy region_bus takers.now.regions.now }
+    // so do the told ranges of a bus
+    requires lines { AreLineRows takers.now.lines.now }
     // each part names a function that the table has
-    requires ready { All (CanBeNoted (length listing.now.kept.now)) regions.now }
+    requires ready { All (CanBeNoted (length listing.now.kept.now)) takers.now.regions.now }
     ensures { IfOk result (λ room. (q : Request) → (keeps : RegionValue → Bool) → (b : Function)
-        → IsRoomOf (listing_value listing.now bus) regions.now range q keeps b
+        → IsRoomOf (listing_value listing.now bus) takers.now.regions.now takers.now.lines.now range
+        q keeps b
         → room ≡ has_places q (system_in listing.now.classing.now.admitted.now) keeps b
         (kind_value listing.now.class)) }
 {
     let items = items_in_turn(alloc, listing, bus)?;
     let wanted = wanted_of(alloc, items.as_slice())?;
     let mut places = vec![in alloc; 0; wanted.len()]?;
-    let space = space_of(listing.class);
-    let mut taken = taken_on(alloc, regions, bus, space, listing.kept)?;
+    let space = Space::of(listing.class);
+    let mut taken = taken_on(alloc, takers, bus, space, listing.kept)?;
+    let records = listing.classing.admitted.outline().records();
+    let behind = behind_each(
+        alloc,
+        records,
+        takers.lines,
+        listing.class,
+        items.as_slice(),
+    )?;
     let mut window = Vec::new(alloc);
     window.push(range)?;
     let mut lists = Vec::new(alloc);
     lists.push(window)?;
+    let search = Search {
+        lists: lists.as_slice(),
+        behind: behind.as_slice(),
+    };
     let lack = place_all(
         alloc,
-        lists.as_slice(),
+        &search,
         &mut taken,
         wanted.as_slice(),
         places.as_mut_slice(),

@@ -25,6 +25,7 @@ use pci_function::record::Record;
 use pci_place::above::aboves;
 use pci_settle::extent::Extent;
 use pci_settle::kept::Kept;
+use pci_settle::lines::lines;
 use pci_settle::list::Lists;
 use pci_settle::listing::Classing;
 use pci_settle::own::Terms;
@@ -99,14 +100,18 @@ fn stay_by<'b, A: Allocator + Copy, B: Allocator>(
 {
     let admitted = classing.admitted;
     let records = admitted.outline().records();
+    let roots = admitted.outline().roots();
+    let lines = lines(alloc, lists.told, &roots)?;
     let regions = regions(alloc, admitted, lists, fixed)?;
     let mut table = standing(alloc, admitted, lists, fixed)?;
     let regions = regions.as_slice();
+    let lines = lines.as_slice();
     let entries = table.as_mut_slice();
     let behind = Behind {
         classing,
         windows,
         regions,
+        lines,
     };
     hold_all(alloc, &behind, entries)?;
     let board = Board {

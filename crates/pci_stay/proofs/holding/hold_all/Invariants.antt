@@ -9,6 +9,6 @@ use Rattle.pci_stay.proofs.holding.hold_all.Given as goal
 abbrev pub invariant-loop-done : goal.invariant-loop-done
 invariant-loop-done g l = record {
   size : length l.table ≡ length l.fn.table;
-  held : (q : Request) → IsAsking (classing_value l.behind.classing.now) l.behind.windows.now l.behind.regions.now q
+  held : (q : Request) → IsAsking (classing_value l.behind.classing.now) l.behind.windows.now l.behind.regions.now l.behind.lines.now q
       → AreStanding q (system_in l.behind.classing.now.admitted.now) l.fn.table → IsHeldFrom q (system_in l.behind.classing.now.admitted.now) l.table (length (system_in l.behind.classing.now.admitted.now) - l.done);
 }

@@ -73,6 +73,7 @@ returns g c = λ q f asking at held.
         behind = subst (AreBehind q s class room.extent b.secondary) (sym c.get.ensures) room.behind;
       };
       parts = asking.parts;
+      told = asking.told;
       bus_is = to;
       no_root = false_from_ne_true (is_root q.roots b.secondary)
           (λ root. is_no_root q.roots s asking.system asking.nested f b.secondary is.listed bridge (at_secondary q.roots s asking.system asking.nested f b.secondary is.listed bridge to) root);

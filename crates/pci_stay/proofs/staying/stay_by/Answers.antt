@@ -5,6 +5,7 @@ use Rattle.std.proofs.lemmas.List.Sorted.{IsPermutation-refl}
 use Rattle.pci_place.specs.Above.{system_in}
 use Rattle.pci_place.proofs.Records.{lent, same_count}
 use Rattle.pci_settle.specs.Slots.{demand_value}
+use Rattle.pci_settle.specs.Lines.{AreLines}
 use Rattle.settle_spec.specs.Items.{has_room_behind}
 use Rattle.pci_stand.specs.Known.{asked, AreParts}
 use Rattle.pci_stand.specs.Passing.{CanBeNoted, AreStanding}
@@ -47,12 +48,15 @@ returns g c = λ knowing.
     let q = asked c.args.classing.now.admitted.now.roots (demand_value c.args.lists.now) c.args.fixed.now in
     let admitted = c.outline.ensures.admitted in
     let parts : AreParts q s c.as_slice-regions.result.now = subst (AreParts q s) (sym c.as_slice-regions.ensures.value) c.in_ok-regions.ensures in
+    let told : AreLines q.roots q.told.ranges c.as_slice-lines.result.now =
+    subst (AreLines q.roots q.told.ranges) (sym c.as_slice-lines.ensures.value) (subst (λ rs. AreLines rs q.told.ranges c.in_ok-lines.lines.items) (c.roots-roots.ensures ∙ c.outline-2.ensures.roots) c.in_ok-lines.ensures.lines) in
     let stand : AreStanding q s c.as_mut_slice-entries.result.now = subst (AreStanding q s) (sym c.as_mut_slice-entries.ensures.value) c.in_ok-table.ensures in
     let holding = c.in_ok-hold_all.ensures q record {
       system = admitted.system;
       nested = admitted.nested;
       left = knowing.left;
       parts = parts;
+      told = told;
       new = knowing.new;
     } stand in
     let long = c.in_ok-table.table.ok.0 in
