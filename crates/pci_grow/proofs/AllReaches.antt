@@ -8,7 +8,8 @@ use Rattle.pci_spec.specs.Decoded.{HasRecords}
 use Rattle.pci_spec.specs.Decoded as decoded
 use Rattle.pci_spec.specs.System.{System, Function}
 use Rattle.pci_spec.specs.Sound.{IsInProfile}
-use Rattle.settle_spec.specs.Lists.{Lists, Request}
+use Rattle.given_spec.specs.Told.{ToldRange}
+use Rattle.settle_spec.specs.Lists.{Request}
 use Rattle.settle_spec.specs.Stands.{window_part, stands}
 use Rattle.settle_laws.proofs.LowWindows.{windows_low}
 use Rattle.pci_base.specs.declared.range.Range.{Range}
@@ -23,27 +24,32 @@ use Rattle.pci_place.specs.Items.{no_function, function_in}
 use Rattle.pci_place.proofs.Records.{lent}
 use Rattle.pci_settle.specs.declared.kept.Kept.{Kept}
 use Rattle.pci_settle.specs.declared.kept.Part.{Part as CodePart}
+use Rattle.pci_settle.specs.declared.lines.Line.{Line}
+use Rattle.pci_settle.specs.Lines.{AreLineRows, AreLines}
 use Rattle.pci_settle.specs.Slots.{Demand}
 use Rattle.pci_settle.specs.Kept.{spec_part}
 use Rattle.pci_stand.specs.declared.region.Region.{Region}
 use Rattle.pci_stand.specs.Boards.{IsBoard}
 use Rattle.pci_stand.specs.Known.{asked, region_value, AreParts}
 use Rattle.pci_stand.specs.Passing.{AreStanding}
-use Rattle.pci_grow.specs.Reaches.{StandsInRows, TellsSameOutside}
+use Rattle.pci_grow.specs.Reaches.{Given, StandsInRows, TellsSameOutside}
 use Rattle.pci_grow.specs.Rows.{AreRows}
 use Rattle.pci_settle.specs.Tables.{told, AreUntold}
 use Rattle.pci_grow.proofs.StandingRows.{row_at}
 use Rattle.pci_grow.proofs.Untold.{at_untold, untold_is}
 
-pub stand_in_rows : (q : Request) (s : System) (records : List Record) (lists : Lists) → IsBoard q s records lists → IsInProfile q.roots s
-    → (regions : List Region) → AreParts q s regions → (kept : List Kept) → AreStanding q s kept → (rows : List Region) → AreRows regions kept rows → StandsInRows q s records lists rows
-stand_in_rows q s records lists board profile regions parts kept stand rows sorted = record {
+pub stand_in_rows : (q : Request) (s : System) (records : List Record) (given : Given) → IsBoard q s records given.lists → q.told.ranges ≡ given.told → AreLineRows given.lines → AreLines q.roots given.told given.lines → IsInProfile q.roots s
+    → (regions : List Region) → AreParts q s regions → (kept : List Kept) → AreStanding q s kept → (rows : List Region) → AreRows regions kept rows → StandsInRows q s records given rows
+stand_in_rows q s records given board told line_rows lines profile regions parts kept stand rows sorted = record {
   board = board;
+  told_is = told;
+  line_rows = line_rows;
+  lines = lines;
   low = windows_low q s board.system board.nested profile;
   has = record { regions = regions; standing = kept; parts = parts; stand = stand; sorted = sorted };
 }
 
-module _ (q : Request) (s : System) (records : List Record) (lists : Lists) (rows : List Region) (is : StandsInRows q s records lists rows) where
+module _ (q : Request) (s : System) (records : List Record) (given : Given) (rows : List Region) (is : StandsInRows q s records given rows) where
   pub only_standing : (old new : List (ByKind (Option Range))) → AreUntold old → TellsSameOutside rows (length rows) old new
       → (k : ℕ) (f : Function) (class : CodeKind) → slice_get s k ≡ Some f → stands q s (window_part (kind_value class) f) ≡ false → told new k class ≡ None
   only_standing old new none same k f class at off =
@@ -59,11 +65,15 @@ module _ (q : Request) (s : System) (records : List Record) (lists : Lists) (row
       ∙ untold_is class
 
 -- so it is of what is asked for of an admitted system
-pub rows_of : (a : Admission) (d : Demand) (fixed : List Slot) → IsAdmitted a → (records : List Record) {values : List decoded.Record} → map record_value records ≡ values → HasRecords (system_in a) values
-    → (regions : List Region) → AreParts (asked a.roots d fixed) (system_in a) regions → (kept : List Kept) → AreStanding (asked a.roots d fixed) (system_in a) kept
-    → (rows : List Region) → AreRows regions kept rows → (slice : List Region) → slice ≡ rows → StandsInRows (asked a.roots d fixed) (system_in a) records d.lists slice
-rows_of a d fixed admitted records same has regions parts kept stand rows sorted slice slice_is =
-    subst (StandsInRows (asked a.roots d fixed) (system_in a) records d.lists) (sym slice_is)
-    (stand_in_rows (asked a.roots d fixed) (system_in a) records d.lists
-    record { has = lent (system_in a) records same has; system = admitted.system; nested = admitted.nested; same = refl; stands = refl }
-    admitted.profile regions parts kept stand rows sorted)
+module _ (a : Admission) (d : Demand) (fixed : List Slot) (admitted : IsAdmitted a) (told : List ToldRange) (told_is : d.told.ranges ≡ told) (lines : List Line) (line_rows : AreLineRows lines) (are : AreLines a.roots told lines) where
+  abbrev given : Given
+  given = record { lists = d.lists; told = told; lines = lines }
+
+  pub rows_of : (records : List Record) {values : List decoded.Record} → map record_value records ≡ values → HasRecords (system_in a) values
+      → (regions : List Region) → AreParts (asked a.roots d fixed) (system_in a) regions → (kept : List Kept) → AreStanding (asked a.roots d fixed) (system_in a) kept
+      → (rows : List Region) → AreRows regions kept rows → (slice : List Region) → slice ≡ rows → StandsInRows (asked a.roots d fixed) (system_in a) records given slice
+  rows_of records same has regions parts kept stand rows sorted slice slice_is =
+      subst (StandsInRows (asked a.roots d fixed) (system_in a) records given) (sym slice_is)
+      (stand_in_rows (asked a.roots d fixed) (system_in a) records given
+      record { has = lent (system_in a) records same has; system = admitted.system; nested = admitted.nested; same = refl; stands = refl }
+      told_is line_rows are admitted.profile regions parts kept stand rows sorted)

@@ -9,7 +9,7 @@ use Rattle.pci_spec.specs.Window.{WindowKind}
 use Rattle.pci_spec.specs.System.{System, Function, Space, Io, Memory, Window}
 use Rattle.pci_spec.specs.Bus.{is_root, LeadsTo}
 use Rattle.plan_spec.proofs.Planning.Safe.{order_of}
-use Rattle.settle_spec.specs.Lists.{Lists, Request}
+use Rattle.settle_spec.specs.Lists.{Request}
 use Rattle.settle_spec.specs.Parts.{FunctionPart}
 use Rattle.settle_spec.specs.Stands.{window_part}
 use Rattle.settle_spec.specs.Reach.{reach}
@@ -36,7 +36,7 @@ use Rattle.pci_stand.specs.Boards.{IsKnown}
 use Rattle.pci_stand.proofs.Indexes.{part_cases, index_at}
 use Rattle.pci_grow.specs.Rows.{row_number}
 use Rattle.pci_settle.specs.Tables.{told, TellsSame}
-use Rattle.pci_grow.specs.Reaches.{AreToldOver, StandsInRows, AreFirstReaches, TellsSameOutside, AreReaches}
+use Rattle.pci_grow.specs.Reaches.{AreToldOver, Given, StandsInRows, AreFirstReaches, TellsSameOutside, AreReaches}
 use Rattle.pci_grow.proofs.StandingRows.{no_region, IsInRows, in_rows, rows_rise}
 use Rattle.pci_grow.proofs.Reached.{row_is, standing}
 
@@ -93,7 +93,7 @@ module _ (rows : List Region) (start : Table) where
   more_outside index old new within same step k class off =
       step k class (λ d. off index d (omega arith) within) ∙ same k class (λ i d low. off i d (omega (arith, low)))
 
-module _ (q : Request) (s : System) (records : List Record) (lists : Lists) (rows : List Region) (is : StandsInRows q s records lists rows) where
+module _ (q : Request) (s : System) (records : List Record) (given : Given) (rows : List Region) (is : StandsInRows q s records given rows) where
   abbrev InRows : FunctionPart → Type 0
   InRows r = IsInRows q s is.board.system is.board.nested rows is.has r
 
@@ -104,7 +104,7 @@ module _ (q : Request) (s : System) (records : List Record) (lists : Lists) (row
   -- what is told of the first parts is told of a window among them
   told_at : (count : ℕ) (table : Table) → AreFirstReaches q s rows count table → (k : ℕ) (f : Function) (class : CodeKind) → slice_get s k ≡ Some f
       → (place : InRows (window_part (kind_value class) f)) → place.at < count → option_map decoded_range_of (told table k class) ≡ Some (reach q s (kind_value class) f)
-  told_at count table first k f class at place low = by (get_or rows place.at no_region) (place.is no_region) (row_is q s records lists rows is place.at no_region place.within).known (first place.at no_region class low place.within)
+  told_at count table first k f class at place low = by (get_or rows place.at no_region) (place.is no_region) (row_is q s records given rows is place.at no_region place.within).known (first place.at no_region class low place.within)
     where
       by : (x : Region) → region_value s x ≡ window_part (kind_value class) f → IsKnown q s x
           → (x.part ≡ parts.Window class → option_map decoded_range_of (told table x.function class) ≡ Some (reach q s (kind_value class) (function_in s x.function)))
@@ -142,7 +142,7 @@ module _ (q : Request) (s : System) (records : List Record) (lists : Lists) (row
       c = kind_value class
 
       known : IsKnown q s region
-      known = (row_is q s records lists rows is index d within).known
+      known = (row_is q s records given rows is index d within).known
 
       bus_same : region.bus ≡ own.slot.bus
       bus_same = ap (λ (k : Known). k.bus) known.all
@@ -176,7 +176,7 @@ module _ (q : Request) (s : System) (records : List Record) (lists : Lists) (row
               (is_no_root q.roots s is.board.system is.board.nested f own.slot.bus listed bridge (at_secondary q.roots s is.board.system is.board.nested f own.slot.bus listed bridge leads.2))
 
           over_stands : IsStandingWindow q s c f
-          over_stands = (above q s c is.board.nested is.board.system own f (standing q s records lists rows is index d within class part_is) off leads).stands
+          over_stands = (above q s c is.board.nested is.board.system own f (standing q s records given rows is index d within class part_is) off leads).stands
 
           place : InRows (window_part (kind_value other) f)
           place = place_of other f (subst (λ x. IsStandingWindow q s x f) (sym kind) over_stands)
@@ -187,7 +187,7 @@ module _ (q : Request) (s : System) (records : List Record) (lists : Lists) (row
             | inr more ↦
                 let x = get_or rows place.at d in
                 let up = rows_rise q s is.board.system is.board.nested rows is.has index place.at d more place.within in
-                let there : x.level ≡ level q f.slot.bus = ap (λ (k : Known). k.level) (row_is q s records lists rows is place.at d place.within).known.all ∙ ap (λ (r : FunctionPart). level q r.function.slot.bus) (place.is d) in
+                let there : x.level ≡ level q f.slot.bus = ap (λ (k : Known). k.level) (row_is q s records given rows is place.at d place.within).known.all ∙ ap (λ (r : FunctionPart). level q r.function.slot.bus) (place.is d) in
                 let below = lower f leads off in
                 let here = level_same in
                 let less = row_below x.level region.level (space_of x.space) (space_of region.space) (omega (arith, there, here, below)) in

@@ -14,8 +14,10 @@ use Rattle.pci_tree.specs.Admission.{Admission, IsAdmitted}
 use Rattle.pci_place.specs.Above.{system_in}
 use Rattle.pci_settle.specs.declared.extent.Extent.{Extent}
 use Rattle.pci_settle.specs.declared.kept.Kept.{Kept}
+use Rattle.pci_settle.specs.declared.lines.Line.{Line}
 use Rattle.pci_settle.specs.declared.over.OpenWindows.{OpenWindows}
 use Rattle.pci_settle.specs.declared.own.Terms.{Terms}
+use Rattle.pci_settle.specs.Lines.{AreLineRows, AreLines}
 use Rattle.pci_settle.specs.Slots.{Demand}
 use Rattle.pci_settle.specs.Buses.{Classing, classing_of, TellsClasses}
 use Rattle.pci_stand.specs.declared.region.Region.{Region}
@@ -38,21 +40,24 @@ module _ (q : Request) (p : Classing) (lists : Lists) (windows : ByKind (List (O
   pub board_of : (records : List Record) → HasRecords p.system (map record_value records) → IsBoard q p.system records lists
   board_of records has = record { has = has; system = can.system; nested = can.nested; same = can.same; stands = can.standing }
 
-  pub asking_of : (regions : List Region) → regions ≡ x.regions → IsAsking p windows regions q
-  asking_of regions same = record {
+  pub asking_of : (regions : List Region) (lines : List Line) → regions ≡ x.regions → lines ≡ x.lines → IsAsking p windows regions lines q
+  asking_of regions lines same same_lines = record {
     system = can.system;
     nested = can.nested;
     left = can.left;
     parts = subst (AreParts q p.system) (sym same) can.reaching.parts;
+    told = subst (AreLines q.roots q.told.ranges) (sym same_lines) can.reaching.are_lines;
     new = new_where_stands p q can.system can.nested can.low windows can.new;
   }
 
-  pub growing_of : (rows : List Region) (reaches : List (ByKind (Option Range))) → rows ≡ x.rows → reaches ≡ x.reaches
-      → IsGrowing q (record { classing = p; windows = windows; rows = rows; reaches = reaches })
-  growing_of rows reaches same_rows same_reaches = record {
+  pub growing_of : (rows : List Region) (reaches : List (ByKind (Option Range))) (lines : List Line) → rows ≡ x.rows → reaches ≡ x.reaches → lines ≡ x.lines
+      → IsGrowing q (record { classing = p; windows = windows; rows = rows; reaches = reaches; lines = lines })
+  growing_of rows reaches lines same_rows same_reaches same_lines = record {
     system = can.system;
     nested = can.nested;
     standing = can.standing;
+    line_rows = subst AreLineRows (sym same_lines) can.reaching.line_rows;
+    lines = subst (AreLines q.roots q.told.ranges) (sym same_lines) can.reaching.are_lines;
     low = can.low;
     left = can.left;
     rows = subst (AreStandingRows q p.system) (sym same_rows)

@@ -40,3 +40,9 @@ pub mod Rowing
 pub mod ThereGrows
 pub mod Growable
 pub mod TellsGrowing
+pub mod NearestOf
+pub mod LinesBeside
+pub mod AlikeTaken
+pub mod KeptInOrder
+pub mod Behind
+pub mod RowSlices

@@ -38,7 +38,7 @@ module _ (q : Request) (s : System) (low : WindowsAreLow q s) (c : WindowKind) (
       by_fixed false = reach_in_low q s c f room
 
   pub reach_low : (reach q s c f).last ≤ highest_in c f.probe
-  reach_low = subst (λ (r : DecodedRange). r.last ≤ highest_in c f.probe) (sym (reach_step q s c f (window_part c f))) (by_room (room_around q s c (reach_within q s c 255) f))
+  reach_low = subst (λ (r : DecodedRange). r.last ≤ highest_in c f.probe) (sym (reach_step q s c f)) (by_room (room_around q s c (reach_within q s c 255) f))
 
   pub reach_below : (reach q s c f).last < 2 ^ 64
   reach_below = let most = reach_low in let top = highest_below c f.probe in omega (arith, most, top)

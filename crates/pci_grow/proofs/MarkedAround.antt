@@ -1,5 +1,5 @@
 -- Around a window that can't grow to all addresses what is marked has no place, and neither has what it marks.
-use Rattle.std.proofs.Common.{◌≡◌, ℕ, ◌+◌, ◌-◌, ◌^◌, ◌<◌, ◌≤◌, max, inl, inr, ◌⊎◌, List, [], ◌∷◌, get_or, Bool, true, false, cond, arith, refl, sym, ◌∙◌, ap, subst, Option, Some, None}
+use Rattle.std.proofs.Common.{◌≡◌, ℕ, ◌+◌, ◌-◌, ◌^◌, ◌<◌, ◌≤◌, max, inl, inr, ◌⊎◌, List, [], ◌∷◌, ◌++◌, get_or, Bool, true, false, cond, arith, refl, sym, ◌∙◌, ap, subst, Option, Some, None}
 use Rattle.std.specs.Bool.{nat_le, nat_lt}
 use Rattle.std.specs.List.{Contains}
 use Rattle.std.proofs.lemmas.Bool.{and_parts, leb-true, cases_Bool, ltb-true, false_from_ne_true}
@@ -11,11 +11,11 @@ use Rattle.pci_spec.specs.Bus.{secondary, IsNested}
 use Rattle.pci_spec.proofs.Members.{in_nil, in_cons_cases}
 use Rattle.settle_spec.specs.FirstPlace.{Extent as ExtentValue, ends_by, first_spot, first_place_in, is_place, else_at}
 use Rattle.settle_spec.specs.LastPlace.{last_place_in}
+use Rattle.settle_spec.specs.Growth.{place_around}
 use Rattle.settle_spec.specs.Lists.{Request}
 use Rattle.settle_spec.specs.Parts.{FunctionPart}
 use Rattle.settle_spec.specs.Stands.{window_part}
-use Rattle.settle_spec.specs.Items.{Item as ItemValue, Placing, AllPlaced, Lacks, and_placed, place_next, are_placed, taken_by, has_of, bus_items, new_window}
-use Rattle.settle_spec.specs.Growth.{place_each}
+use Rattle.settle_spec.specs.Items.{Item as ItemValue, Placing, AllPlaced, Lacks, and_placed, place_next, are_placed, taken_by, has_of, bus_items, new_window, place_each}
 use Rattle.settle_spec.proofs.FirstSpot.{least_spot, spot_gives}
 use Rattle.settle_spec.proofs.Grown.{some_page}
 use Rattle.settle_spec.proofs.NewWindows.{window_is_around}
@@ -62,14 +62,17 @@ module _ (a : Around) where
   abbrev under : DecodedRange
   under = record { first = a.reach.first; last = a.window.first - 1 }
 
-  none_around : (i : ItemValue) (now : List DecodedRange) → first_place_in up now i.extent ≡ None → (a.reach.first < a.window.first → last_place_in under now i.extent ≡ None) → find_around a i now ≡ None
+  abbrev found : ItemValue → List DecodedRange → Option ℕ
+  found i now = place_around (decoded_range_of a.window) (decoded_range_of a.reach) now i.extent
+
+  none_around : (i : ItemValue) (now : List DecodedRange) → first_place_in up now i.extent ≡ None → (a.reach.first < a.window.first → last_place_in under now i.extent ≡ None) → found i now ≡ None
   none_around i now first last = ap (λ o. else_at o (cond (nat_lt a.reach.first a.window.first) (last_place_in under now i.extent) None)) first ∙ by (cases_Bool (nat_lt a.reach.first a.window.first))
     where
       by : (nat_lt a.reach.first a.window.first ≡ true) ⊎ (nat_lt a.reach.first a.window.first ≡ false) → cond (nat_lt a.reach.first a.window.first) (last_place_in under now i.extent) None ≡ None
       by (inl less) = ap (λ b. cond b (last_place_in under now i.extent) None) less ∙ last (ltb-true a.reach.first a.window.first less)
       by (inr more) = ap (λ b. cond b (last_place_in under now i.extent) None) more
 
-  mark_none : (i : ItemValue) → i.extent ≡ extent_value nowhere → (now : List DecodedRange) → find_around a i now ≡ None
+  mark_none : (i : ItemValue) → i.extent ≡ extent_value nowhere → (now : List DecodedRange) → found i now ≡ None
   mark_none i mark now =
       none_around i now
       (subst (λ (e : ExtentValue). first_place_in up now e ≡ None) (sym mark)
@@ -83,7 +86,7 @@ module _ (a : Around) where
       let no : ⊥ = omega (arith, high) in no))))
 
   large_none : (i : ItemValue) → 0 < i.extent.alignment → 2 ^ 64 ≤ i.extent.size → a.reach.last < 2 ^ 64 → a.window.first < 2 ^ 64 → a.reach.first ≤ a.window.first → (IsWhole (decoded_range_of a.reach) → ⊥)
-      → (now : List DecodedRange) → find_around a i now ≡ None
+      → (now : List DecodedRange) → found i now ≡ None
   large_none i pos large small low inside narrow now =
       none_around i now
       (no_first up now i.extent (false_from_ne_true (ends_by up i.extent at) (λ is.
@@ -108,15 +111,15 @@ module _ (q : Request) (s : System) (system : IsSystem s) (nested : IsNested q.r
   window_item extent f = record { region = window_part c f; class = c; extent = extent f }
 
   -- so items with marks stand for those with their own extents
-  pub marks_stand : (a : Around) → a.reach.last < 2 ^ 64 → a.window.first < 2 ^ 64 → a.reach.first ≤ a.window.first → (IsWhole (decoded_range_of a.reach) → ⊥)
+  pub marks_stand : (behind : ItemValue → List DecodedRange) (a : Around) → a.reach.last < 2 ^ 64 → a.window.first < 2 ^ 64 → a.reach.first ≤ a.window.first → (IsWhole (decoded_range_of a.reach) → ⊥)
       → (keeps : FunctionPart → Bool) (windows : List (Option Extent)) (bus : ℕ) → HasMarkedWindows q s c windows
-      → StandFor a (bus_items q s c keeps (told_extent windows) bus) (bus_items q s c keeps (new_window q s c) bus)
-  marks_stand a small low inside narrow keeps windows bus marked =
+      → StandFor behind a (bus_items q s c keeps (told_extent windows) bus) (bus_items q s c keeps (new_window q s c) bus)
+  marks_stand behind a small low inside narrow keeps windows bus marked =
       elim (same_or_large q s c keeps (told_extent windows) (new_window q s c) bus
       (λ f listed beside bridge has. told_fits (has_of q s c f) (new_window q s c f) (get_or windows (secondary f) None) (marked f listed bridge) has)) [
         | inl same ↦ inl same
         | inr has ↦ inr (λ taken. (
-          none_each (find_around a) taken (bus_items q s c keeps (told_extent windows) bus) (window_item (told_extent windows) has.of) has.in_low (mark_none a (window_item (told_extent windows) has.of) has.mark),
-          none_each (find_around a) taken (bus_items q s c keeps (new_window q s c) bus) (window_item (new_window q s c) has.of) has.in_high (large_none a (window_item (new_window q s c) has.of) (new_aligned has.of has.listed has.bridge) has.large small low inside narrow),
+          none_each (find_around behind a) taken (bus_items q s c keeps (told_extent windows) bus) (window_item (told_extent windows) has.of) has.in_low (λ now. mark_none a (window_item (told_extent windows) has.of) has.mark (behind (window_item (told_extent windows) has.of) ++ now)),
+          none_each (find_around behind a) taken (bus_items q s c keeps (new_window q s c) bus) (window_item (new_window q s c) has.of) has.in_high (λ now. large_none a (window_item (new_window q s c) has.of) (new_aligned has.of has.listed has.bridge) has.large small low inside narrow (behind (window_item (new_window q s c) has.of) ++ now)),
         ))
       ]

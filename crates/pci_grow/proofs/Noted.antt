@@ -1,5 +1,5 @@
 -- Once a window is noted with what it comes to, one part more is told.
-use Rattle.std.proofs.Common.{◌≡◌, ◌≢◌, ℕ, ◌+◌, ◌<◌, ◌⊎◌, inl, inr, List, [], ◌∷◌, length, get_or, true, cond, refl, ap, sym, subst, ◌∙◌, Option, None, Some}
+use Rattle.std.proofs.Common.{◌≡◌, ◌≢◌, ℕ, ◌+◌, ◌<◌, ◌⊎◌, inl, inr, List, [], ◌∷◌, ◌++◌, length, get_or, true, cond, refl, ap, sym, subst, ◌∙◌, Option, None, Some}
 use Rattle.std.specs.Bool.{if◌then◌else◌}
 use Rattle.std.specs.List.{Contains, slice_get}
 use Rattle.std.specs.Option.{option_map, is_some}
@@ -11,6 +11,7 @@ use Rattle.pci_spec.specs.System.{System, Function, Part, Bar, Rom, Window, IsSy
 use Rattle.pci_spec.specs.Bus.{secondary, IsNested}
 use Rattle.pci_spec.proofs.Members.{in_head, in_tail}
 use Rattle.settle_spec.specs.FirstPlace.{else_at}
+use Rattle.settle_spec.specs.Lines.{lines_on, taken_for}
 use Rattle.settle_spec.specs.Lists.{Request}
 use Rattle.settle_spec.specs.Parts.{FunctionPart, system_parts, addresses, class_in, are_same_space}
 use Rattle.settle_spec.specs.Stands.{rank, part_space, window_part, stands}
@@ -195,8 +196,8 @@ module _ (q : Request) (s : System) (system : IsSystem s) (nested : IsNested q.r
 
     found_item : (p : Placed) → Contains placed_list p → IsItemOf q s (new_window q s) c (secondary f) p.item
     found_item p has =
-        let found : IsFoundPlace (λ i taken. place_around (addresses w) (reach q s c f) taken i.extent) (bus_items q s c (λ r. is_some (there q s r)) (new_window q s c) (secondary f)) p =
-        each_found (λ i taken. place_around (addresses w) (reach q s c f) taken i.extent) (there_on q s (there q s) (λ r. are_same_space (window_space c) (part_space r)) (secondary f))
+        let found : IsFoundPlace (λ i taken. place_around (addresses w) (reach q s c f) (taken_for q i.region taken) i.extent) (bus_items q s c (λ r. is_some (there q s r)) (new_window q s c) (secondary f)) p =
+        each_found (λ i taken. place_around (addresses w) (reach q s c f) (taken_for q i.region taken) i.extent) (lines_on q (window_space c) (secondary f) ++ there_on q s (there q s) (λ r. are_same_space (window_space c) (part_space r)) (secondary f))
         (bus_items q s c (λ r. is_some (there q s r)) (new_window q s c) (secondary f)) placed_list taken_is p has in
         items_are q s (new_window q s) c (λ r. is_some (there q s r)) (secondary f) p.item found.listed
 

@@ -1,21 +1,25 @@
 -- The reach of one window of the rows, by what it is in.
-use Rattle.std.proofs.Common.{◌≡◌, ℕ, ◌+◌, ◌*◌, ◌<◌, ◌≤◌, List, length, get_or, Bool, true, false, cond, ◌&&◌, not, arith, ap, sym, subst, ◌∙◌, Option, None, Some}
+use Rattle.std.proofs.Common.{◌≡◌, ℕ, ◌+◌, ◌*◌, ◌<◌, ◌≤◌, inl, inr, List, ◌++◌, length, get_or, Bool, true, false, cond, ◌&&◌, not, arith, ap, sym, subst, ◌∙◌, Option, None, Some}
 use Rattle.std.specs.Bool.{nat_lt, if◌then◌else◌}
 use Rattle.std.specs.Option.{option_map}
 use Rattle.std.specs.List.{Contains, fold}
 use Rattle.std.proofs.lemmas.Bool.{and_parts}
 use Rattle.std.proofs.lemmas.List.{get_or_default}
+use Rattle.std.proofs.lemmas.List.Elements.{Contains-append_cases, Contains-append_left, Contains-append_right}
 use Rattle.std.proofs.lemmas.Option.{slice_get-get_or, get_or_from_slice_get}
+use Rattle.pci_spec.specs.Slot.{Slot}
 use Rattle.pci_spec.specs.Window.{WindowKind, IoWindow, MemoryWindow, PrefetchWindow, has_window, is_closed, page_size}
 use Rattle.pci_spec.specs.Decoded.{Range as DecodedRange}
 use Rattle.pci_spec.specs.System.{System, Function, Part, is_bridge}
 use Rattle.plan_spec.specs.Plan.{raised_to}
 use Rattle.plan_spec.proofs.Planning.Safe.{slots_of}
-use Rattle.settle_spec.specs.Lists.{Lists, Request}
+use Rattle.settle_spec.specs.Lists.{Request}
 use Rattle.settle_spec.specs.Parts.{system_parts, addresses}
-use Rattle.settle_spec.specs.Stands.{is_fixed_part, window_part, stands}
+use Rattle.settle_spec.specs.Stands.{is_fixed_part, part_space, window_part, stands}
 use Rattle.settle_spec.specs.Items.{highest_in}
-use Rattle.settle_spec.specs.Reach.{half_size, upper_of, lower_of, cut_first, clear_of, no_higher, standing_beside, room_around, reach_in, reach_if, reach}
+use Rattle.settle_spec.specs.Reach.{half_size, upper_of, lower_of, cut_first, clear_of, no_higher, lines_beside, standing_beside, room_around, reach_in, reach_if, reach}
+use Rattle.settle_spec.proofs.SameTaken.{HaveSame}
+use Rattle.stand_laws.specs.Order.{level}
 use Rattle.stand_laws.specs.Reach.{IsStandingWindow}
 use Rattle.stand_laws.proofs.Standing.{part_of}
 use Rattle.stand_laws.proofs.Reach.{reaches_are_around}
@@ -23,7 +27,9 @@ use Rattle.pci_base.specs.declared.range.Range.{Range as CodeRange}
 use Rattle.pci_base.specs.declared.window_kind.WindowKind.{WindowKind as CodeKind}
 use Rattle.pci_base.specs.WindowKinds.{kind_value}
 use Rattle.pci_base.specs.Ranges.{decoded_range_of}
+use Rattle.pci_base.specs.Space.{space_of}
 use Rattle.pci_function.specs.declared.record.Record.{Record}
+use Rattle.pci_tree.proofs.Lifting.{same_slot_of}
 use Rattle.pci_place.specs.Items.{no_function, function_in}
 use Rattle.pci_place.specs.Records.{IsRecordOf}
 use Rattle.pci_place.proofs.Records.{same_count, function_at}
@@ -32,11 +38,14 @@ use Rattle.pci_settle.specs.Kept.{spec_part}
 use Rattle.pci_stand.specs.declared.region.Region.{Region}
 use Rattle.pci_stand.specs.Known.{Known, region_value}
 use Rattle.pci_stand.specs.Boards.{IsKnown}
-use Rattle.pci_grow.specs.declared.reach.Among.{Among}
+use Rattle.pci_grow.specs.declared.among.Among.{Among}
 use Rattle.pci_grow.specs.Rooms.{first_behind, IsNearestBelow, IsNearestAbove}
 use Rattle.pci_grow.specs.Rows.{AreApartInRows, AreBeside}
-use Rattle.pci_grow.specs.Reaches.{IsAmong, StandsInRows}
+use Rattle.pci_grow.specs.Reaches.{beside_window, IsAmong, Given, StandsInRows}
+use Rattle.pci_grow.specs.OffLines.{rows_beside, IsAmongAlso}
 use Rattle.pci_grow.proofs.Clear.{first_by_nearest}
+use Rattle.pci_grow.proofs.NearestOf.{below_same, above_same}
+use Rattle.pci_grow.proofs.LinesBeside.{rows_are_lines}
 use Rattle.pci_grow.proofs.ReachByBus.{reach_by_bus}
 use Rattle.pci_grow.proofs.StandingRows.{IsRow, row_at, apart_in_rows, beside_in_rows}
 
@@ -49,7 +58,13 @@ cut_up PrefetchWindow old first = elim (nat_lt (lower_of PrefetchWindow old) (lo
 le_through : (a b m n : ℕ) → a ≤ b → b ≤ m → m ≡ n → a ≤ n
 le_through a b m n first second same = omega (arith, first, second, same)
 
-module _ (q : Request) (s : System) (records : List Record) (lists : Lists) (rows : List Region) (is : StandsInRows q s records lists rows) where
+same_before : (xs ys zs : List DecodedRange) → HaveSame xs ys → HaveSame (xs ++ zs) (ys ++ zs)
+same_before xs ys zs same = record {
+  to = λ t has. elim (Contains-append_cases xs zs t has) [ inl left ↦ Contains-append_left ys zs t (same.to t left) | inr right ↦ Contains-append_right ys zs t right ];
+  back = λ t has. elim (Contains-append_cases ys zs t has) [ inl left ↦ Contains-append_left xs zs t (same.back t left) | inr right ↦ Contains-append_right xs zs t right ];
+}
+
+module _ (q : Request) (s : System) (records : List Record) (given : Given) (rows : List Region) (is : StandsInRows q s records given rows) where
   pub row_is : (k : ℕ) (d : Region) → k < length rows → IsRow q s is.board.system is.board.nested rows is.has (get_or rows k d)
   row_is k d within = row_at q s is.board.system is.board.nested rows is.has k d within
 
@@ -71,6 +86,9 @@ module _ (q : Request) (s : System) (records : List Record) (lists : Lists) (row
     record_is r =
         let found = function_at s records is.board.has region.function (get_or records region.function r) (slice_get-get_or records region.function r has_record) in
         subst (λ f. IsRecordOf s f (get_or records region.function r)) (sym (get_or_from_slice_get s region.function found.f no_function found.at)) found.is
+
+    pub slot_same : (r : Record) → (get_or records region.function r).slot ≡ own.slot
+    slot_same r = same_slot_of (get_or records region.function r) own (record_is r).value
 
     module _ (class : CodeKind) (part_is : region.part ≡ parts.Window class) where
       abbrev c : WindowKind
@@ -125,15 +143,15 @@ module _ (q : Request) (s : System) (records : List Record) (lists : Lists) (row
 
         -- the first whole page begins no later than the window
         page_first : region.fixed ≡ false → (o : Option DecodedRange)
-            → IsNearestBelow (addresses (window_part c own)) (standing_beside q s (window_part c own)) o
+            → IsNearestBelow (addresses (window_part c own)) (beside_window q s (window_part c own)) o
             → raised_to (page_size c) (first_behind r.first o) ≤ region.range.first
         page_first fixed o below =
             let w = addresses (window_part c own) in
             let start = no_higher (highest_in c own.probe) r in
-            let free = fold (clear_of w) start (standing_beside q s (window_part c own)) in
+            let free = fold (clear_of w) start (beside_window q s (window_part c own)) in
             let can = reaches_are_around q s c is.board.nested is.board.system is.low own standing in
             let first : (reach_in q s c own r).first ≤ w.first = subst (λ (x : DecodedRange). x.first ≤ w.first) (sym (reach_some fixed)) can.first in
-            subst (λ n. raised_to (page_size c) n ≤ region.range.first) (first_by_nearest w start (standing_beside q s (window_part c own)) o below)
+            subst (λ n. raised_to (page_size c) n ≤ region.range.first) (first_by_nearest w start (beside_window q s (window_part c own)) o below)
             (le_through (raised_to (page_size c) free.first) (cut_first c w.first (raised_to (page_size c) free.first)) w.first region.range.first
             (cut_up c w.first (raised_to (page_size c) free.first)) first (ap (λ (x : DecodedRange). x.first) window_is))
 
@@ -157,7 +175,9 @@ module _ (q : Request) (s : System) (records : List Record) (lists : Lists) (row
 
       module _ (a : Among) (own_window : (e : Region) → a.window ≡ (get_or rows index e).range)
           (below : (beside : List DecodedRange) → AreApartInRows rows → AreBeside rows index beside → IsNearestBelow (decoded_range_of a.window) beside (option_map decoded_range_of a.before))
-          (above : (beside : List DecodedRange) → AreApartInRows rows → AreBeside rows index beside → IsNearestAbove (decoded_range_of a.window) beside (option_map decoded_range_of a.behind)) where
+          (above : (beside : List DecodedRange) → AreApartInRows rows → AreBeside rows index beside → IsNearestAbove (decoded_range_of a.window) beside (option_map decoded_range_of a.behind))
+          (n : Among) (slot : Slot) (slot_is : slot ≡ own.slot)
+          (also : IsAmongAlso (decoded_range_of a.window) a n (rows_beside given.told slot region.level (space_of region.space) (decoded_range_of a.window) given.lines)) where
         apart : AreApartInRows rows
         apart = apart_in_rows q s is.board.system is.board.nested rows is.has
 
@@ -167,18 +187,60 @@ module _ (q : Request) (s : System) (records : List Record) (lists : Lists) (row
         window_same : addresses (window_part c own) ≡ decoded_range_of a.window
         window_same = window_is ∙ sym (ap decoded_range_of (own_window d))
 
-        pub is_among : (highest : ℕ) → highest ≡ highest_in c own.probe → IsAmong q s c own highest a
+        next_same : addresses (window_part c own) ≡ decoded_range_of n.window
+        next_same = window_same ∙ sym (ap decoded_range_of also.window)
+
+        forward : (addresses (window_part c own)).first ≤ (addresses (window_part c own)).last
+        forward = subst (λ (r : DecodedRange). r.first ≤ r.last) (sym window_is) known.forward
+
+        abbrev found : List DecodedRange
+        found = rows_beside given.told slot region.level (space_of region.space) (decoded_range_of a.window) given.lines
+
+        abbrev real : List DecodedRange
+        real = rows_beside given.told own.slot (level q own.slot.bus) (part_space (window_part c own)) (addresses (window_part c own)) given.lines
+
+        level_is : region.level ≡ level q own.slot.bus
+        level_is = ap (λ (k : Known). k.level) known.all
+
+        space_is : space_of region.space ≡ part_space (window_part c own)
+        space_is = ap (λ (k : Known). k.space) known.all ∙ ap part_space value_is
+
+        found_is : found ≡ real
+        found_is =
+            ap (λ x. rows_beside given.told x region.level (space_of region.space) (decoded_range_of a.window) given.lines) slot_is
+            ∙ ap (λ x. rows_beside given.told own.slot x (space_of region.space) (decoded_range_of a.window) given.lines) level_is
+            ∙ ap (λ x. rows_beside given.told own.slot (level q own.slot.bus) x (decoded_range_of a.window) given.lines) space_is
+            ∙ ap (λ x. rows_beside given.told own.slot (level q own.slot.bus) (part_space (window_part c own)) x given.lines) (sym window_same)
+
+        lines_are : HaveSame found (lines_beside q (window_part c own))
+        lines_are = subst (λ xs. HaveSame xs (lines_beside q (window_part c own))) (sym found_is) (rows_are_lines q s given.told is.told_is given.lines is.lines (window_part c own))
+
+        with_standing : HaveSame (found ++ standing_beside q s (window_part c own)) (beside_window q s (window_part c own))
+        with_standing = same_before found (lines_beside q (window_part c own)) (standing_beside q s (window_part c own)) lines_are
+
+        all_below : IsNearestBelow (decoded_range_of n.window) (beside_window q s (window_part c own)) (option_map decoded_range_of n.before)
+        all_below =
+            subst (λ r. IsNearestBelow r (beside_window q s (window_part c own)) (option_map decoded_range_of n.before)) (sym window_same ∙ next_same)
+            (below_same (decoded_range_of a.window) (found ++ standing_beside q s (window_part c own)) (beside_window q s (window_part c own)) (option_map decoded_range_of n.before) with_standing
+            (also.below (subst (λ (r : DecodedRange). r.first ≤ r.last) window_same forward) (standing_beside q s (window_part c own)) (below (standing_beside q s (window_part c own)) apart beside)))
+
+        all_above : IsNearestAbove (decoded_range_of n.window) (beside_window q s (window_part c own)) (option_map decoded_range_of n.behind)
+        all_above =
+            subst (λ r. IsNearestAbove r (beside_window q s (window_part c own)) (option_map decoded_range_of n.behind)) (sym window_same ∙ next_same)
+            (above_same (decoded_range_of a.window) (found ++ standing_beside q s (window_part c own)) (beside_window q s (window_part c own)) (option_map decoded_range_of n.behind) with_standing
+            (also.above (subst (λ (r : DecodedRange). r.first ≤ r.last) window_same forward) (standing_beside q s (window_part c own)) (above (standing_beside q s (window_part c own)) apart beside)))
+
+        pub is_among : (highest : ℕ) → highest ≡ highest_in c own.probe → IsAmong q s c own highest n
         is_among highest highest_is = record {
-          window = window_same;
+          window = next_same;
           highest_is = sym highest_is;
-          below = below (standing_beside q s (window_part c own)) apart beside;
-          above = above (standing_beside q s (window_part c own)) apart beside;
+          below = all_below;
+          above = all_above;
         }
 
         pub page_among : (o : Option CodeRange) → option_map decoded_range_of o ≡ room → (r : CodeRange) → o ≡ Some r → region.fixed ≡ false
-            → raised_to (page_size c) (first_behind r.first (option_map decoded_range_of a.before)) ≤ a.window.first
+            → raised_to (page_size c) (first_behind r.first (option_map decoded_range_of n.before)) ≤ n.window.first
         page_among o found r some fixed =
-            subst (λ (x : CodeRange). raised_to (page_size c) (first_behind r.first (option_map decoded_range_of a.before)) ≤ x.first) (sym (own_window d))
-            (page_first (decoded_range_of r) (sym (ap (option_map decoded_range_of) some) ∙ found) fixed (option_map decoded_range_of a.before)
-            (subst (λ w. IsNearestBelow w (standing_beside q s (window_part c own)) (option_map decoded_range_of a.before)) (sym window_same)
-            (below (standing_beside q s (window_part c own)) apart beside)))
+            subst (λ (x : CodeRange). raised_to (page_size c) (first_behind r.first (option_map decoded_range_of n.before)) ≤ x.first) (sym (also.window ∙ own_window d))
+            (page_first (decoded_range_of r) (sym (ap (option_map decoded_range_of) some) ∙ found) fixed (option_map decoded_range_of n.before)
+            (subst (λ w. IsNearestBelow w (beside_window q s (window_part c own)) (option_map decoded_range_of n.before)) (sym next_same) all_below))

@@ -45,6 +45,7 @@ no_region = record {
   level = 0;
   fixed = false;
   on = false;
+  leads = false;
   part = parts.Bar 0;
   space = spaces.Io;
   prefetch = false;

@@ -1,5 +1,5 @@
 -- Whether the next part of a row takes, by what is told.
-use Rattle.std.proofs.Common.{◌≡◌, ℕ, ◌+◌, ◌<◌, ◌≤◌, ◌⊎◌, inl, inr, List, [], map, length, take, get_or, Bool, true, false, ◌&&◌, arith, refl, ap, sym, subst, ◌∙◌, Option, None, Some}
+use Rattle.std.proofs.Common.{◌≡◌, ℕ, ◌+◌, ◌<◌, ◌≤◌, ◌⊎◌, inl, inr, List, [], ◌++◌, map, length, take, get_or, Bool, true, false, ◌&&◌, arith, refl, ap, sym, subst, ◌∙◌, Option, None, Some}
 use Rattle.std.specs.Bool.{if◌then◌else◌}
 use Rattle.std.specs.List.{All, Contains, slice_get}
 use Rattle.std.specs.Option.{option_map, is_some}
@@ -13,12 +13,13 @@ use Rattle.pci_spec.specs.Decoded.{Range as DecodedRange}
 use Rattle.pci_spec.specs.System.{System, Function, IsFunction, IsSystem, is_bridge, has_part, window_space}
 use Rattle.pci_spec.specs.Bus.{is_root, secondary, are_siblings, IsNested}
 use Rattle.plan_spec.proofs.Planning.Safe.{order_of}
+use Rattle.settle_spec.specs.Lines.{lines_on, taken_for}
 use Rattle.settle_spec.specs.Lists.{Request}
 use Rattle.settle_spec.specs.Parts.{FunctionPart, system_parts, header_parts, addresses, are_same_space}
 use Rattle.settle_spec.specs.Stands.{part_space, window_part, stands}
-use Rattle.settle_spec.specs.Items.{Item as ItemValue, Placed, AllPlaced, bus_items, new_window}
+use Rattle.settle_spec.specs.Items.{Item as ItemValue, Placed, AllPlaced, bus_items, new_window, place_each}
 use Rattle.settle_spec.specs.Reach.{reach}
-use Rattle.settle_spec.specs.Growth.{place_around, place_each, range_list, there_on, taken_around, window_comes_to, part_comes_to, is_clear, there, comes_to, takes}
+use Rattle.settle_spec.specs.Growth.{place_around, range_list, there_on, taken_around, window_comes_to, part_comes_to, is_clear, there, comes_to, takes}
 use Rattle.settle_spec.proofs.Nested.{on_it, is_no_root, at_secondary}
 use Rattle.settle_laws.proofs.ItemForms.{IsItemOf, items_are}
 use Rattle.settle_laws.proofs.HeaderParts.{few_bars}
@@ -69,14 +70,14 @@ taken_same : (q : Request) (s : System) (one other : FunctionPart → Option Dec
     → ((t : FunctionPart) → Contains s t.function → Contains (header_parts t.function) t.part → are_siblings q.roots (secondary b) t.function.slot.bus ≡ true → one t ≡ other t)
     → taken_around q s one c b ≡ taken_around q s other c b
 taken_same q s one other c b same =
-    ap (λ xs. place_each find xs (items_by one)) (pieces_same (piece one) (piece other) (system_parts q s) (λ r listed. of r (part_of q s r listed).listed (part_of q s r listed).there))
-    ∙ ap (place_each find (there_on q s other of_space (secondary b))) (items_same_on q s (λ r. is_some (one r)) (λ r. is_some (other r)) (secondary b) c (λ t listed there beside class. ap is_some (same t listed there beside)))
+    ap (λ xs. place_each find (lines_on q (window_space c) (secondary b) ++ xs) (items_by one)) (pieces_same (piece one) (piece other) (system_parts q s) (λ r listed. of r (part_of q s r listed).listed (part_of q s r listed).there))
+    ∙ ap (place_each find (lines_on q (window_space c) (secondary b) ++ there_on q s other of_space (secondary b))) (items_same_on q s (λ r. is_some (one r)) (λ r. is_some (other r)) (secondary b) c (λ t listed there beside class. ap is_some (same t listed there beside)))
   where
     of_space : FunctionPart → Bool
     of_space r = are_same_space (window_space c) (part_space r)
 
     find : ItemValue → List DecodedRange → Option ℕ
-    find i taken = place_around (addresses (window_part c b)) (reach q s c b) taken i.extent
+    find i taken = place_around (addresses (window_part c b)) (reach q s c b) (taken_for q i.region taken) i.extent
 
     items_by : (FunctionPart → Option DecodedRange) → List ItemValue
     items_by there = bus_items q s c (λ r. is_some (there r)) (new_window q s c) (secondary b)
@@ -237,8 +238,8 @@ module _ (p : Setting) (t : Tables) (r : Region) (class : CodeKind) (window : r.
         let here : get_or (at_places values firsts) m one ≡ one =
         at_read values firsts m value one (omega (arith, even, long)) (omega (arith, less, long)) ∙ ap (λ (i : ItemValue). record { item = i; at = get_or firsts m 0 }) (get_or-map (asked_item_value s c) listed m d value less) in
         let has : Contains (at_places values firsts) one = subst (Contains (at_places values firsts)) here (Contains-get_or (at_places values firsts) m one (omega (arith, less, all))) in
-        let found : IsFoundPlace (λ i taken. place_around (addresses w) (reach q s c f) taken i.extent) (bus_items q s c (λ u. is_some (there_told s t u)) (new_window q s c) (secondary f)) one =
-        each_found (λ i taken. place_around (addresses w) (reach q s c f) taken i.extent) (there_on q s (there_told s t) (λ u. are_same_space (window_space c) (part_space u)) (secondary f))
+        let found : IsFoundPlace (λ i taken. place_around (addresses w) (reach q s c f) (taken_for q i.region taken) i.extent) (bus_items q s c (λ u. is_some (there_told s t u)) (new_window q s c) (secondary f)) one =
+        each_found (λ i taken. place_around (addresses w) (reach q s c f) (taken_for q i.region taken) i.extent) (lines_on q (window_space c) (secondary f) ++ there_on q s (there_told s t) (λ u. are_same_space (window_space c) (part_space u)) (secondary f))
         (bus_items q s c (λ u. is_some (there_told s t u)) (new_window q s c) (secondary f)) (at_places values firsts) placed one has in
         items_are q s (new_window q s) c (λ u. is_some (there_told s t u)) (secondary f) value found.listed
 

@@ -20,10 +20,11 @@ use Rattle.settle_spec.specs.FirstPlace.{is_place}
 use Rattle.settle_spec.specs.Lists.{Request}
 use Rattle.settle_spec.specs.Parts.{FunctionPart, addresses, class_in}
 use Rattle.settle_spec.specs.Stands.{window_part}
-use Rattle.settle_spec.specs.Items.{Item, Placed, taken_by, bus_items, new_window, has_room_behind}
+use Rattle.settle_spec.specs.Lines.{taken_for}
+use Rattle.settle_spec.specs.Items.{Item, Placed, taken_by, bus_items, new_window, has_room_behind, place_in}
 use Rattle.settle_spec.specs.Places.{placed_of, place_among}
 use Rattle.settle_spec.specs.Growth.{taken_around, there, comes_to, takes, has_grown}
-use Rattle.settle_spec.specs.Kept.{is_kept, stays_growing, range_or, range_growing, place_in, place_of, growing}
+use Rattle.settle_spec.specs.Kept.{is_kept, stays_growing, range_or, range_growing, place_of, growing}
 use Rattle.settle_spec.specs.Keeping.Places.{taken_at}
 use Rattle.settle_spec.proofs.LastSpot.{place_gives}
 use Rattle.settle_spec.proofs.Grown.{part_holds}
@@ -204,7 +205,10 @@ module _ (q : Request) (s : System) (system : IsSystem s) (nested : IsNested q.r
       keeps : stays_growing q s w ≡ true
       keeps = grown_stays w grown
 
-      have : HavePlaces (range_growing q s w) (keep_place b) taken_there (bus_items q s i.class (stays_growing q s) (new_window q s i.class) (secondary b))
+      abbrev find_place : Item → List DecodedRange → Option ℕ
+      find_place j xs = keep_place b j (taken_for q j.region xs)
+
+      have : HavePlaces q (range_growing q s w) (keep_place b) taken_there (bus_items q s i.class (stays_growing q s) (new_window q s i.class) (secondary b))
       have = sound.places i.class b taken_there (listed_at n b is.bridge_is) is.leads keeps (λ t has. inl has) (λ t has. inl has)
 
       of_class : Contains (bus_items q s i.class (stays_growing q s) (new_window q s i.class) (secondary b)) i
@@ -214,9 +218,9 @@ module _ (q : Request) (s : System) (system : IsSystem s) (nested : IsNested q.r
       ends_at =
           let made : IsMade (λ (p : Placed). p.item) have.placed i = in_map_to (λ (p : Placed). p.item) have.placed i (subst (λ xs. Contains xs i) (sym have.are.all) of_class) in
           let p = made.from in
-          let of : IsFoundPlace (keep_place b) (bus_items q s i.class (stays_growing q s) (new_window q s i.class) (secondary b)) p = each_found (keep_place b) taken_there _ have.placed have.found p made.has in
+          let of : IsFoundPlace find_place (bus_items q s i.class (stays_growing q s) (new_window q s i.class) (secondary b)) p = each_found find_place taken_there _ have.placed have.found p made.has in
           let takes_it = grown_takes q s w grown in
-          let place : found ≡ Some p.at = sym (ap (λ t. if t then found else place_in (addresses w) i of.taken) grown) ∙ ap (λ j. keep_place b j of.taken) (sym made.is) ∙ of.found in
+          let place : found ≡ Some p.at = sym (ap (λ t. if t then found else place_in (addresses w) i (taken_for q i.region of.taken)) grown) ∙ ap (λ (j : Item). keep_place b j (taken_for q j.region of.taken)) (sym made.is) ∙ of.found in
           let in_list = have.are.each p made.has in
           subst (λ o. IfSome o (λ a. (taken_by i a).last < 2 ^ 64)) (sym (at_place takes_it ∙ place))
           (within p made.is in_list)

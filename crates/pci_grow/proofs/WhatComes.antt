@@ -1,21 +1,28 @@
 -- What a window comes to by the code is what it comes to by what is told to be there.
-use Rattle.std.proofs.Common.{◌≡◌, ℕ, ◌+◌, ◌^◌, ◌<◌, ◌≤◌, ◌⊎◌, min, max, inl, inr, List, map, Bool, true, false, cond, arith, refl, ap, sym, subst, ◌∙◌, Option, None, Some}
+use Rattle.std.proofs.Common.{◌≡◌, ℕ, ◌+◌, ◌^◌, ◌<◌, ◌≤◌, ◌⊎◌, min, max, inl, inr, List, ◌++◌, map, get_or, Bool, true, false, cond, arith, refl, ap, sym, subst, ◌∙◌, Option, None, Some}
 use Rattle.std.specs.List.{All, Contains, fold}
 use Rattle.std.specs.Option.{is_some, option_map}
+use Rattle.std.proofs.lemmas.Bool.{false_from_ne_true}
+use Rattle.std.proofs.lemmas.List.{get_or-map}
+use Rattle.std.proofs.lemmas.List.Elements.{Contains-get_or}
 use Rattle.pci_spec.specs.Window.{WindowKind}
-use Rattle.pci_spec.proofs.Members.{IsMade, in_map_to}
-use Rattle.pci_spec.specs.Decoded.{Range as DecodedRange}
-use Rattle.pci_spec.specs.System.{System, Function, is_bridge, window_space}
-use Rattle.pci_spec.specs.Bus.{secondary}
+use Rattle.pci_spec.proofs.Members.{IsMade, in_map_to, in_map_from}
+use Rattle.pci_spec.specs.Decoded.{Range as DecodedRange, HasRecords}
+use Rattle.pci_spec.specs.System.{System, Function, is_bridge, has_part, window_space}
+use Rattle.pci_spec.specs.Bus.{secondary, is_root}
 use Rattle.plan_spec.specs.Plan.{same_class}
 use Rattle.plan_spec.proofs.Planning.PlacedItems.{same_class_is}
+use Rattle.settle_spec.specs.FirstPlace.{Extent as ExtentValue}
+use Rattle.settle_spec.specs.Lines.{lines_on, lines_behind}
 use Rattle.settle_spec.specs.Lists.{Request}
 use Rattle.settle_spec.specs.Parts.{FunctionPart, system_parts, addresses, class_in, are_same_space}
 use Rattle.settle_spec.specs.Stands.{part_space, window_part}
-use Rattle.settle_spec.specs.Items.{AllPlaced, highest_in, bus_items, new_window}
+use Rattle.settle_spec.specs.Items.{Item as ItemValue, AllPlaced, highest_in, bus_items, new_window}
 use Rattle.settle_spec.specs.Reach.{reach}
 use Rattle.settle_spec.specs.Growth.{grown_to, there_on, taken_around, window_comes_to}
 use Rattle.settle_spec.proofs.SameTaken.{HaveSame}
+use Rattle.settle_spec.proofs.Nested.{at_secondary, is_no_root}
+use Rattle.settle_laws.proofs.ItemForms.{items_are}
 use Rattle.settle_laws.proofs.PartClasses.{space_of_class}
 use Rattle.stand_laws.proofs.Reach.{reaches_are_around}
 use Rattle.stand_laws.proofs.Standing.{stands_by_itself, window_listed}
@@ -24,13 +31,16 @@ use Rattle.pci_base.specs.declared.window_kind.WindowKind.{WindowKind as CodeKin
 use Rattle.pci_base.specs.Ranges.{decoded_range_of}
 use Rattle.pci_base.specs.WindowKinds.{kind_value, by_kind}
 use Rattle.pci_function.specs.declared.record.Bridge.{Bridge}
+use Rattle.pci_function.specs.Values.{record_value}
 use Rattle.pci_tree.specs.Ways.{bus_behind}
 use Rattle.pci_tree.proofs.Lifting.{same_bridge, same_secondary}
+use Rattle.pci_place.specs.Items.{function_in}
 use Rattle.pci_settle.specs.declared.item.Item.{Item}
 use Rattle.pci_settle.specs.declared.item.Part.TheVariants.{Rom}
 use Rattle.pci_settle.specs.Buses.{AreInTurn, bus_listing}
 use Rattle.pci_settle.specs.NewWindows.{HasNewWindows, HasMarkedWindows, told_extent}
-use Rattle.pci_settle.specs.Own.{asked_item_value}
+use Rattle.pci_settle.specs.Lines.{AreLines, level_of}
+use Rattle.pci_settle.specs.Own.{class_part, asked_item_value}
 use Rattle.pci_settle.specs.Placings.{at_places}
 use Rattle.pci_settle.specs.Turns.{HasExtent}
 use Rattle.pci_settle.proofs.Marked.{told_is}
@@ -39,12 +49,14 @@ use Rattle.pci_stand.specs.Known.{region_value}
 use Rattle.pci_stay.specs.Windows.{IsWhole}
 use Rattle.pci_grow.proofs.LowReaches.{highest_below, reach_low}
 use Rattle.pci_grow.specs.declared.around.Around.{Around}
-use Rattle.pci_grow.specs.Arounds.{ArePlacesAround, HaveNoPlaces}
+use Rattle.pci_grow.specs.Arounds.{HaveBehind, ArePlacesAround, HaveNoPlaces}
+use Rattle.pci_grow.specs.Grounds.{Ground, AreAlike}
 use Rattle.pci_grow.specs.Rows.{row_number, row_of}
 use Rattle.pci_grow.specs.There.{Tables, in_row, there_of, there_of_class, range_told, class_told, holding, placed_ranges, there_told}
 use Rattle.pci_grow.specs.Telling.{Setting, IsGrowing, IsWindowOf, IsThereTold}
 use Rattle.pci_grow.proofs.ClassOver.{class_is}
-use Rattle.pci_grow.proofs.Comings.{StandFor, comes_none, comes_some}
+use Rattle.pci_grow.proofs.AlikeTaken.{alike_same, alike_trans, alike_append}
+use Rattle.pci_grow.proofs.Comings.{StandFor, behind_item, comes_none, comes_some}
 use Rattle.pci_grow.proofs.InRows.{known_in, stands_in}
 use Rattle.pci_grow.proofs.MarkedAround.{marks_stand}
 use Rattle.pci_grow.proofs.Told.{IsOnBus, row_bus, region_range, told_is as range_is, picked_same, one_space, space_itself}
@@ -55,6 +67,7 @@ no_item = record { function = 0; part = Rom; extent = record { size = 1; alignme
 
 module _ (p : Setting) (t : Tables) (b : Bridge) (class : CodeKind) (a : Around)
     (items : List Item) (d : Item) (lawful : All HasExtent items) (turn : AreInTurn (bus_listing p.classing (kind_value class) b.secondary (by_kind p.windows class) t.kept) items)
+    (g : Ground) (kind_is : g.class ≡ class) (has : HasRecords p.classing.system (map record_value g.records)) (lines_are : g.lines ≡ p.lines)
     (row : List Region) (row_is : row ≡ in_row (row_number (b.secondary + 1) (window_space (kind_value class))) p.rows) where
   abbrev s : System
   s = p.classing.system
@@ -122,20 +135,55 @@ module _ (p : Setting) (t : Tables) (b : Bridge) (class : CodeKind) (a : Around)
         let own : a.window.first ≡ (addresses (window_part c f)).first = ap (λ (r : DecodedRange). r.first) window.window in
         omega (arith, first, to, own)
 
-    stand_for : StandFor a (map (asked_item_value s c) items) (bus_items q s c (λ r. is_some (there r)) (new_window q s c) (secondary f))
+    stand_for : StandFor (behind_item q) a (map (asked_item_value s c) items) (bus_items q s c (λ r. is_some (there r)) (new_window q s c) (secondary f))
     stand_for = by (growing.new class f listed window.stand)
       where
         by : HasNewWindows q s c p.classing.terms (by_kind p.windows class) ⊎ (HasMarkedWindows q s c (by_kind p.windows class) × (IsWhole (reach q s c f) → ⊥))
-            → StandFor a (map (asked_item_value s c) items) (bus_items q s c (λ r. is_some (there r)) (new_window q s c) (secondary f))
+            → StandFor (behind_item q) a (map (asked_item_value s c) items) (bus_items q s c (λ r. is_some (there r)) (new_window q s c) (secondary f))
         by (inl new) = inl (
             turn record { request = q; keeps = λ r. is_some (there r); extent = new_window q s c } record { left = growing.left; keeps_is = told.keeps; behind = new.behind b.secondary }
             ∙ ap (bus_items q s c (λ r. is_some (there r)) (new_window q s c)) (sym bus))
         by (inr (marked, narrow)) =
-            subst (λ n. StandFor a (map (asked_item_value s c) items) (bus_items q s c (λ r. is_some (there r)) (new_window q s c) n)) (sym bus)
-            (subst (λ xs. StandFor a xs (bus_items q s c (λ r. is_some (there r)) (new_window q s c) b.secondary))
+            subst (λ n. StandFor (behind_item q) a (map (asked_item_value s c) items) (bus_items q s c (λ r. is_some (there r)) (new_window q s c) n)) (sym bus)
+            (subst (λ xs. StandFor (behind_item q) a xs (bus_items q s c (λ r. is_some (there r)) (new_window q s c) b.secondary))
             (sym (turn record { request = q; keeps = λ r. is_some (there r); extent = told_extent (by_kind p.windows class) }
             record { left = growing.left; keeps_is = told.keeps; behind = λ g in_g beside is. told_is _ _ _ (marked g in_g is) }))
-            (marks_stand q s growing.system growing.nested c a small low inside (λ whole. narrow (subst IsWhole window.reach_is whole)) (λ r. is_some (there r)) (by_kind p.windows class) b.secondary marked))
+            (marks_stand q s growing.system growing.nested c (behind_item q) a small low inside (λ whole. narrow (subst IsWhole window.reach_is whole)) (λ r. is_some (there r)) (by_kind p.windows class) b.secondary marked))
+
+    -- ---- what lines hold behind them
+
+    all_behind : (extent : Function → ExtentValue) (n : ℕ) → map (asked_item_value s c) items ≡ bus_items q s c (λ r. is_some (there r)) extent n → HaveBehind g (behind_item q) (map (asked_item_value s c) items) items
+    all_behind extent n same k v i less =
+        let values = map (asked_item_value s c) items in
+        let value = asked_item_value s c (get_or items k i) in
+        let at : get_or values k v ≡ value = get_or-map (asked_item_value s c) items k i v less in
+        let has_value : Contains values value = in_map_from (asked_item_value s c) items (get_or items k i) (Contains-get_or items k i less) in
+        let item = items_are q s (λ d. extent) c (λ r. is_some (there r)) n value (subst (λ xs. Contains xs value) same has_value) in
+        let is : record { function = item.f; part = item.p } ≡ value.region = ap (λ (x : ItemValue). x.region) item.is in
+        record {
+          q = q;
+          s = s;
+          system = growing.system;
+          nested = growing.nested;
+          has = has;
+          rows = subst (AreLines q.roots q.told.ranges) (sym lines_are) growing.lines;
+          listed = subst (λ (u : FunctionPart). Contains s u.function) is item.listed;
+          there = subst (λ x. has_part (function_in s (get_or items k i).function) (class_part (kind_value x) (get_or items k i).part) ≡ true) (sym kind_is) (subst (λ (u : FunctionPart). has_part u.function u.part ≡ true) is item.there);
+          held_is = ap (λ (x : ItemValue). lines_behind q x.region) at ∙ sym (ap (λ x. lines_behind q record { function = function_in s (get_or items k i).function; part = class_part (kind_value x) (get_or items k i).part }) kind_is);
+        }
+
+    off : HaveBehind g (behind_item q) (map (asked_item_value s c) items) items
+    off = by (growing.new class f listed window.stand)
+      where
+        by : HasNewWindows q s c p.classing.terms (by_kind p.windows class) ⊎ (HasMarkedWindows q s c (by_kind p.windows class) × (IsWhole (reach q s c f) → ⊥))
+            → HaveBehind g (behind_item q) (map (asked_item_value s c) items) items
+        by (inl new) =
+            all_behind (new_window q s c) b.secondary
+            (turn record { request = q; keeps = λ r. is_some (there r); extent = new_window q s c } record { left = growing.left; keeps_is = told.keeps; behind = new.behind b.secondary })
+        by (inr (marked, narrow)) =
+            all_behind (told_extent (by_kind p.windows class)) b.secondary
+            (turn record { request = q; keeps = λ r. is_some (there r); extent = told_extent (by_kind p.windows class) }
+            record { left = growing.left; keeps_is = told.keeps; behind = λ g in_g beside is. told_is _ _ _ (marked g in_g is) })
 
     -- ---- what is there behind it
 
@@ -171,16 +219,36 @@ module _ (p : Setting) (t : Tables) (b : Bridge) (class : CodeKind) (a : Around)
         ∙ mapped _ (range_told t r) (there (region_value s r)) (range_is s growing.system t q r known))
         (λ v in_v passes. sym (space_of_class q s v.function v.part) ∙ ap window_space (same_class_is c (class_in q s v.function v.part) passes)))
 
-    -- ---- what it comes to
+    -- ---- what is taken there
 
-    pub none_is : HaveNoPlaces a (there_of t row) items → window_comes_to q s there c f ≡ None
-    none_is none = comes_none q s c f there a window.window window.reach_is items lawful d stand_for (there_of t row) same_space none
+    no_root : is_root q.roots (secondary f) ≡ false
+    no_root =
+        let own = at_secondary q.roots s growing.system growing.nested f (secondary f) listed bridge refl in
+        false_from_ne_true (is_root q.roots (secondary f)) (is_no_root q.roots s growing.system growing.nested f (secondary f) listed bridge own)
 
-    pub some_is : (places : List ℕ) → ArePlacesAround a (there_of t row) items places → (range : Range)
-        → ((others : List DecodedRange)
-        → (holding (holding a.window (there_of_class b.windows c t row)) (placed_ranges items places)).first ≡ fold min a.window.first (map (λ (r : DecodedRange). r.first) others)
-        → (holding (holding a.window (there_of_class b.windows c t row)) (placed_ranges items places)).last ≡ fold max a.window.last (map (λ (r : DecodedRange). r.last) others)
-        → decoded_range_of range ≡ grown_to c (decoded_range_of a.window) others)
-        → (window_comes_to q s there c f ≡ Some (decoded_range_of range)) × (taken_around q s there c f ≡ AllPlaced (at_places (map (asked_item_value s c) items) places))
-    some_is places are range grown =
-        comes_some q s c f there a window.window window.reach_is items lawful d stand_for (there_of t row) same_space places are (there_of_class b.windows c t row) same_class_there range grown
+    pub on_level : level_of q.roots b.secondary ≡ b.secondary + 1
+    on_level = ap (λ n. level_of q.roots n) (sym bus) ∙ ap (λ x. cond x 0 (secondary f + 1)) no_root ∙ ap (λ n. n + 1) bus
+
+    module _ (taken : List Range) (taken_is : (q : Request) (n : ℕ) → AreLines q.roots q.told.ranges g.lines → level_of q.roots n ≡ b.secondary + 1
+        → AreAlike (map decoded_range_of taken) (lines_on q (window_space c) n ++ map decoded_range_of (there_of t row))) where
+      alike : AreAlike (map decoded_range_of taken) (lines_on q (window_space c) (secondary f) ++ there_on q s there (λ r. are_same_space (window_space c) (part_space r)) (secondary f))
+      alike =
+          alike_trans (map decoded_range_of taken) (lines_on q (window_space c) (secondary f) ++ map decoded_range_of (there_of t row)) (lines_on q (window_space c) (secondary f) ++ there_on q s there (λ r. are_same_space (window_space c) (part_space r)) (secondary f))
+          (subst (λ n. AreAlike (map decoded_range_of taken) (lines_on q (window_space c) n ++ map decoded_range_of (there_of t row))) (sym bus)
+          (taken_is q b.secondary (subst (AreLines q.roots q.told.ranges) (sym lines_are) growing.lines) on_level))
+          (alike_append (lines_on q (window_space c) (secondary f)) (map decoded_range_of (there_of t row)) (there_on q s there (λ r. are_same_space (window_space c) (part_space r)) (secondary f))
+          (alike_same (map decoded_range_of (there_of t row)) (there_on q s there (λ r. are_same_space (window_space c) (part_space r)) (secondary f)) same_space))
+
+      -- ---- what it comes to
+
+      pub none_is : HaveNoPlaces a g taken items → window_comes_to q s there c f ≡ None
+      none_is none = comes_none q s c f there a window.window window.reach_is g items lawful d off stand_for taken alike none
+
+      pub some_is : (places : List ℕ) → ArePlacesAround a g taken items places → (range : Range)
+          → ((others : List DecodedRange)
+          → (holding (holding a.window (there_of_class b.windows c t row)) (placed_ranges items places)).first ≡ fold min a.window.first (map (λ (r : DecodedRange). r.first) others)
+          → (holding (holding a.window (there_of_class b.windows c t row)) (placed_ranges items places)).last ≡ fold max a.window.last (map (λ (r : DecodedRange). r.last) others)
+          → decoded_range_of range ≡ grown_to c (decoded_range_of a.window) others)
+          → (window_comes_to q s there c f ≡ Some (decoded_range_of range)) × (taken_around q s there c f ≡ AllPlaced (at_places (map (asked_item_value s c) items) places))
+      some_is places are range grown =
+          comes_some q s c f there a window.window window.reach_is g items lawful d off stand_for taken alike places are (there_of_class b.windows c t row) same_class_there range grown

@@ -1,11 +1,11 @@
 -- Places around a window: the first one from its first address on, or else the last one before it.
-use Rattle.std.specs.Prelude.{ℕ, ◌≡◌, ◌+◌, ◌-◌, ◌^◌, ◌<◌, ◌≤◌, nat_lt, if◌then◌else◌, false, List, [], ◌∷◌, map, length, slice_index_or, Option, None, Some, IfSome, ⊤}
+use Rattle.std.specs.Prelude.{ℕ, ◌≡◌, ◌+◌, ◌-◌, ◌^◌, ◌<◌, ◌≤◌, nat_lt, if◌then◌else◌, false, List, [], ◌∷◌, ◌++◌, map, length, slice_index_or, Option, None, Some, IfSome, ⊤}
+use Rattle.pci_spec.specs.Decoded.{Range as DecodedRange}
 use Rattle.plan_spec.specs.Place.{range_from}
 use Rattle.settle_spec.specs.FirstPlace.{HasNoPlace, first_place_in}
 use Rattle.settle_spec.specs.LastPlace.{last_place_in}
-use Rattle.settle_spec.specs.Items.{Item as ItemValue, AllPlaced, are_placed}
-use Rattle.settle_spec.specs.Growth.{place_around, place_each}
-use Rattle.pci_spec.specs.Decoded.{Range as DecodedRange}
+use Rattle.settle_spec.specs.Items.{Item as ItemValue, AllPlaced, are_placed, place_each}
+use Rattle.settle_spec.specs.Growth.{place_around}
 use Rattle.pci_base.specs.declared.range.Range.{Range}
 use Rattle.pci_base.specs.Ranges.{decoded_range_of}
 use Rattle.pci_settle.specs.declared.extent.Extent.{Extent}
@@ -17,6 +17,7 @@ use Rattle.pci_settle.specs.Spots.{extent_value, IsExtent, AreRisingRanges, IsPu
 use Rattle.pci_grow.specs.declared.around.Around.{Around}
 use Rattle.pci_grow.specs.declared.around.Search.{Search}
 use Rattle.pci_grow.specs.declared.last_place.LateSpot.{LateSpot}
+use Rattle.pci_grow.specs.Grounds.{Ground, IsBehindItem}
 use Rattle.pci_grow.specs.LastPlaces.{LastsRise, IsDescended}
 
 -- from a window's first address to the end of its reach
@@ -34,10 +35,10 @@ abbrev pub last_place_of : Option Range → List Range → Extent → Option ℕ
 last_place_of None taken e = None
 last_place_of (Some r) taken e = last_place_in (decoded_range_of r) (map decoded_range_of taken) (extent_value e)
 
--- what the definitions find
-abbrev pub find_around : Around → ItemValue → List DecodedRange → Option ℕ
-find_around a i taken =
-    place_around (decoded_range_of a.window) (decoded_range_of a.reach) taken i.extent
+-- what the definitions find, where some ranges are behind an item
+abbrev pub find_around : (ItemValue → List DecodedRange) → Around → ItemValue → List DecodedRange → Option ℕ
+find_around behind a i taken =
+    place_around (decoded_range_of a.window) (decoded_range_of a.reach) (behind i ++ taken) i.extent
 
 -- ---- how far searches have come
 
@@ -95,16 +96,25 @@ AreEndingAll items places count =
     (k : ℕ) (c : Item) → k < count
     → (range_from (slice_index_or places k 0) (slice_index_or items k c).extent.size).last < 2 ^ 64
 
+-- so it is of each item
+abbrev pub HaveBehind : Ground → (ItemValue → List DecodedRange) → List ItemValue → List Item → Type 0
+HaveBehind g behind values items =
+    (k : ℕ) (v : ItemValue) (c : Item) → k < length items
+    → IsBehindItem g (slice_index_or items k c) (behind (slice_index_or values k v))
+
 -- so items get these places around a window beside what is taken
-pub record ArePlacesAround (a : Around) (taken : List Range) (items : List Item) (places : List ℕ) : Type 0 where
-  pub placing : (values : List ItemValue) → HaveExtents values items
-      → place_each (find_around a) (map decoded_range_of taken) values
+pub record ArePlacesAround (a : Around) (g : Ground) (taken : List Range) (items : List Item)
+    (places : List ℕ) : Type 0 where
+  pub placing : (values : List ItemValue) (behind : ItemValue → List DecodedRange)
+      → HaveExtents values items → HaveBehind g behind values items
+      → place_each (find_around behind a) (map decoded_range_of taken) values
       ≡ AllPlaced (at_places values places)
   pub count : length places ≡ length items
   pub ends : AreEndingAll items places (length items)
 
 -- or one of them gets none
-abbrev pub HaveNoPlaces : Around → List Range → List Item → Type 0
-HaveNoPlaces a taken items =
-    (values : List ItemValue) → HaveExtents values items
-    → are_placed (place_each (find_around a) (map decoded_range_of taken) values) ≡ false
+abbrev pub HaveNoPlaces : Around → Ground → List Range → List Item → Type 0
+HaveNoPlaces a g taken items =
+    (values : List ItemValue) (behind : ItemValue → List DecodedRange)
+    → HaveExtents values items → HaveBehind g behind values items
+    → are_placed (place_each (find_around behind a) (map decoded_range_of taken) values) ≡ false

@@ -9,3 +9,6 @@ pub mod There
 pub mod Telling
 pub mod Reaching
 pub mod Putting
+pub mod OffLines
+pub mod Widest
+pub mod Grounds

@@ -1,15 +1,16 @@
 -- A window among what stands beside it, and tables of reaches.
-use Rattle.std.specs.Prelude.{◌≡◌, ℕ, ◌<◌, IsTrue, List, length, Option, Some, slice_get, slice_index_or}
+use Rattle.std.specs.Prelude.{◌≡◌, ℕ, ◌<◌, IsTrue, List, ◌++◌, length, Option, Some, slice_get, slice_index_or}
 use Rattle.std.specs.Option.{option_map}
 use Rattle.pci_spec.specs.Window.{WindowKind}
 use Rattle.pci_spec.specs.System.{System, Function, is_bridge}
 use Rattle.pci_spec.specs.Bus.{secondary}
 use Rattle.pci_spec.specs.Decoded.{Range}
+use Rattle.given_spec.specs.Told.{ToldRange}
 use Rattle.settle_spec.specs.Lists.{Lists, Request}
-use Rattle.settle_spec.specs.Parts.{addresses}
+use Rattle.settle_spec.specs.Parts.{FunctionPart, addresses}
 use Rattle.settle_spec.specs.Stands.{window_part, stands}
 use Rattle.settle_spec.specs.Items.{highest_in}
-use Rattle.settle_spec.specs.Reach.{standing_beside, reach}
+use Rattle.settle_spec.specs.Reach.{lines_beside, standing_beside, reach}
 use Rattle.stand_laws.specs.Reach.{WindowsAreLow}
 use Rattle.pci_base.specs.declared.range.Range.{Range as CodeRange}
 use Rattle.pci_base.specs.declared.window_kind.WindowKind.{WindowKind as CodeKind}
@@ -19,21 +20,29 @@ use Rattle.pci_base.specs.Ranges.{decoded_range_of}
 use Rattle.pci_function.specs.declared.record.Record.{Record}
 use Rattle.pci_place.specs.Items.{function_in}
 use Rattle.pci_settle.specs.declared.kept.Part.TheVariants as parts
+use Rattle.pci_settle.specs.declared.lines.Line.{Line}
+use Rattle.pci_settle.specs.Lists.{lists_value}
+use Rattle.pci_settle.specs.Lines.{AreLineRows, AreLines}
 use Rattle.pci_stand.specs.declared.region.Region.{Region}
 use Rattle.pci_stand.specs.Boards.{IsBoard}
-use Rattle.pci_grow.specs.declared.reach.Among.{Among}
+use Rattle.pci_grow.specs.declared.among.Among.{Among}
+use Rattle.pci_grow.specs.declared.reach.Board.{Board}
 use Rattle.pci_settle.specs.Tables.{told}
 use Rattle.pci_grow.specs.Rooms.{IsNearestBelow, IsNearestAbove}
 use Rattle.pci_grow.specs.Rows.{HasRows}
 
--- a window of a bridge with its neighbours among what stands beside it, and the highest address that it can hold
+-- what can keep a window off beside it: lines, and parts that stand
+abbrev pub beside_window : Request → System → FunctionPart → List Range
+beside_window q s w = lines_beside q w ++ standing_beside q s w
+
+-- a window of a bridge with its neighbours among what is beside it, and the highest address that it can hold
 pub record IsAmong (q : Request) (s : System) (c : WindowKind) (b : Function) (highest : ℕ)
     (a : Among) : Type 0 where
   pub window : addresses (window_part c b) ≡ decoded_range_of a.window
   pub highest_is : highest_in c b.probe ≡ highest
-  pub below : IsNearestBelow (decoded_range_of a.window) (standing_beside q s (window_part c b))
+  pub below : IsNearestBelow (decoded_range_of a.window) (beside_window q s (window_part c b))
       (option_map decoded_range_of a.before)
-  pub above : IsNearestAbove (decoded_range_of a.window) (standing_beside q s (window_part c b))
+  pub above : IsNearestAbove (decoded_range_of a.window) (beside_window q s (window_part c b))
       (option_map decoded_range_of a.behind)
 
 -- a table tells this of the windows of a class of the bridges to a bus
@@ -45,18 +54,35 @@ AreToldOver s c bus reach table =
 
 -- ---- all windows that stand
 
--- a lawful board with the rows of what stands, and no window above the highest address that it can hold
-pub record StandsInRows (q : Request) (s : System) (records : List Record) (lists : Lists)
+-- the lists, and the ranges that a text tells of, with their rows
+pub record Given : Type 0 where
+  pub lists : Lists
+  pub told : List ToldRange
+  pub lines : List Line
+
+-- those of the code
+abbrev pub given_value : Board → Given
+given_value b = record {
+  lists = lists_value b.lists.now;
+  told = b.told.now;
+  lines = b.lines.now;
+}
+
+-- a lawful board with the rows of what stands and of what is told, and no window above the highest address that it can hold
+pub record StandsInRows (q : Request) (s : System) (records : List Record) (given : Given)
     (rows : List Region) : Type 0 where
-  pub board : IsBoard q s records lists
+  pub board : IsBoard q s records given.lists
+  pub told_is : q.told.ranges ≡ given.told
+  pub line_rows : AreLineRows given.lines
+  pub lines : AreLines q.roots given.told given.lines
   pub low : WindowsAreLow q s
   pub has : HasRows q s rows
 
 -- and the window over a part is told
-pub record IsToldAbove (q : Request) (s : System) (records : List Record) (lists : Lists)
+pub record IsToldAbove (q : Request) (s : System) (records : List Record) (given : Given)
     (rows : List Region) (index : ℕ) (class : CodeKind)
     (table : List (ByKind (Option CodeRange))) : Type 0 where
-  pub stand : StandsInRows q s records lists rows
+  pub stand : StandsInRows q s records given rows
   pub over : (d : Region) → AreToldOver s (kind_value class) (slice_index_or rows index d).bus
       (reach q s (kind_value class)) table
 

@@ -16,6 +16,8 @@ use Rattle.pci_base.specs.declared.window_kind.ByKind.{ByKind}
 use Rattle.pci_base.specs.WindowKinds.{kind_value}
 use Rattle.pci_base.specs.Ranges.{decoded_range_of}
 use Rattle.pci_settle.specs.declared.kept.Kept.{Kept}
+use Rattle.pci_settle.specs.declared.lines.Line.{Line}
+use Rattle.pci_settle.specs.Lines.{AreLineRows, AreLines}
 use Rattle.pci_settle.specs.NewWindows.{IsTooLarge}
 use Rattle.pci_stand.specs.declared.region.Region.{Region}
 use Rattle.pci_stand.specs.Known.{AreParts}
@@ -27,12 +29,13 @@ use Rattle.pci_grow.specs.Reaches.{AreReaches}
 use Rattle.pci_grow.specs.Rows.{row_of, AreRows}
 use Rattle.pci_settle.specs.Tables.{told}
 
--- the parts of all functions, which of them stand, those row by row, and how far each window can grow
+-- the parts of all functions, which of them stand, those row by row, how far each window can grow, and the told ranges
 pub record Reaching : Type 0 where
   pub regions : List Region
   pub kept : List Kept
   pub rows : List Region
   pub reaches : List (ByKind (Option Range))
+  pub lines : List Line
 
 -- that of the code
 abbrev pub reaching_value : {A : Type 0} → CodeReaching A → Reaching
@@ -41,6 +44,7 @@ reaching_value x = record {
   kept = x.kept.items;
   rows = x.rows.items;
   reaches = x.reaches.items;
+  lines = x.lines.items;
 }
 
 -- so it is of a system: nothing is told of a window that doesn't stand
@@ -51,6 +55,8 @@ pub record IsReaching (q : Request) (s : System) (x : Reaching) : Type 0 where
   pub rise : IsNonDecreasingBy row_of x.rows
   pub count : length x.reaches ≡ length s
   pub told_reaches : AreReaches q s x.reaches
+  pub line_rows : AreLineRows x.lines
+  pub are_lines : AreLines q.roots q.told.ranges x.lines
   pub only : (k : ℕ) (f : Function) (class : CodeKind) → slice_get s k ≡ Some f
       → IsFalse (stands q s (window_part (kind_value class) f)) → told x.reaches k class ≡ None
 

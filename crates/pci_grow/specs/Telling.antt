@@ -25,6 +25,8 @@ use Rattle.pci_function.specs.declared.record.Bridge.{Bridge}
 use Rattle.pci_function.specs.declared.record.Record.{Record}
 use Rattle.pci_place.specs.Records.{IsRecordOf}
 use Rattle.pci_settle.specs.declared.extent.Extent.{Extent}
+use Rattle.pci_settle.specs.declared.lines.Line.{Line}
+use Rattle.pci_settle.specs.Lines.{AreLineRows, AreLines}
 use Rattle.pci_settle.specs.Buses.{Classing, classing_value, TellsClasses}
 use Rattle.pci_settle.specs.Kept.{kept_of, nothing_kept, AreKeptParts}
 use Rattle.pci_settle.specs.NewWindows.{HasNewWindows, HasMarkedWindows}
@@ -46,13 +48,14 @@ use Rattle.pci_grow.specs.There.{Tables, grown_told, there_told, place_told, in_
 
 -- ---- what is given
 
--- what windows come to is found by: what classes are told by, the new windows, the parts that stand, row by row, and how far
--- windows can grow
+-- what windows come to is found by: what classes are told by, the new windows, the parts that stand, row by row, how far windows
+-- can grow, and the ranges that a text tells of
 pub record Setting : Type 0 where
   pub classing : Classing
   pub windows : ByKind (List (Option Extent))
   pub rows : List Region
   pub reaches : List (ByKind (Option Range))
+  pub lines : List Line
 
 -- that of the code
 abbrev pub setting_value : {B : Type 0} → CodeSetting B → Setting
@@ -61,6 +64,7 @@ setting_value p = record {
   windows = p.windows.now;
   rows = p.rows.now;
   reaches = p.reaches.now;
+  lines = p.lines.now;
 }
 
 -- all parts that stand, by rows, and in a row by rising addresses
@@ -83,6 +87,8 @@ pub record IsGrowing (q : Request) (p : Setting) : Type 0 where
   pub system : IsSystem p.classing.system
   pub nested : IsNested q.roots p.classing.system
   pub standing : IsFalse q.anew
+  pub line_rows : AreLineRows p.lines
+  pub lines : AreLines q.roots q.told.ranges p.lines
   pub low : WindowsAreLow q p.classing.system
   pub left : TellsClasses p.classing q
   pub rows : AreStandingRows q p.classing.system p.rows

@@ -1,17 +1,21 @@
 //! The places of what has none behind a window, around it: the first one from its first address on, or else the last one
 //! before it.
-ghost use Rattle.std.specs.Prelude.{◌≡◌, ◌<◌, None, IfSome, IfNone, IfOk, List, length, map};
-ghost use Rattle.std.specs.List.{All};
+ghost use Rattle.std.specs.Prelude.{◌≡◌, ◌<◌, ◌≤◌, ◌++◌, None, IfSome, IfNone, IfOk, List, length, map};
+ghost use Rattle.std.specs.List.{All, AllWithin};
+ghost use Rattle.pci_spec.specs.Decoded.{Range as DecodedRange};
 ghost use Rattle.settle_spec.specs.FirstPlace.{first_place_in};
-ghost use Rattle.settle_spec.specs.Items.{Item as ItemValue};
-ghost use Rattle.settle_spec.specs.Growth.{place_around, place_each};
+ghost use Rattle.settle_spec.specs.Items.{Item as ItemValue, place_each};
+ghost use Rattle.settle_spec.specs.Growth.{place_around};
 ghost use Rattle.pci_base.specs.Ranges.{decoded_range_of};
 ghost use Rattle.pci_settle.specs.Spots.{extent_value, IsExtent, FirstsRise, IsBetweenTaken, spot_place};
+ghost use Rattle.pci_settle.specs.Lines.{AreLineRows};
 ghost use Rattle.pci_settle.specs.Placings.{placing_of};
 ghost use Rattle.pci_settle.specs.Turns.{HasExtent};
 ghost use Rattle.pci_grow.specs.LastPlaces.{LastsRise};
-ghost use Rattle.pci_grow.specs.Arounds.{onward, backward, last_place_of, find_around, IsSearch, IsBelowLast, AreInOrder, IsPutAt, HaveExtents, AreEndingAll};
+ghost use Rattle.pci_grow.specs.Grounds.{ground_value, IsBehindItem};
+ghost use Rattle.pci_grow.specs.Arounds.{onward, backward, last_place_of, find_around, IsSearch, IsBelowLast, AreInOrder, IsPutAt, HaveExtents, HaveBehind, AreEndingAll};
 
+use crate::ground::{Ground, can_hold, taken_for};
 use crate::last_place::{LateSpot, last_place, last_start};
 use pci_base::memory::OutOfMemory;
 use pci_base::range::Range;
@@ -184,35 +188,112 @@ fn take_next<A: Allocator>(
     Ok(Some(first))
 }
 
-/// Gives each item its place around a window, what is taken and those before it being taken. The answer is None where all
-/// have one, else the index of the first that has none.
-pub fn places_around<A: Allocator>(
-    around: &Around,
+/// The index of the first range that doesn't begin before an address.
+fn first_from(taken: &[Range], at: u64) -> usize
+    requires { FirstsRise taken.now }
+    ensures bound { result ≤ length taken.now }
+    ensures before { AllWithin (λ r. r.first < at) taken.now 0 result }
+    ensures after { AllWithin (λ r. at ≤ r.first) taken.now result (length taken.now) }
+{
+    taken.partition_point(|range| range.first < at)
+}
+
+/// Takes the next place around a window for an item, off what told ranges hold behind it.
+fn take_off<A: Allocator + Copy>(
+    alloc: A,
+    ground: &Ground,
+    taken: &mut Vec<Range, A>,
+    item: &Item,
+) -> Result<Option<u64>, OutOfMemory>
+    requires rows { AreLineRows ground.now.lines.now }
+    requires item { HasExtent item.now }
+    requires listed { AreInOrder taken.old.items }
+    ensures place { IfOk result (λ place. (held : List DecodedRange)
+        → IsBehindItem (ground_value ground.now) item.now held
+        → place ≡ place_around (decoded_range_of ground.now.around.window)
+        (decoded_range_of ground.now.around.reach) (held ++ map decoded_range_of taken.old.items)
+        (extent_value item.now.extent)) }
+    ensures taken { IfOk result (λ place. IfSome place
+        (IsPutAt taken.old.items taken.new.items item.now.extent)) }
+    ensures listed { AreInOrder taken.new.items }
+{
+    let all = taken_for(alloc, ground, taken.as_slice(), item)?;
+    let mut search = Search::begin(&ground.around, item.extent);
+    let Some(spot) = next_spot(&mut search, &ground.around, all.as_slice()) else {
+        return Ok(None);
+    };
+    let first = spot.at;
+    let last = first + (item.extent.size - 1);
+    let index = first_from(taken.as_slice(), first);
+    taken.insert(index, Range { first, last })?;
+    Ok(Some(first))
+}
+
+/// Takes the next place around a window for an item.
+fn take_one<A: Allocator + Copy>(
+    alloc: A,
+    ground: &Ground,
+    taken: &mut Vec<Range, A>,
+    item: &Item,
+    last: &mut Option<Search>,
+) -> Result<Option<u64>, OutOfMemory>
+    requires rows { AreLineRows ground.now.lines.now }
+    requires item { HasExtent item.now }
+    requires listed { AreInOrder taken.old.items }
+    requires search { IfSome last.old (IsSearch ground.now.around taken.old.items) }
+    ensures place { IfOk result (λ place. (held : List DecodedRange)
+        → IsBehindItem (ground_value ground.now) item.now held
+        → place ≡ place_around (decoded_range_of ground.now.around.window)
+        (decoded_range_of ground.now.around.reach) (held ++ map decoded_range_of taken.old.items)
+        (extent_value item.now.extent)) }
+    ensures taken { IfOk result (λ place. IfSome place
+        (IsPutAt taken.old.items taken.new.items item.now.extent)) }
+    ensures listed { AreInOrder taken.new.items }
+    ensures search { IfOk result (λ place. IfSome place
+        (λ _. IfSome last.new (IsSearch ground.now.around taken.new.items))) }
+{
+    if can_hold(ground, item) {
+        *last = None;
+        return take_off(alloc, ground, taken, item);
+    }
+    let mut search = search_for(*last, &ground.around, item.extent);
+    let place = take_next(&mut search, &ground.around, taken)?;
+    *last = Some(search);
+    Ok(place)
+}
+
+/// Gives each item its place around a window, what is taken and those before it being taken, and what told ranges hold behind
+/// it. The answer is None where all have one, else the index of the first that has none.
+pub fn places_around<A: Allocator + Copy>(
+    alloc: A,
+    ground: &Ground,
     taken: &mut Vec<Range, A>,
     items: &[Item],
     places: &mut [u64],
 ) -> Result<Option<usize>, OutOfMemory>
+    // those of a level are found by halving
+    requires rows { AreLineRows ground.now.lines.now }
     // without an address it has no last one, and of 0 there is no multiple
     requires items { All HasExtent items.now }
     // what is free lies between two that follow one another
     requires listed { AreInOrder taken.old.items }
     // an item's place stands at its index
     requires count { length places.old ≡ length items.now }
-    ensures placing { IfOk result (λ lack. (values : List ItemValue) → HaveExtents values items.now
-        → place_each (find_around around.now) (map decoded_range_of taken.old.items) values
+    ensures placing { IfOk result (λ lack. (values : List ItemValue) → (behind : ItemValue → List DecodedRange)
+        → HaveExtents values items.now → HaveBehind (ground_value ground.now) behind values items.now
+        → place_each (find_around behind ground.now.around) (map decoded_range_of taken.old.items) values
         ≡ placing_of values places.new lack) }
     ensures within { IfOk result (λ lack. IfSome lack (λ k. k < length items.now)) }
     // so the last address of each can be told
     ensures ends { IfOk result (λ lack. IfNone lack (AreEndingAll items.now places.new (length items.now))) }
 {
-    let mut last: Option<Search> = None;
+    let mut last = None;
     for index in 0..items.len() {
-        let mut search = search_for(last, around, items[index].extent);
-        let Some(at) = take_next(&mut search, around, taken)? else {
+        let place = take_one(alloc, ground, taken, &items[index], &mut last)?;
+        let Some(at) = place else {
             return Ok(Some(index));
         };
         places[index] = at;
-        last = Some(search);
     }
     Ok(None)
 }

@@ -1,19 +1,23 @@
 //! What a window comes to where it takes all that has no place behind it.
-ghost use Rattle.std.specs.Prelude.{◌≡◌, ℕ, ◌+◌, ◌<◌, true, IfOk, IfSome, IfNone, length, map, slice_index_or};
+ghost use Rattle.std.specs.Prelude.{◌≡◌, ℕ, ◌+◌, ◌++◌, ◌<◌, true, IfOk, IfSome, IfNone, length, map, slice_index_or};
 ghost use Rattle.std.specs.List.{All};
 ghost use Rattle.std.specs.List.Sorted.{IsNonDecreasingBy};
 ghost use Rattle.pci_spec.specs.System.{System, IsSystem, Function, Part, window_space};
 ghost use Rattle.pci_spec.specs.System.{Window as WindowPart};
+ghost use Rattle.settle_spec.specs.Lines.{lines_on};
 ghost use Rattle.settle_spec.specs.Lists.{Request};
+ghost use Rattle.pci_base.specs.Ranges.{decoded_range_of};
 ghost use Rattle.pci_base.specs.WindowKinds.{kind_value, by_kind};
 ghost use Rattle.pci_place.specs.Above.{AreAboves, system_in};
 ghost use Rattle.pci_settle.specs.Buses.{classing_value, bus_listing, AreInTurn};
 ghost use Rattle.pci_settle.specs.Kept.{kept_of, nothing_kept};
+ghost use Rattle.pci_settle.specs.Lines.{AreLineRows, AreLines, level_of};
 ghost use Rattle.pci_settle.specs.Own.{asked_item_value};
 ghost use Rattle.pci_settle.specs.Placings.{at_places};
 ghost use Rattle.pci_settle.specs.Turns.{HasExtent};
 ghost use Rattle.pci_stay.specs.Windows.{AreAllLawful};
 ghost use Rattle.pci_grow.specs.Arounds.{AreInOrder, ArePlacesAround, HaveNoPlaces};
+ghost use Rattle.pci_grow.specs.Grounds.{ground_value, AreAlike};
 ghost use Rattle.pci_settle.specs.PlaceTables.{IsItemPart};
 ghost use Rattle.pci_grow.specs.Putting.{ArePutOver, HasItemPart};
 ghost use Rattle.pci_grow.specs.Rows.{row_number, row_of};
@@ -22,7 +26,9 @@ ghost use Rattle.pci_grow.specs.Telling.{setting_value, IsGrowing, IsWindowOf, I
 
 use crate::around::{Around, places_around};
 use crate::beside::row;
+use crate::ground::Ground;
 use crate::halves::grown_to;
+use crate::in_order::in_order;
 use crate::put_all::put_all;
 use crate::there::{There, held_with, held_with_places, in_row, there_in};
 use pci_base::memory::OutOfMemory;
@@ -35,6 +41,7 @@ use pci_settle::bus::items_in_turn;
 use pci_settle::extent::Extent;
 use pci_settle::item::Item;
 use pci_settle::kept::{Kept, Part as KeptPart};
+use pci_settle::lines::{Line, add_lines_on};
 use pci_settle::listing::{Classing, Listing};
 use pci_settle::table::{WindowRanges, tell};
 use pci_stand::region::Region;
@@ -51,6 +58,8 @@ pub struct Setting<'a, 's, 'b, B: Allocator> {
     pub rows: &'b [Region],
     /// How far each window that stands can grow.
     pub reaches: &'b [WindowRanges],
+    /// The ranges that a text tells of, by rising levels.
+    pub lines: &'b [Line],
 }
 
 /// What a window comes to, and the items that are placed around it.
@@ -99,24 +108,57 @@ fn items_behind<A: Allocator + Copy, B: Allocator>(
     Ok(items)
 }
 
+/// What is taken on the bus behind a bridge in the space of a class, in order: what is there, and what told ranges hold.
+fn taken_behind<A: Allocator + Copy, B: Allocator>(
+    alloc: A,
+    setting: &Setting<B>,
+    there: &There<A>,
+    bus: u8,
+    class: WindowKind,
+) -> Result<Vec<Range, A>, OutOfMemory>
+    // rows are found by halves
+    requires order { IsNonDecreasingBy row_of setting.now.rows.now }
+    requires rows { AreLineRows setting.now.lines.now }
+    requires listed { AreInOrder (there_of (tables_of there.now)
+        (in_row (row_number (bus + 1) (window_space (kind_value class))) setting.now.rows.now)) }
+    ensures order { IfOk result (λ taken. AreInOrder taken.items) }
+    ensures taken { IfOk result (λ taken. (q : Request) → (n : ℕ)
+        → AreLines q.roots q.told.ranges setting.now.lines.now → level_of q.roots n ≡ bus + 1
+        → AreAlike (map decoded_range_of taken.items) (lines_on q (window_space (kind_value class)) n
+        ++ map decoded_range_of (there_of (tables_of there.now)
+        (in_row (row_number (bus + 1) (window_space (kind_value class))) setting.now.rows.now)))) }
+{
+    let taken = there_in(alloc, on_bus(setting.rows, bus, class), there)?;
+    if setting.lines.is_empty() {
+        return Ok(taken);
+    }
+    let mut all = Vec::new(alloc);
+    let level = u16::from(bus) + 1;
+    add_lines_on(&mut all, setting.lines, level, Space::of(class))?;
+    all.extend_from_slice(taken.as_slice())?;
+    let ordered = in_order(alloc, all)?;
+    Ok(ordered)
+}
+
 /// The places of items around a window beside what is taken; None where one of them has none.
 fn places_of<A: Allocator + Copy>(
     alloc: A,
-    around: &Around,
+    ground: &Ground,
     mut taken: Vec<Range, A>,
     items: &[Item],
 ) -> Result<Option<Vec<u64, A>>, OutOfMemory>
     // without an address it has no last one, and of 0 there is no multiple
     requires items { All HasExtent items.now }
+    requires rows { AreLineRows ground.now.lines.now }
     // what is free lies between two that follow one another
     requires listed { AreInOrder taken.items }
-    ensures some { IfOk result (λ places. IfSome places (λ table. ArePlacesAround around.now taken.items
-        items.now table.items)) }
-    ensures none { IfOk result (λ places. IfNone places (HaveNoPlaces around.now taken.items
-        items.now)) }
+    ensures some { IfOk result (λ places. IfSome places (λ table. ArePlacesAround ground.now.around
+        (ground_value ground.now) taken.items items.now table.items)) }
+    ensures none { IfOk result (λ places. IfNone places (HaveNoPlaces ground.now.around
+        (ground_value ground.now) taken.items items.now)) }
 {
     let mut places = vec![in alloc; 0; items.len()]?;
-    let lack = places_around(around, &mut taken, items, places.as_mut_slice())?;
+    let lack = places_around(alloc, ground, &mut taken, items, places.as_mut_slice())?;
     if lack.is_some() {
         return Ok(None);
     }
@@ -139,6 +181,7 @@ pub fn comes_to<A: Allocator + Copy, B: Allocator>(
     requires lawful { AreAllLawful setting.now.windows.now }
     // rows are found by halves
     requires order { IsNonDecreasingBy row_of setting.now.rows.now }
+    requires rows { AreLineRows setting.now.lines.now }
     // what is free lies between two that follow one another
     requires listed { AreInOrder (there_of (tables_of there.now)
         (in_row (row_number (bridge.now.secondary + 1) (window_space (kind_value class))) setting.now.rows.now)) }
@@ -153,12 +196,19 @@ pub fn comes_to<A: Allocator + Copy, B: Allocator>(
     ensures count { IfOk result (λ coming. IfSome coming (λ x. length x.places.items
         ≡ length x.items.items)) }
 {
-    let behind = on_bus(setting.rows, bridge.secondary, class);
-    let items = items_behind(alloc, setting, there, bridge.secondary, class)?;
-    let taken = there_in(alloc, behind, there)?;
-    let Some(places) = places_of(alloc, around, taken, items.as_slice())? else {
+    let bus = bridge.secondary;
+    let items = items_behind(alloc, setting, there, bus, class)?;
+    let taken = taken_behind(alloc, setting, there, bus, class)?;
+    let ground = Ground {
+        around: *around,
+        records: setting.classing.admitted.outline().records(),
+        lines: setting.lines,
+        class,
+    };
+    let Some(places) = places_of(alloc, &ground, taken, items.as_slice())? else {
         return Ok(None);
     };
+    let behind = on_bus(setting.rows, bus, class);
     let held = held_with(bridge, class, around.window, behind, there);
     let all = held_with_places(held, items.as_slice(), places.as_slice());
     let range = grown_to(class, around.window, all);

@@ -135,6 +135,7 @@ fn growing_by<'b, A: Allocator + Copy, B: Allocator>(
         mut kept,
         rows,
         reaches,
+        lines,
     } = reaching;
     let records = classing.admitted.outline().records();
     let regions = regions.as_slice();
@@ -143,6 +144,7 @@ fn growing_by<'b, A: Allocator + Copy, B: Allocator>(
         classing,
         windows,
         regions,
+        lines: lines.as_slice(),
     };
     hold_all(alloc, &behind, entries)?;
     let setting = Setting {
@@ -150,6 +152,7 @@ fn growing_by<'b, A: Allocator + Copy, B: Allocator>(
         windows,
         rows: rows.as_slice(),
         reaches: reaches.as_slice(),
+        lines: lines.as_slice(),
     };
     let mut there = begin(alloc, entries)?;
     find_there(alloc, &setting, &mut there)?;

@@ -3,13 +3,16 @@
 //! In the comments "Bridge 1.2" is the PCI-to-PCI Bridge Architecture Specification 1.2.
 #![tactic(auto)]
 
+pub mod among;
 pub mod around;
 pub mod begin;
 pub mod beside;
 pub mod coming;
 pub mod finding;
+pub mod ground;
 pub mod growing;
 pub mod halves;
+pub mod in_order;
 pub mod last_place;
 pub mod marks;
 pub mod put_all;

@@ -1,7 +1,6 @@
 //! How far a window that stands can grow: over the pages beside it that nothing else on its bus has.
 ghost use Rattle.std.specs.Prelude.{◌≡◌, ℕ, ◌+◌, ◌≤◌, ◌<◌, IsTrue, IfSome, List, length, map, slice_index_or};
 ghost use Rattle.std.specs.Option.{option_map};
-ghost use Rattle.std.specs.List.Sorted.{IsNonDecreasingBy};
 ghost use Rattle.pci_spec.specs.Decoded.{Range as DecodedRange};
 ghost use Rattle.pci_spec.specs.Window.{page_size};
 ghost use Rattle.pci_spec.specs.System.{System, Function, is_bridge};
@@ -12,8 +11,7 @@ ghost use Rattle.settle_spec.specs.Reach.{cut_to_halves, whole_pages as pages_of
 ghost use Rattle.pci_base.specs.Ranges.{decoded_range_of};
 ghost use Rattle.pci_base.specs.WindowKinds.{kind_value};
 ghost use Rattle.pci_base.specs.declared.window_kind.WindowKind.{WindowKind as CodeKind};
-ghost use Rattle.pci_grow.specs.Rooms.{first_behind, IsNearestBelow, IsNearestAbove};
-ghost use Rattle.pci_grow.specs.Rows.{row_of, AreApartInRows, AreBeside};
+ghost use Rattle.pci_grow.specs.Rooms.{first_behind};
 ghost use Rattle.pci_settle.specs.Tables.{told};
 ghost use Rattle.pci_tree.specs.Ways.{IsBridgeToBus};
 ghost use Rattle.pci_place.specs.Items.{function_in};
@@ -22,9 +20,9 @@ ghost use Rattle.pci_settle.specs.Lists.{lists_value};
 ghost use Rattle.pci_settle.specs.declared.kept.Part.TheVariants.{Window};
 ghost use Rattle.pci_stand.specs.declared.region.Region.{Region as CodeRegion};
 ghost use Rattle.pci_stand.specs.Boards.{IsBoard, IsKnown};
-ghost use Rattle.pci_grow.specs.Reaches.{IsAmong, AreToldOver, StandsInRows, IsToldAbove, AreFirstReaches, TellsSameOutside, AreReaches};
+ghost use Rattle.pci_grow.specs.Reaches.{IsAmong, given_value, AreToldOver, StandsInRows, IsToldAbove, AreFirstReaches, TellsSameOutside, AreReaches};
 
-use crate::beside::{before, behind};
+use crate::among::{Among, with_neighbours};
 use crate::halves::{cut_to_halves, whole_pages};
 use crate::room::{between, no_higher, room_on_root};
 use pci_base::range::Range;
@@ -32,10 +30,12 @@ use pci_base::slot::BUSES;
 use pci_base::window_kind::WindowKind;
 use pci_function::record::Record;
 use pci_settle::kept::Part;
+use pci_settle::lines::Line;
 use pci_settle::list::Lists;
 use pci_settle::new_window::highest_in;
 use pci_settle::table::{WindowRanges, tell, told_of};
 use pci_stand::region::Region;
+use pci_told::told_range::ToldRange;
 
 /// The whole pages of what is free around a window, up to which it can grow.
 fn pages_around(class: WindowKind, window: Range, free: Range) -> Range
@@ -47,39 +47,6 @@ fn pages_around(class: WindowKind, window: Range, free: Range) -> Range
     match whole_pages(class, free) {
         Some(pages) => cut_to_halves(class, window, pages),
         None => window,
-    }
-}
-
-/// A window and the parts next to it in its row.
-#[derive(Clone, Copy, Debug)]
-pub struct Among {
-    pub window: Range,
-    pub before: Option<Range>,
-    pub behind: Option<Range>,
-}
-
-/// A part and those next to it in its row.
-pub fn with_neighbours(rows: &[Region], index: usize) -> Among
-    requires index { index < length rows.now }
-    // those of a row follow one another
-    requires order { IsNonDecreasingBy row_of rows.now }
-    ensures window { (d : Region) → result.window ≡ (slice_index_or rows.now index d).range }
-    // what ends before it isn't at the end of 64 bits
-    ensures apart { AreApartInRows rows.now
-        → IfSome result.before (λ other. other.last < result.window.first) }
-    ensures below { (beside : List DecodedRange) → AreApartInRows rows.now
-        → AreBeside rows.now index beside
-        → IsNearestBelow (decoded_range_of result.window) beside
-        (option_map decoded_range_of result.before) }
-    ensures above { (beside : List DecodedRange) → AreApartInRows rows.now
-        → AreBeside rows.now index beside
-        → IsNearestAbove (decoded_range_of result.window) beside
-        (option_map decoded_range_of result.behind) }
-{
-    Among {
-        window: rows[index].range,
-        before: before(rows, index),
-        behind: behind(rows, index),
     }
 }
 
@@ -107,6 +74,10 @@ pub struct Board<'a, 'l> {
     /// The bridge over each bus, by its place among the records; None on a root.
     pub over: &'a [Option<usize>; BUSES],
     pub lists: &'a Lists<'l>,
+    /// The ranges that a text tells of, in its order.
+    pub told: &'a [ToldRange],
+    /// The same by rising levels.
+    pub lines: &'a [Line],
 }
 
 /// What a window is in: a range of its root, or what the window above it can reach, as a table tells it.
@@ -158,9 +129,9 @@ fn reach_of(
     requires part { (d : Region) → (slice_index_or rows.now index d).part ≡ Window class }
     // so a window is in its room, and no address of its reach is past 64 bits
     requires told { (q : Request) × (s : System) × IsToldAbove q s board.now.records.now
-        (lists_value board.now.lists.now) rows.now index class reaches.now }
+        (given_value board.now) rows.now index class reaches.now }
     ensures { (q : Request) → (s : System) → (d : Region) → IsToldAbove q s board.now.records.now
-        (lists_value board.now.lists.now) rows.now index class reaches.now
+        (given_value board.now) rows.now index class reaches.now
         → decoded_range_of result ≡ reach q s (kind_value class)
         (function_in s (slice_index_or rows.now index d).function) }
 {
@@ -171,8 +142,10 @@ fn reach_of(
     if region.fixed {
         return region.range;
     }
-    let highest = highest_of(&board.records[region.function], class);
-    reach_in(class, &with_neighbours(rows, index), highest, room)
+    let record = &board.records[region.function];
+    let among = with_neighbours(rows, index);
+    let among = among.beside_lines(board.told, board.lines, region, record.slot);
+    reach_in(class, &among, highest_of(record, class), room)
 }
 
 /// Tells the reach of one part of the rows, where it is a window.
@@ -184,11 +157,11 @@ fn tell_reach(board: &Board, rows: &[Region], index: usize, reaches: &mut [Windo
     requires index { index < length rows.now }
     // the windows before it are told, and the one over it is among them
     requires told { (q : Request) × (s : System) × StandsInRows q s board.now.records.now
-        (lists_value board.now.lists.now) rows.now
+        (given_value board.now) rows.now
         × AreFirstReaches q s rows.now index reaches.old }
     ensures count { length reaches.new ≡ length reaches.old }
     ensures told { (q : Request) → (s : System) → StandsInRows q s board.now.records.now
-        (lists_value board.now.lists.now) rows.now
+        (given_value board.now) rows.now
         → AreFirstReaches q s rows.now index reaches.old
         → AreFirstReaches q s rows.now (index + 1) reaches.new }
     ensures others { (k : ℕ) → (class : CodeKind)
@@ -212,10 +185,10 @@ pub fn find_reaches(board: &Board, rows: &[Region], reaches: &mut [WindowRanges]
     requires count { length reaches.old ≡ length board.now.records.now }
     // each window is in its room, so no address of a reach is past 64 bits
     requires rows { (q : Request) × (s : System) × StandsInRows q s board.now.records.now
-        (lists_value board.now.lists.now) rows.now }
+        (given_value board.now) rows.now }
     ensures count { length reaches.new ≡ length reaches.old }
     ensures reaches { (q : Request) → (s : System) → StandsInRows q s board.now.records.now
-        (lists_value board.now.lists.now) rows.now → AreReaches q s reaches.new }
+        (given_value board.now) rows.now → AreReaches q s reaches.new }
     // nothing is told of a window that isn't in the rows
     ensures others { TellsSameOutside rows.now (length rows.now) reaches.old reaches.new }
 {

@@ -11,6 +11,7 @@ use crate::reach::{Board, find_reaches};
 use pci_base::memory::OutOfMemory;
 use pci_base::slot::Slot;
 use pci_settle::kept::Kept;
+use pci_settle::lines::{Line, lines};
 use pci_settle::list::Lists;
 use pci_settle::table::{WindowRanges, nothing_told};
 use pci_stand::collect::regions;
@@ -32,6 +33,8 @@ pub struct Reaching<A: Allocator> {
     pub rows: Vec<Region, A>,
     /// How far each window that stands can grow.
     pub reaches: Vec<WindowRanges, A>,
+    /// The ranges that a text tells of, by rising levels.
+    pub lines: Vec<Line, A>,
 }
 
 /// What stands, and how far its windows can grow. `fixed` are the slots of functions whose registers may not be written.
@@ -45,14 +48,19 @@ pub fn all_reaches<A: Allocator + Copy, B: Allocator>(
         (asked admitted.now.roots (demand_value lists.now) fixed.now) (system_in admitted.now)
         (reaching_value reaching)) }
 {
-    let records = admitted.outline().records();
+    let outline = admitted.outline();
+    let records = outline.records();
+    let roots = outline.roots();
     let regions = regions(alloc, admitted, lists, fixed)?;
     let kept = standing(alloc, admitted, lists, fixed)?;
     let rows = standing_in_rows(alloc, regions.as_slice(), kept.as_slice())?;
+    let lines = lines(alloc, lists.told, &roots)?;
     let board = Board {
         records,
         over: &bridges_over(records),
         lists,
+        told: lists.told.as_slice(),
+        lines: lines.as_slice(),
     };
     let mut reaches = nothing_told(alloc, records.len())?;
     find_reaches(&board, rows.as_slice(), reaches.as_mut_slice());
@@ -61,6 +69,7 @@ pub fn all_reaches<A: Allocator + Copy, B: Allocator>(
         kept,
         rows,
         reaches,
+        lines,
     })
 }
 

@@ -41,3 +41,6 @@ returns-clause-comes g c = λ q number count next.
     (window_of (setting_value c.args.setting.now) (tables_of c.args.there.now) c.args.region.now c.args.class c.requires.window q number count next x is c.in-Some.bridge (ap (λ (y : Record). y.bridge) c.index-records-region.is ∙ c.in-Some.is)
     c.in-Some-told_of.reach (sym c.in-Some-told_of.ensures))
     (there_told_is (setting_value c.args.setting.now) (tables_of c.args.there.now) c.args.region.now c.args.class c.requires.window q number count next)
+
+pub comes_to-requires-clause-rows : goal.comes_to-requires-clause-rows
+comes_to-requires-clause-rows g c = c.requires.next.is.growing.line_rows

@@ -8,6 +8,7 @@ use Rattle.settle_spec.specs.Kept.{is_kept}
 use Rattle.pci_place.specs.Above.{system_in}
 use Rattle.pci_place.proofs.Records.{lent, same_count}
 use Rattle.pci_settle.specs.Buses.{classing_value}
+use Rattle.pci_settle.specs.Lines.{AreLineRows}
 use Rattle.pci_settle.specs.Lists.{lists_value}
 use Rattle.pci_stand.specs.Known.{AreParts}
 use Rattle.pci_stand.specs.Passing.{CanBeNoted, AreStanding}
@@ -39,11 +40,14 @@ hold_all-requires-clause-ready g c =
     subst (All (CanBeNoted (length entries))) (sym c.as_slice-regions.ensures.value)
     (ready some.0 s x.regions some.1.reaching.parts x.regions (IsPermutation-refl x.regions) (length entries) (ap length c.as_mut_slice-entries.ensures.value ∙ some.1.reaching.stand.count))
 
+pub hold_all-requires-clause-lines : goal.hold_all-requires-clause-lines
+hold_all-requires-clause-lines g c = subst AreLineRows (sym c.as_slice.ensures.value) c.requires.ready.1.reaching.line_rows
+
 pub hold_all-requires-clause-count : goal.hold_all-requires-clause-count
 hold_all-requires-clause-count g c = ap length c.as_mut_slice-entries.ensures.value ∙ c.requires.ready.1.reaching.stand.count
 
 pub find_there-requires-clause-order : goal.find_there-requires-clause-order
-find_there-requires-clause-order g c = subst (IsNonDecreasingBy row_of) (sym c.as_slice.ensures.value) c.requires.ready.1.reaching.rise
+find_there-requires-clause-order g c = subst (IsNonDecreasingBy row_of) (sym c.as_slice-2.ensures.value) c.requires.ready.1.reaching.rise
 
 pub find_there-requires-clause-begun : goal.find_there-requires-clause-begun
 find_there-requires-clause-begun g c =
@@ -54,11 +58,11 @@ find_there-requires-clause-begun g c =
     let w = c.args.windows.now in
     let x = reaching_value c.args.reaching in
     let stand = subst (AreStanding some.0 s) (sym c.as_mut_slice-entries.ensures.value) some.1.reaching.stand in
-    let holding = c.in_ok-hold_all.ensures some.0 (asking_of some.0 p l w x some.1 c.as_slice-regions.result.now c.as_slice-regions.ensures.value) stand in
+    let holding = c.in_ok-hold_all.ensures some.0 (asking_of some.0 p l w x some.1 c.as_slice-regions.result.now c.as_slice.result.now c.as_slice-regions.ensures.value c.as_slice.ensures.value) stand in
     let e = c.in_ok-there.ensures in
     record {
       request = some.0;
-      growing = growing_of some.0 p l w x some.1 c.as_slice.result.now c.as_slice-2.result.now c.as_slice.ensures.value c.as_slice-2.ensures.value;
+      growing = growing_of some.0 p l w x some.1 c.as_slice-2.result.now c.as_slice-3.result.now c.as_slice-4.result.now c.as_slice-2.ensures.value c.as_slice-3.ensures.value c.as_slice-4.ensures.value;
       begun = begun_of some.0 p l w x some.1 (tables_of c.in_ok-there.there) c.hold_all.new.table holding e.kept e.grown e.places e.grown_count e.places_count;
     }
 
@@ -71,10 +75,10 @@ stay_grown-requires-clause-coming g c =
     let w = c.args.windows.now in
     let x = reaching_value c.args.reaching in
     let stand = subst (AreStanding some.0 s) (sym c.as_mut_slice-entries.ensures.value) some.1.reaching.stand in
-    let holding = c.in_ok-hold_all.ensures some.0 (asking_of some.0 p l w x some.1 c.as_slice-regions.result.now c.as_slice-regions.ensures.value) stand in
+    let holding = c.in_ok-hold_all.ensures some.0 (asking_of some.0 p l w x some.1 c.as_slice-regions.result.now c.as_slice.result.now c.as_slice-regions.ensures.value c.as_slice.ensures.value) stand in
     let e = c.in_ok-there.ensures in
     let are = c.in_ok-find_there.ensures some.0
-    (growing_of some.0 p l w x some.1 c.as_slice.result.now c.as_slice-2.result.now c.as_slice.ensures.value c.as_slice-2.ensures.value)
+    (growing_of some.0 p l w x some.1 c.as_slice-2.result.now c.as_slice-3.result.now c.as_slice-4.result.now c.as_slice-2.ensures.value c.as_slice-3.ensures.value c.as_slice-4.ensures.value)
     (begun_of some.0 p l w x some.1 (tables_of c.in_ok-there.there) c.hold_all.new.table holding e.kept e.grown e.places e.grown_count e.places_count) in
     let records = c.records-records.result.now in
     ap length c.as_mut_slice.ensures.value ∙ are.grown ∙ same_count s records (lent s records c.records-records.ensures.value c.outline.ensures.records)
@@ -103,10 +107,10 @@ returns g c = λ q can.
     let x = reaching_value c.args.reaching in
     let stand = subst (AreStanding q s) (sym c.as_mut_slice-entries.ensures.value) can.reaching.stand in
     let regions = c.as_slice-regions.result.now in
-    let holding = c.in_ok-hold_all.ensures q (asking_of q p l w x can regions c.as_slice-regions.ensures.value) stand in
+    let holding = c.in_ok-hold_all.ensures q (asking_of q p l w x can regions c.as_slice.result.now c.as_slice-regions.ensures.value c.as_slice.ensures.value) stand in
     let e = c.in_ok-there.ensures in
     let are = c.in_ok-find_there.ensures q
-    (growing_of q p l w x can c.as_slice.result.now c.as_slice-2.result.now c.as_slice.ensures.value c.as_slice-2.ensures.value)
+    (growing_of q p l w x can c.as_slice-2.result.now c.as_slice-3.result.now c.as_slice-4.result.now c.as_slice-2.ensures.value c.as_slice-3.ensures.value c.as_slice-4.ensures.value)
     (begun_of q p l w x can (tables_of c.in_ok-there.there) c.hold_all.new.table holding e.kept e.grown e.places e.grown_count e.places_count) in
     let t = tables_of c.find_there.new.there in
     let records = c.records-records.result.now in

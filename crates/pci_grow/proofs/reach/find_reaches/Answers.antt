@@ -1,12 +1,12 @@
 use Rattle.std.proofs.Common.{refl, ◌∙◌}
-use Rattle.pci_settle.specs.Lists.{lists_value}
+use Rattle.pci_grow.specs.Reaches.{given_value}
 use Rattle.pci_grow.proofs.FoundReaches.{none_outside, all_outside, more_outside, none_told, all_told}
 use Rattle.pci_grow.proofs.reach.find_reaches.Goals as goal
 
 pub loop-index-init : goal.loop-index-init
 loop-index-init c = record {
   size = refl;
-  told = λ q s is. none_told q s c.args.board.now.records.now (lists_value c.args.board.now.lists.now) c.args.rows.now is c.args.reaches.now;
+  told = λ q s is. none_told q s c.args.board.now.records.now (given_value c.args.board.now) c.args.rows.now is c.args.reaches.now;
   others = none_outside c.args.rows.now c.args.reaches.now;
 }
 
@@ -17,7 +17,7 @@ tell_reach-requires-clause-told c =
 
 pub returns-clause-reaches : goal.returns-clause-reaches
 returns-clause-reaches c = λ q s is.
-    all_told q s c.args.board.now.records.now (lists_value c.args.board.now.lists.now) c.args.rows.now is c.loop-index.index c.loop-index.reaches c.loop-index-test.false (c.loop-index.invariant.told q s is)
+    all_told q s c.args.board.now.records.now (given_value c.args.board.now) c.args.rows.now is c.loop-index.index c.loop-index.reaches c.loop-index-test.false (c.loop-index.invariant.told q s is)
 
 pub loop-index-preserved : goal.loop-index-preserved
 loop-index-preserved c = record {

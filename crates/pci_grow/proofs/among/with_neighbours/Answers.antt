@@ -1,5 +1,5 @@
 use Rattle.pci_grow.proofs.Neighbours.{before_ends, nearest_below, nearest_above}
-use Rattle.pci_grow.proofs.reach.with_neighbours.Goals as goal
+use Rattle.pci_grow.proofs.among.with_neighbours.Goals as goal
 
 pub returns-clause-apart : goal.returns-clause-apart
 returns-clause-apart c = λ apart. before_ends _ _ _ c.requires.index apart _ c.before-2.ensures.some
