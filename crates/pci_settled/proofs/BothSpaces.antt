@@ -25,6 +25,8 @@ use Rattle.pci_settle.specs.Buses.{AreWindows}
 use Rattle.pci_settle.specs.declared.over.Left.{Left}
 use Rattle.pci_settle.specs.Over.{AreOpenOver}
 use Rattle.pci_settle.specs.Keeping.{TellsKept}
+use Rattle.pci_settle.specs.declared.lines.Line.{Line}
+use Rattle.pci_settle.specs.Lines.{AreLines}
 use Rattle.pci_settled.specs.declared.anew.Unplaced.{Unplaced}
 use Rattle.pci_settled.specs.declared.anew.Unplaced.TheVariants as unplaced
 use Rattle.pci_settled.specs.declared.candidate.Candidate.{Candidate}
@@ -122,7 +124,8 @@ still_none s start table count none kept k f d part at there of =
     let inside = slice_get_within s k f at in
     kept.others k f d part at there (λ io. not_both (space_of f part) io of) ∙ none k d part (omega (arith, inside, count))
 
-module _ (roots : List ℕ) (s : System) (d : Demand) (t : Terms) (terms : AreTerms d t) (left : Left) (held : List Held) (are : AreHeldIn roots s d.lists left.kept.now left.grown.now held) (st : Staying) (left_is : st.left ≡ left) (held_is : st.held.now ≡ held) where
+module _ (roots : List ℕ) (s : System) (d : Demand) (t : Terms) (terms : AreTerms d t) (left : Left) (held : List Held) (are : AreHeldIn roots s d.lists left.kept.now left.grown.now held) (lines : List Line) (rows : AreLines roots d.told.ranges lines)
+    (st : Staying) (left_is : st.left ≡ left) (held_is : st.held.now ≡ held) (lines_is : st.lines.now ≡ lines) where
   same_lists : (q : Request) (keep : Kept) → IsLeaving q keep roots s d left → q.lists ≡ d.lists
   same_lists q keep leaving = ap (λ (x : Demand). x.lists) leaving.demands
 
@@ -135,6 +138,9 @@ module _ (roots : List ℕ) (s : System) (d : Demand) (t : Terms) (terms : AreTe
     };
     keeps_is = subst (TellsKept q s keep) (sym left_is) leaving.keeps_is;
     held_is = subst (AreHeld q s keep) (sym held_is) (are q keep leaving.rooted (same_lists q keep leaving) leaving.keeps_is.stays_are leaving.keeps_is.ranges_are);
+    lines_are = subst (AreLines q.roots q.told.ranges) (sym lines_is)
+        (subst (λ ranges. AreLines q.roots ranges lines) (sym (ap (λ (x : Demand). x.told.ranges) leaving.demands))
+        (subst (λ rs. AreLines rs d.told.ranges lines) (sym leaving.rooted) rows));
   }
 
   pub request_known : CanBeLeft roots s d left → KnowsRequest (setting roots s t st) d.lists

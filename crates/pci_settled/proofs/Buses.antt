@@ -1,12 +1,11 @@
 -- The places of a bus, by what the search in its lists answers.
 use Rattle.std.proofs.Common.{◌≡◌, ℕ, ◌+◌, ◌<◌, ◌≤◌, List, ◌++◌, map, length, take, drop, append-nil, arith, sym, ◌∙◌, ap, subst, refl, cond, Option, None, Some, true, ◌^◌}
 use Rattle.std.specs.Option.{IfSome, IfNone, option_map}
-use Rattle.std.specs.List.{All, Contains, filter, slice_get}
-use Rattle.std.specs.List.Sorted.{IsPermutation}
+use Rattle.std.specs.List.{All, Contains, slice_get}
 use Rattle.std.proofs.lemmas.List.{take_all}
 use Rattle.std.proofs.lemmas.List.Elements.{All-contains}
 use Rattle.std.proofs.lemmas.Option.{slice_get-get_or}
-use Rattle.pci_spec.specs.Decoded.{Range as DecodedRange}
+use Rattle.pci_spec.specs.Decoded.{Range as DecodedRange, HasRecords}
 use Rattle.pci_spec.specs.System.{System, Function, Space, Window, IsSystem, is_bridge}
 use Rattle.pci_spec.specs.Bus.{secondary, is_root, IsNested}
 use Rattle.pci_spec.proofs.Members.{in_map_to, in_map_from, IsMade}
@@ -14,17 +13,19 @@ use Rattle.plan_spec.specs.Place.{range_from}
 use Rattle.settle_spec.specs.Lists.{Lists, Request}
 use Rattle.settle_spec.specs.FirstPlace.{else_at}
 use Rattle.settle_spec.specs.Stands.{window_part}
-use Rattle.settle_spec.specs.Items.{Item as ItemValue, Placing, taken_by}
-use Rattle.settle_spec.specs.Growth.{place_each}
+use Rattle.settle_spec.specs.Items.{Item as ItemValue, Placing, taken_by, place_each}
+use Rattle.settle_spec.specs.Lines.{lines_behind}
 use Rattle.settle_spec.specs.Places.{placed_of}
 use Rattle.settle_spec.specs.Kept.{Kept}
-use Rattle.settle_spec.specs.Keeping.Places.{space_items, taken_at, place_of_item, placing_on}
+use Rattle.settle_spec.specs.Keeping.Places.{space_items, taken_at, placing_on}
 use Rattle.settle_spec.proofs.SameTaken.{same_first_place}
 use Rattle.settle_laws.proofs.Keeping.Buses.{of_space, placing_by_bus}
 use Rattle.pci_base.specs.declared.range.Range.{Range}
 use Rattle.pci_base.specs.declared.window_kind.ByKind.{ByKind}
 use Rattle.pci_base.specs.Ranges.{decoded_range_of}
 use Rattle.pci_base.specs.WindowKinds.{by_kind, kind_value}
+use Rattle.pci_function.specs.declared.record.Record.{Record}
+use Rattle.pci_function.specs.Values.{record_value}
 use Rattle.pci_place.specs.Items.{no_function}
 use Rattle.pci_settle.specs.declared.own.Terms.{Terms}
 use Rattle.pci_settle.specs.declared.place.Places.{Places}
@@ -38,18 +39,18 @@ use Rattle.pci_settle.proofs.AllPlaced.{FindsTheSame, each_same_taken}
 use Rattle.pci_settled.specs.declared.candidate.Candidate.{Candidate}
 use Rattle.pci_settled.specs.declared.candidate.SpaceWindows.{SpaceWindows}
 use Rattle.pci_settled.specs.declared.staying.Staying.{Staying}
-use Rattle.pci_settled.specs.Candidates.{candidate_value, HasAddressAndAlignment, IsWithin, HasSpaceWindows, KnowsWindows, AreCandidatesOf, pass}
+use Rattle.pci_settled.specs.Candidates.{candidate_value, HasAddressAndAlignment, IsWithin, HasPart, HasSpaceWindows, KnowsWindows, AreCandidatesOf, pass}
 use Rattle.pci_settled.specs.Columns.{told_if, told_place, list_number, candidate_wanted, list_at, HasRootColumns}
-use Rattle.pci_settled.specs.BusPlaces.{bus_placing, AreInTable, AreToldEnding, ArePlacesIn}
+use Rattle.pci_settled.specs.BusPlaces.{bus_placing, AreInTable, AreToldEnding, place_beside, ArePlacesIn}
+use Rattle.pci_settled.specs.Taken.{AreTakenAt, AreBehindTo, AreBehindEach}
 use Rattle.pci_settled.specs.Spaces.{grown_by}
 use Rattle.pci_settled.proofs.Notes.{drop_none}
 use Rattle.pci_settled.proofs.Parts.{in_space}
 use Rattle.pci_settled.proofs.Wanted.{no_candidate, none_past, are_within, are_parts, wanted_lawful, are_wanted, lacking_less, are_ending}
 use Rattle.pci_settled.proofs.Told.{nothing_told, grown_is}
 use Rattle.pci_settled.proofs.Columns.{root_lists_for}
-use Rattle.pci_stand.specs.Held.{held_range, is_level_on}
+use Rattle.pci_settled.proofs.TakenBeside.{same_listed, same_after}
 use Rattle.pci_settled.specs.Staying.{IsStaying, setting}
-use Rattle.pci_stand.proofs.Helds.{same_taken}
 
 -- what a slice of a list gives back
 pub slice_back : {X : Type 0} (len : ℕ) (new old : List X) → length new ≡ length old → len ≡ length old → take len (new ++ drop (length new) old) ≡ new
@@ -98,30 +99,34 @@ module _ (roots : List ℕ) (s : System) (system : IsSystem s) (space : Space) (
               ends = are_ending q0 s k0 system space bus candidates here told grown wanted (wanted_own q0 k0 known.stay) places lack no_candidate (subst (λ xs. IfNone lack (AreEnding xs places (length xs))) ws_are ends);
             }
 
-        pub places_in : (n : ℕ) → n ≡ cond (is_root rs bus) 0 (bus + 1) → All HasAddressAndAlignment candidates → (lists : List (List Range)) (taken : List Range) → IsPermutation (map held_range (filter (is_level_on n space) st.held.now)) taken
-            → ((find : ItemValue → List DecodedRange → Option ℕ) (items : List ItemValue) → AreWanted lists find items ws → place_each find (map decoded_range_of taken) items ≡ placing_of items places lack)
-            → ArePlacesIn (pass roots s space t st w) bus lists grown (bus_placing s candidates final lack)
-        places_in n n_is lawful lists taken is_taken placing q keep placed stay has for =
-            let items = are q keep stay has in
-            let values = map (candidate_value s) candidates in
-            let find = place_of_item q s keep placed in
-            let want = subst (AreWanted lists find values) (sym ws_are) (are_wanted q s keep system space bus candidates items told grown wanted (wanted_own q keep stay) placed lists for no_candidate) in
-            ap (λ ps. bus_placing s candidates ps lack) final_is
-            ∙ sym (placing find values want)
-            ∙ each_same_taken find values (map decoded_range_of taken) (taken_at q s keep space bus) (finds items)
-            (same_taken st.held.now n space taken is_taken q s keep stay.held_is bus (n_is ∙ ap (λ xs. cond (is_root xs bus) 0 (bus + 1)) (rs_are ∙ sym stay.left.rooted)))
-            ∙ ap (place_each find (taken_at q s keep space bus)) items
-          where
-            finds : map (candidate_value s) candidates ≡ space_items q s keep space bus → (i : ItemValue) → Contains (map (candidate_value s) candidates) i → FindsTheSame (place_of_item q s keep placed) i
-            finds items i listed xs ys same =
-                let made : IsMade (candidate_value s) candidates i = in_map_to (candidate_value s) candidates i listed in
-                let c = made.from in
-                let value = candidate_value s c in
-                let in_items = subst (λ vs. Contains vs value) items (in_map_from (candidate_value s) candidates c made.has) in
-                subst (λ j. place_of_item q s keep placed j xs ≡ place_of_item q s keep placed j ys) made.is
-                (for c in_items xs
-                ∙ ap (else_at (told_place told grown c)) (same_first_place (list_at lists (list_number q.roots value)) xs ys value.extent (All-contains HasAddressAndAlignment candidates c lawful made.has).alignment same)
-                ∙ sym (for c in_items ys))
+        module _ (records : List Record) (has : HasRecords s (map record_value records)) (behind bs : List (List Range)) (bs_is : bs ≡ behind) (behind_are : AreBehindEach records st.lines.now candidates behind) where
+          pub places_in : (n : ℕ) → n ≡ cond (is_root rs bus) 0 (bus + 1) → All HasAddressAndAlignment candidates → (lists : List (List Range)) (taken : List Range) → AreTakenAt st n space taken
+              → ((find : ItemValue → List DecodedRange → Option ℕ) (items : List ItemValue) → AreWanted lists bs find items ws → place_each find (map decoded_range_of taken) items ≡ placing_of items places lack)
+              → ArePlacesIn (pass roots s space t st w) bus lists grown (bus_placing s candidates final lack)
+          places_in n n_is lawful lists taken is_taken placing q keep placed stay windows for =
+              let items = are q keep stay windows in
+              let values = map (candidate_value s) candidates in
+              let find = place_beside q s keep placed in
+              let parts : All (HasPart s) candidates = are_parts q s keep system space bus candidates items in
+              let each = subst (AreBehindTo q s candidates (length candidates)) (sym bs_is) (behind_are q s has stay.lines_are parts) in
+              let want = subst (AreWanted lists bs find values) (sym ws_are) (are_wanted q s keep system space bus candidates items told grown wanted (wanted_own q keep stay) placed lists bs for lawful each no_candidate) in
+              ap (λ ps. bus_placing s candidates ps lack) final_is
+              ∙ sym (placing find values want)
+              ∙ each_same_taken find values (map decoded_range_of taken) (taken_at q s keep space bus) (finds items)
+              (same_listed (taken_at q s keep space bus) taken (is_taken q s keep bus stay.held_is stay.lines_are (n_is ∙ ap (λ xs. cond (is_root xs bus) 0 (bus + 1)) (rs_are ∙ sym stay.left.rooted))))
+              ∙ ap (place_each find (taken_at q s keep space bus)) items
+            where
+              finds : map (candidate_value s) candidates ≡ space_items q s keep space bus → (i : ItemValue) → Contains (map (candidate_value s) candidates) i → FindsTheSame (place_beside q s keep placed) i
+              finds items i listed xs ys same =
+                  let made : IsMade (candidate_value s) candidates i = in_map_to (candidate_value s) candidates i listed in
+                  let c = made.from in
+                  let value = candidate_value s c in
+                  let behind = lines_behind q value.region in
+                  let in_items = subst (λ vs. Contains vs value) items (in_map_from (candidate_value s) candidates c made.has) in
+                  subst (λ j. place_beside q s keep placed j xs ≡ place_beside q s keep placed j ys) made.is
+                  (for c in_items (behind ++ xs)
+                  ∙ ap (else_at (told_place told grown c)) (same_first_place (list_at lists (list_number q.roots value)) (behind ++ xs) (behind ++ ys) value.extent (All-contains HasAddressAndAlignment candidates c lawful made.has).alignment (same_after behind xs ys same))
+                  ∙ sym (for c in_items (behind ++ ys)))
 
 pub root_places : {V : Type 0} (f : V → List Range) (roots : List ℕ) (s : System) → IsSystem s → IsNested roots s → (space : Space) (l : Lists) (t : Terms) (st : Staying) (w : SpaceWindows) (root : ℕ) → root < 256 → is_root roots root ≡ true
     → (rs : List ℕ) → rs ≡ roots → (all slice : List V) → slice ≡ all → HasRootColumns rs l space 256 (map f all) → (placing : Placing) → ArePlacesIn (pass roots s space t st w) root (map f slice) untold placing

@@ -2,6 +2,7 @@ pub mod Added
 pub mod Parts
 pub mod Notes
 pub mod Told
+pub mod TakenBeside
 pub mod Wanted
 pub mod Columns
 pub mod Reached

@@ -13,14 +13,14 @@ use Rattle.plan_spec.proofs.Planning.Behind.{any_gives, any_from}
 use Rattle.plan_spec.proofs.Planning.Safe.{order_of}
 use Rattle.settle_spec.specs.Lists.{Request}
 use Rattle.settle_spec.specs.Stands.{rank}
-use Rattle.settle_spec.specs.Items.{Item, Placed, Placing, AllPlaced, Lacks, and_placed, place_next, taken_by}
-use Rattle.settle_spec.specs.Growth.{place_each}
+use Rattle.settle_spec.specs.Items.{Item, Placed, Placing, AllPlaced, Lacks, and_placed, place_next, taken_by, place_each}
 use Rattle.settle_spec.specs.Places.{placed_of, place_among}
 use Rattle.settle_spec.specs.Kept.{Kept}
-use Rattle.settle_spec.specs.Keeping.Places.{space_items, taken_at, place_of_item, placing_on}
+use Rattle.settle_spec.specs.Keeping.Places.{space_items, taken_at, placing_on}
 use Rattle.settle_spec.proofs.Nested.{one_bridge, is_no_root, at_secondary}
 use Rattle.settle_laws.proofs.Keeping.Buses.{of_space, placing_by_bus}
 use Rattle.pci_settle.proofs.NewWindows.{comes_later}
+use Rattle.pci_settled.specs.BusPlaces.{place_beside}
 use Rattle.pci_settled.proofs.Notes.{region, one_place}
 use Rattle.pci_settled.proofs.Parts.{rank_one, real_in}
 
@@ -56,7 +56,7 @@ module _ (q : Request) (s : System) (keep : Kept) (system : IsSystem s) (nested 
 
   pub item_here : (p : Placed) → Contains here p → Contains (space_items q s keep space bus) p.item
   item_here p listed =
-      placed_in (place_of_item q s keep (λ over. placed_of (placing_on q s keep space over))) (taken_at q s keep space bus) (space_items q s keep space bus) p
+      placed_in (place_beside q s keep (λ over. placed_of (placing_on q s keep space over))) (taken_at q s keep space bus) (space_items q s keep space bus) p
       (subst (λ r. Contains (placed_of r) p) (placing_by_bus q s keep system nested space bus low) listed)
 
   is_other : (f : Function) (part : Part) → Contains s f → has_part f part ≡ true → (space_of f part ≡ space → are_siblings q.roots bus f.slot.bus ≡ true → ⊥)

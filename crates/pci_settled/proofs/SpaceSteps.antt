@@ -14,11 +14,10 @@ use Rattle.pci_spec.specs.Bus.{secondary, is_root, IsNested}
 use Rattle.pci_spec.proofs.BusRanges.{root_means}
 use Rattle.pci_spec.proofs.Members.{in_head, in_filter_to, in_range_to}
 use Rattle.settle_spec.specs.Lists.{Lists, Request}
-use Rattle.settle_spec.specs.Items.{Placing}
-use Rattle.settle_spec.specs.Growth.{place_each}
+use Rattle.settle_spec.specs.Items.{Placing, place_each}
 use Rattle.settle_spec.specs.Places.{placed_of, first_lack}
 use Rattle.settle_spec.specs.Kept.{Kept}
-use Rattle.settle_spec.specs.Keeping.Places.{place_of_item, space_items, taken_at, placing_on}
+use Rattle.settle_spec.specs.Keeping.Places.{space_items, taken_at, placing_on}
 use Rattle.settle_laws.proofs.Keeping.Buses.{placing_by_bus}
 use Rattle.pci_base.specs.declared.range.Range.{Range}
 use Rattle.pci_base.specs.declared.window_kind.ByKind.{ByKind}
@@ -44,7 +43,7 @@ use Rattle.pci_settled.specs.Candidates.{candidate_value, HasSpaceWindows, HasWi
 use Rattle.pci_settled.specs.Staying.{IsStaying, setting}
 use Rattle.pci_settled.specs.Columns.{range_list}
 use Rattle.pci_settled.specs.Windows.{unless_grown, window_range_at, plain_of, prefetch_of}
-use Rattle.pci_settled.specs.BusPlaces.{AreToldEnding, ArePlacesIn}
+use Rattle.pci_settled.specs.BusPlaces.{AreToldEnding, place_beside, ArePlacesIn}
 use Rattle.pci_settled.specs.Places.{place_range_in, NotesOf}
 use Rattle.pci_settled.specs.Spaces.{HasWindowsOver, grown_by, windows_by, AreNotedFor, AreNotedOnRoots, AreNotedBehind, HasNone, KeepsOtherSpace, AreSpacePlaces, space_lack}
 use Rattle.pci_settled.proofs.Buses.{behind_ending}
@@ -218,7 +217,7 @@ module _ (roots : List ℕ) (s : System) (system : IsSystem s) (nested : IsNeste
               subst (λ bus. HasWindowsOver q s keep space placed bus places (grown_by st n) (windows_by st old n no_places b)) (sym leads_to)
               (windows_over q s keep system (nested_for q keep stay) space n here.f here.at is_one r b here.is there st.left stay.keeps_is old (was.placed q keep stay same has) no_places) in
               subst (λ r. NotesOf s (placed_of r) old new) (sym (placing_by_bus q s keep system (nested_for q keep stay) space (secondary here.f) small))
-              (subst (λ bus. NotesOf s (placed_of (place_each (place_of_item q s keep placed) (taken_at q s keep space bus) (space_items q s keep space bus))) old new) leads_to (are q keep placed no_places system stay has over))
+              (subst (λ bus. NotesOf s (placed_of (place_each (place_beside q s keep placed) (taken_at q s keep space bus) (space_items q s keep space bus))) old new) leads_to (are q keep placed no_places system stay has over))
 
   -- ---- all of them
 

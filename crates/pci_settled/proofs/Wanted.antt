@@ -17,8 +17,10 @@ use Rattle.plan_spec.proofs.Planning.Safe.{slots_of}
 use Rattle.settle_spec.specs.FirstPlace.{is_high, else_at, first_place}
 use Rattle.settle_spec.specs.Lists.{Request}
 use Rattle.settle_spec.specs.Items.{Item as ItemValue, Placed}
+use Rattle.settle_spec.specs.Lines.{lines_behind}
 use Rattle.settle_spec.specs.Kept.{Kept}
-use Rattle.settle_spec.specs.Keeping.Places.{space_items, place_of_item}
+use Rattle.settle_spec.specs.Keeping.Places.{space_items}
+use Rattle.settle_spec.proofs.SameTaken.{same_first_place}
 use Rattle.settle_laws.proofs.Keeping.Buses.{of_space}
 use Rattle.pci_function.specs.declared.record.Record.{Record}
 use Rattle.pci_function.specs.Values.{record_value}
@@ -28,6 +30,7 @@ use Rattle.pci_place.proofs.Records.{function_at}
 use Rattle.pci_base.specs.WindowKinds.{kind_value}
 use Rattle.pci_base.specs.declared.window_kind.WindowKind.TheVariants as classes
 use Rattle.pci_base.specs.declared.range.Range.{Range}
+use Rattle.pci_base.specs.Ranges.{decoded_range_of}
 use Rattle.pci_base.specs.declared.window_kind.ByKind.{ByKind}
 use Rattle.pci_settle.specs.declared.item.Part.TheVariants.{Bar}
 use Rattle.pci_settle.specs.declared.place.Places.{Places}
@@ -38,6 +41,9 @@ use Rattle.pci_settled.specs.declared.candidate.Candidate.{Candidate}
 use Rattle.pci_settled.specs.Candidates.{candidate_value, HasAddressAndAlignment, IsWithin, HasPart}
 use Rattle.pci_settled.specs.Columns.{kind_number, column, list_number, told_place, candidate_wanted, list_at, AreListsFor}
 use Rattle.pci_settled.specs.Places.{AreEndingAt}
+use Rattle.pci_settled.specs.BusPlaces.{place_beside}
+use Rattle.pci_settled.specs.Taken.{AreBehindTo}
+use Rattle.pci_settled.proofs.TakenBeside.{same_behind}
 use Rattle.pci_settled.proofs.Parts.{real_in}
 
 -- the function of a record is on its bus
@@ -128,8 +134,9 @@ module _ (q : Request) (s : System) (keep : Kept) (system : IsSystem s) (space :
           ends = ending (get_or candidates k d) (listed_at k d within);
         })
 
-    pub are_wanted : (placed : ℕ → List Placed) (lists : List (List Range)) → AreListsFor q s keep space placed bus lists places grown → (d : Candidate) → AreWanted lists (place_of_item q s keep placed) (map (candidate_value s) candidates) wanted
-    are_wanted placed lists for d = record {
+    pub are_wanted : (placed : ℕ → List Placed) (lists behind : List (List Range)) → AreListsFor q s keep space placed bus lists places grown → All HasAddressAndAlignment candidates → AreBehindTo q s candidates (length candidates) behind
+        → (d : Candidate) → AreWanted lists behind (place_beside q s keep placed) (map (candidate_value s) candidates) wanted
+    are_wanted placed lists behind for lawful are d = record {
       count = length-map candidates (candidate_value s) ∙ sym count_is;
       each = λ k i w less. (
           let long = count_is in
@@ -139,9 +146,14 @@ module _ (q : Request) (s : System) (keep : Kept) (system : IsSystem s) (space :
           record {
             extent = ap (λ (j : ItemValue). j.extent) here ∙ ap (λ (x : Wanted). extent_value x.extent) (sym own);
             place = λ taken.
-                ap (λ j. place_of_item q s keep placed j taken) here
-                ∙ for (get_or candidates k d) (listed_at k d within) taken
-                ∙ ap (λ (x : Wanted). else_at x.at (first_place (list_at lists x.list) taken (extent_value x.extent))) (sym own);
+                let c = get_or candidates k d in
+                let value = candidate_value s c in
+                let held = map decoded_range_of (get_or behind k []) in
+                ap (λ j. place_beside q s keep placed j taken) here
+                ∙ for c (listed_at k d within) (lines_behind q value.region ++ taken)
+                ∙ ap (else_at (told_place places grown c)) (same_first_place (list_at lists (list_number q.roots value)) (lines_behind q value.region ++ taken) (held ++ taken) value.extent (lawful k d within).alignment
+                (same_behind (lines_behind q value.region) held taken (are k d within)))
+                ∙ ap (λ (x : Wanted). else_at x.at (first_place (list_at lists x.list) (held ++ taken) (extent_value x.extent))) (sym own);
           });
     }
 

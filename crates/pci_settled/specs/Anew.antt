@@ -1,5 +1,5 @@
 -- The new places of all parts where nothing stands, and what can't be placed.
-use Rattle.std.specs.Prelude.{◌≡◌, ℕ, IsTrue, List, Some, ⊤}
+use Rattle.std.specs.Prelude.{◌≡◌, ℕ, IsTrue, List, [], Some, ⊤}
 use Rattle.pci_spec.specs.Window.{WindowKind}
 use Rattle.pci_spec.specs.System.{System}
 use Rattle.settle_spec.specs.Lists.{Request}
@@ -16,11 +16,12 @@ use Rattle.pci_settled.specs.Candidates.{candidate_value}
 use Rattle.pci_settled.specs.Placed.{ArePartsPlaced}
 use Rattle.pci_settled.specs.Placed as placed
 
--- all is placed anew below these roots, in these lists and behind these slots
+-- all is placed anew below these roots, in these lists and behind these slots, and nothing is told that lets a window stay
 pub record IsAnewIn (q : Request) (roots : List ℕ) (d : Demand) : Type 0 where
   pub rooted : q.roots ≡ roots
   pub anew : IsTrue q.anew
   pub demands : demand_of q ≡ d
+  pub untold : q.told.ranges ≡ []
 
 -- each part of a function has the place that it gets
 abbrev pub ArePlacedAnew : Request → System → List Places → Type 0

@@ -1,11 +1,12 @@
 -- The places of the items of a bus.
 use Rattle.std.specs.Prelude.{◌≡◌, ℕ, ◌<◌, ◌^◌, List, map, length, Option, IfSome, IfNone}
 use Rattle.std.specs.List.{All, Contains}
+use Rattle.pci_spec.specs.Decoded.{Range as DecodedRange}
 use Rattle.pci_spec.specs.System.{System}
 use Rattle.plan_spec.specs.Place.{range_from}
 use Rattle.settle_spec.specs.Lists.{Request}
-use Rattle.settle_spec.specs.Items.{Placed, Placing}
-use Rattle.settle_spec.specs.Growth.{place_each}
+use Rattle.settle_spec.specs.Items.{Item, Placed, Placing, place_each}
+use Rattle.settle_spec.specs.Lines.{taken_for}
 use Rattle.settle_spec.specs.Kept.{Kept}
 use Rattle.settle_spec.specs.Keeping.Places.{space_items, taken_at, place_of_item}
 use Rattle.pci_base.specs.declared.range.Range.{Range}
@@ -39,11 +40,15 @@ AreToldEnding p bus grown =
     → IfSome (told_place p.setting.staying.left.places.now grown c)
     (λ a. (range_from a c.item.extent.size).last < 2 ^ 64)
 
+-- the place of an item beside what is taken on its bus: a new window is off what lines hold behind it, too
+abbrev pub place_beside : Request → System → Kept → (ℕ → List Placed) → Item → List DecodedRange → Option ℕ
+place_beside q s keep placed i taken = place_of_item q s keep placed i (taken_for q i.region taken)
+
 -- they are those that are told, or in some lists of ranges, whatever is told of places on other buses
 abbrev pub ArePlacesIn : Pass → ℕ → List (List Range) → ByKind (Option Range) → Placing → Type 0
 ArePlacesIn p bus lists grown placing =
     (q : Request) (keep : Kept) (placed : ℕ → List Placed) → IsStaying q keep p.setting → HasAskedWindows q p
     → AreListsFor q p.setting.system keep p.space placed bus lists p.setting.staying.left.places.now grown
     → placing
-    ≡ place_each (place_of_item q p.setting.system keep placed) (taken_at q p.setting.system keep p.space bus)
+    ≡ place_each (place_beside q p.setting.system keep placed) (taken_at q p.setting.system keep p.space bus)
     (space_items q p.setting.system keep p.space bus)

@@ -1,5 +1,6 @@
 pub mod Staying
 pub mod Candidates
+pub mod Taken
 pub mod Columns
 pub mod Places
 pub mod Windows

@@ -9,11 +9,10 @@ use Rattle.pci_spec.specs.Decoded.{Range as DecodedRange}
 use Rattle.settle_spec.specs.Lists.{Lists, Request}
 use Rattle.settle_spec.specs.Parts.{bridge_over}
 use Rattle.settle_spec.specs.FirstPlace.{else_at, first_place}
-use Rattle.settle_spec.specs.Items.{Item as ItemValue, Placed}
-use Rattle.settle_spec.specs.Growth.{place_each}
+use Rattle.settle_spec.specs.Items.{Item as ItemValue, Placed, place_each}
 use Rattle.settle_spec.specs.Places.{placed_of, first_lack}
 use Rattle.settle_spec.specs.Kept.{Kept}
-use Rattle.settle_spec.specs.Keeping.Places.{space_items, taken_at, place_behind, place_of_item, placing_on, new_place}
+use Rattle.settle_spec.specs.Keeping.Places.{space_items, taken_at, place_behind, placing_on, new_place}
 use Rattle.pci_base.specs.declared.range.Range.{Range}
 use Rattle.pci_base.specs.declared.window_kind.ByKind.{ByKind}
 use Rattle.pci_base.specs.WindowKinds.{kind_value}
@@ -27,6 +26,7 @@ use Rattle.pci_settled.specs.declared.places.Places.{Places}
 use Rattle.pci_settled.specs.Candidates.{candidate_value, Pass, HasAskedWindows}
 use Rattle.pci_settled.specs.Staying.{IsStaying}
 use Rattle.pci_settled.specs.Columns.{told_place}
+use Rattle.pci_settled.specs.BusPlaces.{place_beside}
 use Rattle.pci_settled.specs.Windows.{window_range_at, range_alone}
 use Rattle.pci_settled.specs.Places.{place_range_in, placed_at, NotesOf}
 
@@ -83,7 +83,7 @@ AreNotedBehind p k b old new =
     → HasWindowsOver q p.setting.system keep p.space placed b.secondary p.setting.staying.left.places.now
     (grown_by p.setting.staying k) (windows_by p.setting.staying old k d b)
     → NotesOf p.setting.system
-    (placed_of (place_each (place_of_item q p.setting.system keep placed)
+    (placed_of (place_each (place_beside q p.setting.system keep placed)
     (taken_at q p.setting.system keep p.space b.secondary)
     (space_items q p.setting.system keep p.space b.secondary))) old new
 

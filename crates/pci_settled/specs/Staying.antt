@@ -8,6 +8,7 @@ use Rattle.pci_place.specs.Above.{system_in}
 use Rattle.pci_settle.specs.declared.own.Terms.{Terms}
 use Rattle.pci_settle.specs.Buses.{Classing, TellsClasses}
 use Rattle.pci_settle.specs.Keeping.{TellsKept}
+use Rattle.pci_settle.specs.Lines.{AreLines}
 use Rattle.pci_stand.specs.Held.{AreHeld}
 use Rattle.pci_settled.specs.declared.staying.Staying.{Staying}
 use Rattle.pci_settled.specs.declared.setting.Setting as declared
@@ -42,3 +43,4 @@ pub record IsStaying (q : Request) (keep : Kept) (p : Setting) : Type 0 where
   pub left : TellsClasses (classing p) q
   pub keeps_is : TellsKept q p.system keep p.staying.left
   pub held_is : AreHeld q p.system keep p.staying.held.now
+  pub lines_are : AreLines q.roots q.told.ranges p.staying.lines.now

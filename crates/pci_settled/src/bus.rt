@@ -10,10 +10,12 @@ ghost use Rattle.pci_tree.specs.Roots.{buses_of};
 ghost use Rattle.pci_place.specs.Above.{AreAboves, system_in};
 ghost use Rattle.pci_settled.specs.Candidates.{AreSpaceWindows, KnowsWindows, IsWithin, pass_value};
 ghost use Rattle.pci_stand.specs.Held.{AreByLevel};
+ghost use Rattle.pci_settle.specs.Lines.{AreLineRows};
 ghost use Rattle.pci_settled.specs.Columns.{kind_number, column, told_place, candidate_wanted};
 ghost use Rattle.pci_settled.specs.BusPlaces.{bus_placing, ArePlacesIn, AreToldEnding, AreInTable};
 
 use crate::candidate::{Candidate, candidates_on};
+use crate::lines::{behind_each, taken_at};
 use crate::setting::Pass;
 use pci_base::memory::OutOfMemory;
 use pci_base::range::Range;
@@ -21,10 +23,9 @@ use pci_base::window_kind::WindowKind;
 use pci_function::record::Record;
 use pci_settle::list::is_root;
 use pci_settle::place::{Places, place_of};
-use pci_settle::placing::{Wanted, place_all};
+use pci_settle::placing::{Search, Wanted, place_all};
 use pci_settle::table::WindowRanges;
 use pci_stand::collect::level;
-use pci_stand::held::taken_on;
 use pci_tree::roots::Roots;
 use std::alloc::Allocator;
 
@@ -109,8 +110,9 @@ fn wanted_of<A: Allocator>(
     Ok(wanted)
 }
 
-/// Gives each item of a bus the place that is told, or else its first place in its list, off what stays there: on the roots
-/// the lists are columns by bus, and elsewhere one column. `grown` is what the windows over the bus come to.
+/// Gives each item of a bus the place that is told, or else its first place in its list. That is off what stays there and what
+/// lines hold, on the bus or behind a new window. On the roots the lists are columns by bus, and elsewhere one column. `grown`
+/// is what the windows over the bus come to.
 pub fn place_bus<A: Allocator + Copy, B: Allocator>(
     alloc: A,
     pass: &Pass<B>,
@@ -121,8 +123,9 @@ pub fn place_bus<A: Allocator + Copy, B: Allocator>(
     // which windows lead to a BAR decides its class
     requires above { AreAboves (system_in pass.now.setting.now.admitted.now)
         pass.now.setting.now.aboves.now }
-    // what stays on a bus is found by halving
+    // what stays on a bus, and what lines hold there, is found by halving
     requires held { AreByLevel pass.now.setting.now.staying.held.now }
+    requires lines { AreLineRows pass.now.setting.now.staying.lines.now }
     // places are looked for by sizes and alignments
     requires lawful { AreSpaceWindows pass.now.windows.now }
     // a new window is as large as what is behind it, which is worked out before
@@ -151,12 +154,18 @@ pub fn place_bus<A: Allocator + Copy, B: Allocator>(
         grown,
     };
     let wanted = wanted_of(alloc, &roots, records, &told, candidates.as_slice())?;
+    let lines = setting.staying.lines;
+    let behind = behind_each(alloc, records, lines, candidates.as_slice())?;
     let mut places = vec![in alloc; 0; candidates.len()]?;
     let level = level(&roots, bus);
-    let mut taken = taken_on(alloc, setting.staying.held, level, pass.space)?;
+    let mut taken = taken_at(alloc, &setting.staying, level, pass.space)?;
+    let search = Search {
+        lists,
+        behind: behind.as_slice(),
+    };
     let lack = place_all(
         alloc,
-        lists,
+        &search,
         &mut taken,
         wanted.as_slice(),
         places.as_mut_slice(),

@@ -1,4 +1,5 @@
-//! The places of all items: on the roots in their lists of ranges, and behind a bridge in its window, off what stays there.
+//! The places of all items: on the roots in their lists of ranges, and behind a bridge in its window. They are off what stays
+//! there and off what told ranges hold.
 //!
 //! A bridge stands on a lower bus than what is behind it, so buses are gone over as they rise: what is on a bus tells the
 //! places of the windows in which other buses have theirs.
@@ -8,6 +9,7 @@ pub mod anew;
 pub mod bus;
 pub mod candidate;
 pub mod column;
+mod lines;
 pub mod place;
 pub mod places;
 pub mod setting;

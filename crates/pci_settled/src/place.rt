@@ -9,6 +9,7 @@ ghost use Rattle.pci_settle.specs.Own.{AreTerms};
 ghost use Rattle.pci_settle.specs.Buses.{AreWindows};
 ghost use Rattle.pci_settled.specs.Candidates.{AreSpaceWindows, HasWindowsIn, KnowsRequest};
 ghost use Rattle.pci_stand.specs.Held.{AreByLevel};
+ghost use Rattle.pci_settle.specs.Lines.{AreLineRows};
 ghost use Rattle.pci_settled.specs.Spaces.{HasNone, KeepsOtherSpace};
 ghost use Rattle.pci_settled.specs.Placed.{HasClassWindows, IsClassTooLarge, IsSpaceTooLarge, IsUnplacedIn, HasPlacesIn, AreAllNone, CanBeLeft, ArePlacesOff, IsUnplacedOff};
 ghost use Rattle.pci_settled.specs.Staying.{setting_value};
@@ -25,6 +26,7 @@ use pci_base::space::Space;
 use pci_base::window_kind::WindowKind;
 use pci_place::above::aboves;
 use pci_settle::extent::Extent;
+use pci_settle::lines::lines;
 use pci_settle::list::Lists;
 use pci_settle::listing::Classing;
 use pci_settle::new_window::new_windows;
@@ -101,6 +103,7 @@ fn place_in<A: Allocator + Copy, B: Allocator>(
     requires above { AreAboves (system_in setting.now.admitted.now) setting.now.aboves.now }
     requires terms { AreTerms (demand_value lists.now) setting.now.terms }
     requires held { AreByLevel setting.now.staying.held.now }
+    requires lines { AreLineRows setting.now.staying.lines.now }
     requires known { KnowsRequest (setting_value setting.now) (lists_value lists.now) }
     requires count { length table.old ≡ length (system_in setting.now.admitted.now) }
     requires none { HasNone (system_in setting.now.admitted.now) (space_of space) table.old }
@@ -155,9 +158,12 @@ pub fn place<A: Allocator + Copy, B: Allocator>(
     let aboves = aboves(admitted);
     let terms = Terms::of(lists);
     let held = held_parts(alloc, admitted, lists, left.kept, left.grown)?;
+    let outline = admitted.outline();
+    let rows = lines(alloc, lists.told, &outline.roots())?;
     let staying = Staying {
         left: *left,
         held: held.as_slice(),
+        lines: rows.as_slice(),
     };
     let setting = Setting {
         admitted,
@@ -165,7 +171,7 @@ pub fn place<A: Allocator + Copy, B: Allocator>(
         terms,
         staying,
     };
-    let mut table = no_places(alloc, admitted.outline().records().len())?;
+    let mut table = no_places(alloc, outline.records().len())?;
     let entries = table.as_mut_slice();
     place_in(alloc, &setting, Space::Io, lists, entries)?;
     place_in(alloc, &setting, Space::Mem, lists, entries)?;

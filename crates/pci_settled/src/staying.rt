@@ -1,4 +1,5 @@
 //! What stays where it is, while all else is placed.
+use pci_settle::lines::Line;
 use pci_settle::over::Left;
 use pci_stand::held::Held;
 
@@ -8,4 +9,6 @@ pub struct Staying<'a> {
     pub left: Left<'a>,
     /// The addresses of all parts that stay, by rising levels.
     pub held: &'a [Held],
+    /// What lines hold, by rising levels.
+    pub lines: &'a [Line],
 }
