@@ -15,7 +15,6 @@ use Rattle.pci_spec.proofs.Members.{in_head, in_tail}
 use Rattle.plan_spec.specs.Plan.{is_open}
 use Rattle.settle_spec.specs.Lists.{Request}
 use Rattle.settle_spec.specs.Parts.{FunctionPart, is_part, is_left, is_empty, header_bars, header_parts, are_same_space, has_left}
-use Rattle.settle_spec.specs.Registers.{has_own}
 use Rattle.pci_base.specs.Space.{is_on}
 use Rattle.pci_image.specs.declared.bar.Bar.{Bar as CodeBar}
 use Rattle.pci_image.specs.declared.rom.Rom.{Rom as CodeRom}
@@ -32,7 +31,7 @@ use Rattle.pci_place.proofs.Owned.{no_rom, lacking_above}
 use Rattle.pci_settle.specs.declared.own.Terms.{Terms}
 use Rattle.pci_settle.specs.Slots.{demand_of}
 use Rattle.pci_settle.specs.Own.{AreTerms, is_left_bar}
-use Rattle.pci_settling.specs.Claims.{is_bar_in, has_left_bar, is_kept_bar, is_rom_on, has_kept}
+use Rattle.pci_settling.specs.Claims.{is_bar_in, has_left_bar, is_kept_bar, is_rom_on, has_kept, has_own_part}
 
 -- ---- lists
 
@@ -173,7 +172,7 @@ module _ (q : Request) (s : System) (f : Function) (r : Record) (is : IsRecordOf
         ap (λ b. are_same_space space Memory && b) (rom_on_is r.rom (rom_of s f r is))
         ∙ own_order io memory prefetch (are_same_space space Io) (are_same_space space Memory) (has_rom f.image f.probe && rom_is_on f.image)
 
-    pub kept_are : has_kept space above t r ≡ has_own q s space f
+    pub kept_are : has_kept space above t r ≡ has_own_part q s space f
     kept_are =
         ap (λ b. b || (are_same_space space Memory && is_rom_on r.rom))
         (any_bar s f r is (is_kept_bar space above t) (λ n. is_of (Bar n) && not (is_left q s f (Bar n))) own kept_same (λ n listed. kept_order (has_bar f.probe n) (is_left q s f (Bar n)) (is_of (Bar n))))

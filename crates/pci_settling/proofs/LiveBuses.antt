@@ -13,7 +13,8 @@ use Rattle.pci_spec.specs.Decoded.{HasRecords}
 use Rattle.pci_spec.specs.Decoded as decoded
 use Rattle.plan_spec.proofs.Planning.Safe.{order_of}
 use Rattle.settle_spec.specs.Lists.{Request}
-use Rattle.settle_spec.specs.Registers.{has_own}
+use Rattle.given_spec.specs.ToldRegion.{told_regions}
+use Rattle.settle_spec.specs.Registers.{is_answered_by, has_own}
 use Rattle.settle_spec.specs.LiveLaws.{has_live_behind}
 use Rattle.settle_spec.specs.Kept.{Kept}
 use Rattle.settle_spec.specs.Keeping.Registers.{is_enabled_in}
@@ -27,12 +28,14 @@ use Rattle.pci_place.specs.declared.above.Above.{Above}
 use Rattle.pci_place.specs.Above.{AreAboves, IsAbove}
 use Rattle.pci_place.specs.Records.{IsRecordOf}
 use Rattle.pci_place.proofs.Records.{FunctionAt, same_count, function_at}
-use Rattle.pci_settle.specs.declared.own.Terms.{Terms}
 use Rattle.pci_settle.proofs.NewWindows.{comes_later}
 use Rattle.pci_settled.specs.declared.places.Places.{Places}
 use Rattle.pci_settling.specs.Images.{HasPartPlaces}
 use Rattle.pci_settling.specs.Claims.{has_kept}
-use Rattle.pci_settling.specs.Live.{is_live, IsRequestOfTerms, HasAllPlaces, AreLiveBuses, is_live_behind, is_live_by}
+use Rattle.pci_settling.specs.declared.answering.Answering.{Answering}
+use Rattle.pci_settling.specs.Answers.{is_answering}
+use Rattle.pci_settling.specs.Live.{is_live, IsRequestOf, HasAllPlaces, AreLiveBuses, is_live_behind, has_own_by, is_live_by}
+use Rattle.pci_settling.proofs.AnsweringFunctions.{answering_is}
 use Rattle.pci_settling.proofs.KeptClaims.{kept_are}
 use Rattle.pci_settling.proofs.PlacedClaims.{enabled_is}
 
@@ -48,16 +51,16 @@ abbrev pub live_on : System → Space → Request → Kept → ℕ → Function 
 live_on s space q keep bus g = g.slot.bus == bus && is_live q s keep space g
 
 -- the table has the buses of the functions from place n on
-pub record AreLiveFrom (roots : List ℕ) (s : System) (space : Space) (t : Terms) (table : List Places) (n : ℕ) (live : List Bool) : Type 0 where
+pub record AreLiveFrom (roots : List ℕ) (s : System) (space : Space) (answering : Answering) (table : List Places) (n : ℕ) (live : List Bool) : Type 0 where
   pub size : length live ≡ 256
-  pub each : (q : Request) (keep : Kept) (bus : ℕ) → IsRequestOfTerms q roots t → HasAllPlaces q s keep table → bus < 256 → get_or live bus false ≡ list_any (live_on s space q keep bus) (drop n s)
+  pub each : (q : Request) (keep : Kept) (bus : ℕ) → IsRequestOf q s roots answering → HasAllPlaces q s keep table → bus < 256 → get_or live bus false ≡ list_any (live_on s space q keep bus) (drop n s)
 
-module _ (roots : List ℕ) (s : System) (system : IsSystem s) (nested : IsNested roots s) (space : Space) (t : Terms) (table : List Places) where
+module _ (roots : List ℕ) (s : System) (system : IsSystem s) (nested : IsNested roots s) (space : Space) (answering : Answering) (table : List Places) where
   abbrev on : Request → Kept → ℕ → Function → Bool
   on q keep bus g = live_on s space q keep bus g
 
   abbrev AreLive : ℕ → List Bool → Type 0
-  AreLive n live = AreLiveFrom roots s space t table n live
+  AreLive n live = AreLiveFrom roots s space answering table n live
 
   pub live_none : (n : ℕ) → length s ≤ n → AreLive n (replicate 256 false)
   live_none n past = record {
@@ -65,7 +68,7 @@ module _ (roots : List ℕ) (s : System) (system : IsSystem s) (nested : IsNeste
     each = λ q keep bus of placed small. get_or-replicate 256 bus false false small ∙ sym (ap (list_any (on q keep bus)) (drop_all n s past));
   }
 
-  pub live_all : (live : List Bool) → AreLive 0 live → AreLiveBuses roots s space t table live
+  pub live_all : (live : List Bool) → AreLive 0 live → AreLiveBuses roots s space answering table live
   live_all live from q keep bus of placed small = from.each q keep bus of placed small
 
   -- where the table has the buses of all functions after a bridge, it has the one behind the bridge
@@ -92,7 +95,7 @@ module _ (roots : List ℕ) (s : System) (system : IsSystem s) (nested : IsNeste
           ∙ sym (ap (λ x. x && list_any (on q keep (secondary f)) s) bridge)
 
   -- a function of the system, its record and its place in the table
-  module _ (k : ℕ) (f : Function) (r : Record) (at : slice_get s k ≡ Some f) (is : IsRecordOf s f r) (d : Places) (above : Above) (over : IsAbove s f.slot.bus above) (q : Request) (keep : Kept) (of : IsRequestOfTerms q roots t) (placed : HasAllPlaces q s keep table) where
+  module _ (k : ℕ) (f : Function) (r : Record) (at : slice_get s k ≡ Some f) (is : IsRecordOf s f r) (d : Places) (above : Above) (over : IsAbove s f.slot.bus above) (q : Request) (keep : Kept) (of : IsRequestOf q s roots answering) (placed : HasAllPlaces q s keep table) where
     nested_for : IsNested q.roots s
     nested_for = subst (λ xs. IsNested xs s) (sym of.rooted) nested
 
@@ -104,10 +107,12 @@ module _ (roots : List ℕ) (s : System) (system : IsSystem s) (nested : IsNeste
       each = λ part there. placed.each k f d part at there;
     }
 
-    pub live_is : (behind : Bool) → behind ≡ has_live_behind s (is_live q s keep space) f → is_live_by space (get_or table k d) above t r behind ≡ is_live q s keep space f
+    pub live_is : (behind : Bool) → behind ≡ has_live_behind s (is_live q s keep space) f → is_live_by space (get_or table k d) above answering r behind ≡ is_live q s keep space f
     live_is behind same =
-        ap (λ b. b && (has_kept space above t r || behind)) (enabled_is q s keep f r (get_or table k d) placed_here above over t of.terms space (is_live q s keep space) behind same)
-        ∙ ap (λ b. is_enabled_in q s keep space f && (b || behind)) (kept_are q s f r is above over t of.terms space)
+        ap (λ b. b && (has_own_by space above answering r || behind)) (enabled_is q s keep f r (get_or table k d) placed_here above over answering.terms of.terms space (is_live q s keep space) behind same)
+        ∙ ap (λ b. is_enabled_in q s keep space f && ((b || has_kept space above answering.terms r) || behind))
+        (ap (is_answering answering.told.ranges.now answering.standing.now space) (same_slot_of r f is.value) ∙ answering_is q s f space answering.told.ranges.now answering.standing.now of.told of.flags)
+        ∙ ap (λ b. is_enabled_in q s keep space f && ((list_any (is_answered_by q s space f) (told_regions q.told) || b) || behind)) (kept_are q s f r is above over answering.terms of.terms space)
         ∙ ap (λ b. is_enabled_in q s keep space f && (has_own q s space f || b)) same
         ∙ sym (live_by_bus q s keep space system nested_for f is.listed)
 
@@ -135,7 +140,7 @@ module _ (roots : List ℕ) (s : System) (system : IsSystem s) (nested : IsNeste
 
     -- the bus of a live function is put into the table, and all else stays
     pub live_step : (bus : ℕ) (d : Places) (a : Above) (behind test : Bool) (new : List Bool) → bus ≡ r.slot.bus
-        → behind ≡ is_live_behind old r.bridge → test ≡ is_live_by space (get_or table place d) (get_or aboves bus a) t r behind → new ≡ cond test (set old bus true) old → AreLive (length s - (done + 1)) new
+        → behind ≡ is_live_behind old r.bridge → test ≡ is_live_by space (get_or table place d) (get_or aboves bus a) answering r behind → new ≡ cond test (set old bus true) old → AreLive (length s - (done + 1)) new
     live_step bus d a behind test new bus_is behind_read test_is new_is =
         let f = here.f in
         let on_bus : bus ≡ f.slot.bus = bus_is ∙ slot_is in

@@ -3,8 +3,10 @@ use Rattle.std.specs.Prelude.{◌-◌, ◌/◌, Bool, false, ◌&&◌, ◌||◌,
 use Rattle.std.specs.Option.{is_some}
 use Rattle.std.specs.List.{list_any}
 use Rattle.pci_spec.specs.Registers.{BASE_ADDRESS}
-use Rattle.pci_spec.specs.System.{Space, Io, Memory, Bar}
-use Rattle.settle_spec.specs.Parts.{are_same_space}
+use Rattle.pci_spec.specs.System.{System, Function, Space, Io, Memory, Bar, is_window}
+use Rattle.settle_spec.specs.Lists.{Request}
+use Rattle.settle_spec.specs.Parts.{are_same_space, function_parts}
+use Rattle.settle_spec.specs.Stands.{part_space}
 use Rattle.pci_base.specs.Space.{is_on}
 use Rattle.pci_image.specs.declared.bar.Bar.{Bar as CodeBar}
 use Rattle.pci_image.specs.declared.rom.Rom.{Rom as CodeRom}
@@ -57,6 +59,11 @@ abbrev pub has_kept : Space → Above → Terms → Record → Bool
 has_kept space above t r =
     list_any (is_kept_bar space above t) r.bars.items
     || (are_same_space space Memory && is_rom_on r.rom)
+
+-- a function has a BAR or ROM of a space
+abbrev pub has_own_part : Request → System → Space → Function → Bool
+has_own_part q s space f =
+    list_any (λ r. are_same_space space (part_space r) && not (is_window r.part)) (function_parts q s f)
 
 -- ---- whether its space is enabled, where something live is behind it or not
 

@@ -9,11 +9,12 @@ use Rattle.settle_spec.specs.Keeping.Registers.{is_live_within}
 use Rattle.pci_function.specs.declared.record.Bridge.{Bridge}
 use Rattle.pci_function.specs.declared.record.Record.{Record}
 use Rattle.pci_place.specs.declared.above.Above.{Above}
-use Rattle.pci_settle.specs.declared.own.Terms.{Terms}
 use Rattle.pci_settle.specs.Slots.{demand_of}
 use Rattle.pci_settle.specs.Own.{AreTerms}
 use Rattle.pci_settled.specs.declared.places.Places.{Places}
 use Rattle.pci_settled.specs.Places.{place_range_in, placed_at}
+use Rattle.pci_settling.specs.declared.answering.Answering.{Answering}
+use Rattle.pci_settling.specs.Answers.{is_answering, AreFlagsOfTold}
 use Rattle.pci_settling.specs.Claims.{has_kept, is_enabled_by}
 
 -- a function is live in a space, wherever it stands
@@ -25,9 +26,11 @@ abbrev pub is_live_on : Request → System → Kept → Space → ℕ → Bool
 is_live_on q s keep space bus = list_any (λ g. g.slot.bus == bus && is_live q s keep space g) s
 
 -- what is asked for has these roots, and this is told of it
-pub record IsRequestOfTerms (q : Request) (roots : List ℕ) (t : Terms) : Type 0 where
+pub record IsRequestOf (q : Request) (s : System) (roots : List ℕ) (a : Answering) : Type 0 where
   pub rooted : q.roots ≡ roots
-  pub terms : AreTerms (demand_of q) t
+  pub terms : AreTerms (demand_of q) a.terms
+  pub told : q.told.ranges ≡ a.told.ranges.now
+  pub flags : AreFlagsOfTold q s a.standing.now
 
 -- a table by function has the place that each part gets: none for what stays
 pub record HasAllPlaces (q : Request) (s : System) (keep : Kept) (table : List Places) : Type 0 where
@@ -38,9 +41,9 @@ pub record HasAllPlaces (q : Request) (s : System) (keep : Kept) (table : List P
       ≡ placed_at (new_place q s keep record { function = f; part = part })
 
 -- the table says for each bus whether one is, at the places of another table
-abbrev pub AreLiveBuses : List ℕ → System → Space → Terms → List Places → List Bool → Type 0
-AreLiveBuses roots s space t table live =
-    (q : Request) (keep : Kept) (bus : ℕ) → IsRequestOfTerms q roots t → HasAllPlaces q s keep table → bus < 256
+abbrev pub AreLiveBuses : List ℕ → System → Space → Answering → List Places → List Bool → Type 0
+AreLiveBuses roots s space a table live =
+    (q : Request) (keep : Kept) (bus : ℕ) → IsRequestOf q s roots a → HasAllPlaces q s keep table → bus < 256
     → slice_index_or live bus false ≡ is_live_on q s keep space bus
 
 -- ---- of a record
@@ -50,6 +53,11 @@ abbrev pub is_live_behind : List Bool → Option Bridge → Bool
 is_live_behind live None = false
 is_live_behind live (Some b) = slice_index_or live b.secondary false
 
-abbrev pub is_live_by : Space → Places → Above → Terms → Record → Bool → Bool
-is_live_by space p above t r behind =
-    is_enabled_by space p above t r behind && (has_kept space above t r || behind)
+-- it has something of its own: a told range that stands, a BAR or a ROM
+abbrev pub has_own_by : Space → Above → Answering → Record → Bool
+has_own_by space above a r =
+    is_answering a.told.ranges.now a.standing.now space r.slot || has_kept space above a.terms r
+
+abbrev pub is_live_by : Space → Places → Above → Answering → Record → Bool → Bool
+is_live_by space p above a r behind =
+    is_enabled_by space p above a.terms r behind && (has_own_by space above a r || behind)

@@ -4,14 +4,15 @@ ghost use Rattle.std.specs.List.{All};
 ghost use Rattle.pci_base.specs.Space.{space_of};
 ghost use Rattle.pci_place.specs.Above.{AreAboves, system_in};
 ghost use Rattle.pci_settling.specs.Shown.{HasRegister};
+ghost use Rattle.pci_settling.specs.Live as lives;
 ghost use Rattle.pci_settling.specs.Live.{AreLiveBuses, is_live_behind, is_live_by};
 
+use crate::answering::{Answering, is_answering};
 use crate::claim::{has_kept, is_enabled};
 use pci_base::slot::BUSES;
 use pci_base::space::Space;
 use pci_function::record::Record;
 use pci_place::above::Above;
-use pci_settle::own::Terms;
 use pci_settled::places::Places;
 use pci_tree::admitted::Admitted;
 use std::alloc::Allocator;
@@ -26,21 +27,30 @@ pub fn is_live_behind(live: &[bool; BUSES], record: &Record) -> bool
     }
 }
 
-/// Whether a function is live: its space is enabled, and it has a BAR or ROM there, or something live behind it.
+/// Whether a function has something of its own to answer in a space: a told range that stands, a BAR or a ROM.
+fn has_own(space: Space, above: Above, answering: &Answering, record: &Record) -> bool
+    requires { length answering.now.standing.now ≡ length answering.now.told.ranges.now }
+    ensures { result ≡ lives.has_own_by (space_of space) above answering.now «record».now }
+{
+    is_answering(answering, record.slot, space) || has_kept(space, above, answering.terms, record)
+}
+
+/// Whether a function is live: its space is enabled, and it has something of its own there, or something live behind it.
 fn is_live(
     space: Space,
     places: &Places,
     above: Above,
-    terms: Terms,
+    answering: &Answering,
     record: &Record,
     behind: bool,
 ) -> bool
-    requires { All HasRegister «record».now.bars.items }
+    requires registers { All HasRegister «record».now.bars.items }
+    requires count { length answering.now.standing.now ≡ length answering.now.told.ranges.now }
     ensures { result
-        ≡ is_live_by (space_of space) places.now above terms.entry «record».now behind }
+        ≡ is_live_by (space_of space) places.now above answering.now «record».now behind }
 {
-    is_enabled(space, places, above, terms, record, behind)
-        && (has_kept(space, above, terms, record) || behind)
+    is_enabled(space, places, above, answering.terms, record, behind)
+        && (has_own(space, above, answering, record) || behind)
 }
 
 /// Which buses have a function that is live in a space, at the places that parts get. What is behind a bridge has higher
@@ -50,13 +60,15 @@ pub fn live_buses<A: Allocator>(
     table: &[Places],
     space: Space,
     aboves: &[Above; BUSES],
-    terms: Terms,
+    answering: &Answering,
 ) -> [bool; BUSES]
     // which windows lead to a BAR decides whether it is left
     requires above { AreAboves (system_in admitted.now) aboves.now }
     // a function's places stand where its record does
     requires count { length table.now ≡ length (system_in admitted.now) }
-    ensures { AreLiveBuses admitted.now.roots (system_in admitted.now) (space_of space) terms.entry
+    // a told range has its flag by its index
+    requires flags { length answering.now.standing.now ≡ length answering.now.told.ranges.now }
+    ensures { AreLiveBuses admitted.now.roots (system_in admitted.now) (space_of space) answering.now
         table.now result }
 {
     let mut live = [false; BUSES];
@@ -69,7 +81,7 @@ pub fn live_buses<A: Allocator>(
         let places = &table[function];
         let above = aboves[bus];
         let behind = is_live_behind(&live, record);
-        if is_live(space, places, above, terms, record, behind) {
+        if is_live(space, places, above, answering, record, behind) {
             live[bus] = true;
         }
     }

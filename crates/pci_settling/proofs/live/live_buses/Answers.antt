@@ -11,10 +11,10 @@ pub loop-done-init : goal.loop-done-init
 loop-done-init g c =
     let s = system_in c.args.admitted.now in
     let admitted = c.outline-outline.ensures.admitted in
-    live_none c.args.admitted.now.roots s admitted.system admitted.nested (space_of c.args.space) c.args.terms c.args.table.now (length s - 0) (omega arith)
+    live_none c.args.admitted.now.roots s admitted.system admitted.nested (space_of c.args.space) c.args.answering.now c.args.table.now (length s - 0) (omega arith)
 
-pub is_live-requires : goal.is_live-requires
-is_live-requires g c =
+pub is_live-requires-clause-registers : goal.is_live-requires-clause-registers
+is_live-requires-clause-registers g c =
     let s = system_in c.args.admitted.now in
     let records = c.records-records.result.now in
     let has = lent s records c.records-records.ensures.value c.outline-outline.ensures.records in
@@ -26,7 +26,7 @@ loop-done-preserved g c =
     let admitted = c.outline-outline.ensures.admitted in
     let records = c.records-records.result.now in
     let has = lent s records c.records-records.ensures.value c.outline-outline.ensures.records in
-    live_step c.args.admitted.now.roots s admitted.system admitted.nested (space_of c.args.space) c.args.terms c.args.table.now c.args.aboves.now c.requires.above records has c.loop-done.done
+    live_step c.args.admitted.now.roots s admitted.system admitted.nested (space_of c.args.space) c.args.answering.now c.args.table.now c.args.aboves.now c.requires.above records has c.loop-done.done
     c.index-records-function.result c.loop-done-test.true c.index-records-function.is c.loop-done.live c.loop-done.invariant c.from-bus.result _ _
     c.is_live_behind-behind.result c.is_live.result c.if-is_live.live (c.from-bus.ensures ∙ c.bus.ensures) c.is_live_behind-behind.ensures c.is_live.ensures
     (elim c.if-is_live.branch [
@@ -45,5 +45,5 @@ returns g c =
     let has = lent s records c.records-records.ensures.value c.outline-outline.ensures.records in
     let count = same_count s records has in
     let start = at_start (length s) c.loop-done.done (let done = c.loop-done-test.false in omega (arith, count, done)) in
-    live_all c.args.admitted.now.roots s admitted.system admitted.nested (space_of c.args.space) c.args.terms c.args.table.now c.loop-done.live
-    (subst (λ n. AreLiveFrom c.args.admitted.now.roots s (space_of c.args.space) c.args.terms c.args.table.now n c.loop-done.live) start c.loop-done.invariant)
+    live_all c.args.admitted.now.roots s admitted.system admitted.nested (space_of c.args.space) c.args.answering.now c.args.table.now c.loop-done.live
+    (subst (λ n. AreLiveFrom c.args.admitted.now.roots s (space_of c.args.space) c.args.answering.now c.args.table.now n c.loop-done.live) start c.loop-done.invariant)

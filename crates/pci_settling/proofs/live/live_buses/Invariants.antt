@@ -5,4 +5,4 @@ use Rattle.pci_settling.proofs.LiveBuses.{AreLiveFrom}
 use Rattle.pci_settling.proofs.live.live_buses.Given as goal
 
 abbrev pub invariant-loop-done : goal.invariant-loop-done
-invariant-loop-done g l = AreLiveFrom l.admitted.roots (system_in l.admitted) (space_of l.space) l.terms l.table (length (system_in l.admitted) - l.done) l.live
+invariant-loop-done g l = AreLiveFrom l.admitted.roots (system_in l.admitted) (space_of l.space) l.answering l.table (length (system_in l.admitted) - l.done) l.live
