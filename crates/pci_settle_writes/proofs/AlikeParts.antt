@@ -12,7 +12,7 @@ use Rattle.pci_spec.specs.System.{System, Function, Part, Bar, Rom, Window, has_
 use Rattle.pci_spec.proofs.Members.{in_head, in_tail, in_range_to}
 use Rattle.settle_spec.specs.Lists.{Request}
 use Rattle.settle_spec.specs.Parts.{FunctionPart, is_part, header_bars, header_parts, parts_of, function_parts, system_parts}
-use Rattle.settle_spec.specs.Stands.{stands_within, is_in_place, takes_from, stands}
+use Rattle.settle_spec.specs.Stands.{stands_within, stands}
 use Rattle.pci_settle.specs.declared.kept.Kept.{Kept}
 use Rattle.pci_settle.specs.Kept.{kept_of}
 use Rattle.pci_settle_writes.specs.Alike.{told_alike, bars_alike, windows_alike, parts_alike, PassesPartsOnly}
@@ -23,11 +23,7 @@ unfolding stands_within
 stands_part q s r = within (length (system_parts q s)) where
   within : (others : ℕ) → stands_within q s others r ≡ true → is_part q s r.function r.part ≡ true
   within zero is = absurd (both_ways false refl is)
-  within (suc others) is =
-      let part = is_part q s r.function r.part in
-      let place = is_in_place q s (stands_within q s others) r in
-      let apart = list_all (λ t. not (takes_from q t r && stands_within q s others t)) (system_parts q s) in
-      (and_parts (not q.anew) part (and_parts (not q.anew && part) place (and_parts ((not q.anew && part) && place) apart is).0).0).1
+  within (suc others) is = (and_parts _ _ (and_parts _ _ (and_parts _ _ is).0).0).1
 
 -- ---- tests of lists
 

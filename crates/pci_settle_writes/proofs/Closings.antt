@@ -1,7 +1,7 @@
 -- What closing leaves of each function, in one pass over the records in slot order.
-use Rattle.std.proofs.Common.{◌≡◌, ℕ, ◌+◌, ◌≤◌, List, [], ◌∷◌, ◌++◌, map, length, take, set, get_or, replicate, true, false, ◌&&◌, ◌||◌, not, refl, sym, ◌∙◌, ap, None, Some}
+use Rattle.std.proofs.Common.{◌≡◌, ℕ, ◌+◌, ◌≤◌, List, [], ◌∷◌, ◌++◌, map, length, take, set, get_or, replicate, true, false, ◌&&◌, ◌||◌, not, refl, sym, ◌∙◌, ap, subst, None, Some}
 use Rattle.std.specs.Option.{is_some}
-use Rattle.std.specs.List.{slice_get}
+use Rattle.std.specs.List.{Contains, slice_get}
 use Rattle.std.proofs.lemmas.List.{map-append, take_all, take_more}
 use Rattle.std.proofs.lemmas.Option.{slice_get_within, get_or_from_slice_get}
 use Rattle.pci_spec.specs.Decoded as decoded
@@ -28,6 +28,7 @@ use Rattle.pci_settle_writes.specs.declared.way.BySpace.{BySpace}
 use Rattle.pci_settle_writes.specs.declared.way.ByClass.{ByClass}
 use Rattle.pci_settle_writes.specs.declared.way.Way.{Way}
 use Rattle.pci_settle_writes.specs.Shut.{IsWay, IsAround, in_space, in_class, by_class, changed_window, is_shut_by, closing_by, closing_in, AreClosings}
+use Rattle.pci_settle_writes.specs.ToldEndings.{AreClearAbove}
 use Rattle.pci_settle_writes.specs.Stages.{AreOf, AreSettledBlocks}
 use Rattle.pci_settle_writes.proofs.StagedWrites.{same_at, kept_window}
 use Rattle.pci_settle_writes.proofs.Ways.{no_way, on_root, behind_bridge}
@@ -46,6 +47,15 @@ module _ (q : Request) (roots : List ℕ) (s : System) (keep : Kept) (system : I
 
   pub all_closed : (k : ℕ) (ways : List Way) (closings : List Closing) → AreClosedTo q roots s keep k ways closings → length s ≤ k → AreClosings q s keep closings
   all_closed k ways closings to done = to.values ∙ ap (map (closing_in q s keep)) (take_all k s done)
+
+  -- the marks tell of each bus whether a bridge above it is shut
+  pub all_clear : (k : ℕ) (ways : List Way) (closings : List Closing) → AreClosedTo q roots s keep k ways closings → length s ≤ k → q.roots ≡ roots → AreClearAbove q s keep ways
+  all_clear k ways closings to done same = record {
+    system = system;
+    nested = subst (λ rs. IsNested rs s) (sym same) nested;
+    on_roots = λ bus d x root small. (to.marks.on_roots bus d (subst (λ rs. Contains rs bus) same root) small).clear x;
+    behind = λ b d x listed bridge. (to.marks.behind b d (subst (λ fs. Contains fs b) (sym (take_all k s done)) listed) bridge).clear x;
+  }
 
   -- ---- the next function
 

@@ -1,5 +1,5 @@
 -- Tables of what stands and stays: where all is placed anew nothing does, and else as they were made.
-use Rattle.std.proofs.Common.{◌≡◌, ◌<◌, Bool, List, [], map, length, false, slice_index_or, None, refl, sym, ◌∙◌, ap, subst}
+use Rattle.std.proofs.Common.{arith, ◌≡◌, ◌<◌, Bool, List, [], map, length, false, slice_index_or, None, refl, sym, ◌∙◌, ap, subst}
 use Rattle.std.specs.Bool.{IsTrue}
 use Rattle.std.specs.Option.{option_map}
 use Rattle.std.proofs.lemmas.List.{get_or_default}
@@ -38,8 +38,9 @@ use Rattle.pci_settle_writes.specs.Requests.{IsAskedOf}
 use Rattle.pci_settle_writes.specs.Told.{IsTableOf}
 use Rattle.settle_spec.specs.Writes.{fixed_without}
 use Rattle.pci_settle_writes.specs.Fixed.{fixed_part}
+use Rattle.pci_settle_writes.specs.ToldEndings.{KnownTold, HasEachFlag, KnowsTold}
 use Rattle.pci_settle_writes.specs.Endings.{AreFixedKept, AreAskedFor}
-use Rattle.pci_settle_writes.proofs.Refusals.{fixed_kept}
+use Rattle.pci_settle_writes.proofs.Refusals.{untold_kept}
 
 -- a table that has nothing, of a test that nothing passes
 table_of_none : (s : System) (test : FunctionPart → Bool) (table : List Kept) → ((r : FunctionPart) → test r ≡ false) → length table ≡ length s → AreNone table
@@ -60,19 +61,33 @@ table_of_staying q s holds table are = record {
       ap (λ t. kept_of t part) (get_or_default table k d nothing_kept (subst (λ n. k < n) (sym are.count) within)) ∙ are.each k f part at there;
 }
 
+-- where nothing is told, whatever has a flag for each told range tells it
+pub nothing_known : (q : Request) (s : System) (t : KnownTold) → q.told.ranges ≡ t.ranges → t.ranges ≡ [] → HasEachFlag t → KnowsTold q s t
+nothing_known q s t same none has =
+    let count : length q.told.ranges ≡ 0 = ap length (same ∙ none) in
+    record {
+      ranges = same;
+      lines = record { size = has.lines ∙ ap length (sym same); each = λ k d r low. absurd (let no : ⊥ = omega (arith, low, count) in no) };
+      standing = λ n r at. absurd (let within = slice_get_within q.told.ranges n r at in let no : ⊥ = omega (arith, within, count) in no);
+    }
+
 -- open windows of what is left are those that were found
 pub left_opened : {records : List Record} {overs windows : List OpenWindows} → ((q : Request) (s : System) → AreOpenFor q s records windows) → overs ≡ windows
     → (q : Request) (s : System) → AreOpenFor q s records overs
 left_opened {records} opened same q s = subst (AreOpenFor q s records) (sym same) (opened q s)
 
 module _ (a : Admission) (l : Demand) where
+  -- what is asked for tells nothing where nothing is told
+  pub untold_ranges : (q : Request) → IsAskedOf q a.roots l → l.told.ranges ≡ [] → q.told.ranges ≡ []
+  untold_ranges q is untold = ap (λ (d : Demand). d.told.ranges) is.demands_are ∙ untold
+
   -- where all is placed anew
-  module _ (table : List Kept) (count : length table ≡ length (system_in a)) (none : AreNone table) (q : Request) (is : IsAskedOf q a.roots l) (anew : IsTrue q.anew) where
+  module _ (table : List Kept) (count : length table ≡ length (system_in a)) (none : AreNone table) (q : Request) (is : IsAskedOf q a.roots l) (untold : q.told.ranges ≡ []) (anew : IsTrue q.anew) where
     pub stand_anew : IsTableOf (system_in a) (stands q (system_in a)) table
-    stand_anew = table_of_none (system_in a) (stands q (system_in a)) table (none_stands q (system_in a) anew (length (system_parts q (system_in a)))) count none
+    stand_anew = table_of_none (system_in a) (stands q (system_in a)) table (none_stands q (system_in a) anew untold (length (system_parts q (system_in a)))) count none
 
     stay_anew : IsTableOf (system_in a) (stays q (system_in a)) table
-    stay_anew = table_of_none (system_in a) (stays q (system_in a)) table (none_stays q (system_in a) anew) count none
+    stay_anew = table_of_none (system_in a) (stays q (system_in a)) table (none_stays q (system_in a) anew untold) count none
 
     -- the table says no to nothing that is fixed
     pub told_anew : (left : Left) → left.over.now ≡ [] → left.kept.now ≡ [] → left.grown.now ≡ []
@@ -80,8 +95,8 @@ module _ (a : Admission) (l : Demand) where
         → AreAskedFor q (as_it_stands q (system_in a)) a l left table
     told_anew left no_windows none_kept none_grown found = record {
       asked = is;
-      leaving = leaves a.roots (system_in a) l left no_windows none_kept none_grown q record { rooted = is.roots_are; anew = anew; demands = is.demands_are };
-      kept = fixed_kept a q (as_it_stands q (system_in a)) (found (stands q (system_in a)) stand_anew) (found (stays q (system_in a)) stay_anew);
+      leaving = leaves a.roots (system_in a) l left no_windows none_kept none_grown q record { rooted = is.roots_are; anew = anew; untold = untold; demands = is.demands_are };
+      kept = untold_kept a q (as_it_stands q (system_in a)) untold (found (stands q (system_in a)) stand_anew) (found (stays q (system_in a)) stay_anew);
       stay = stay_anew;
       none = refl;
     }

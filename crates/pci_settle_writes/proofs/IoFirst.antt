@@ -143,12 +143,14 @@ alone_fault a q (unplaced.Lacks x) fault.BadLists is io of = absurd of
 alone_fault a q (unplaced.Lacks x) (fault.Assumed slot reg) is io of = absurd of
 alone_fault a q (unplaced.Lacks x) (fault.TooLarge class slot) is io of = absurd of
 alone_fault a q (unplaced.Lacks x) (fault.Fixed slot reg) is io of = absurd of
+alone_fault a q (unplaced.Lacks x) (fault.Told slot line) is io of = absurd of
 alone_fault a q (unplaced.Lacks x) (fault.NoRoom lack) is io of = λ other.
     ap (λ o. or_lack o other) (alone_lacks q (system_in a) (candidate_value (system_in a) x) is (ap window_space io)) ∙ of other
 alone_fault a q (unplaced.TooLarge class k) fault.BadLists is io of = absurd of
 alone_fault a q (unplaced.TooLarge class k) (fault.Assumed slot reg) is io of = absurd of
 alone_fault a q (unplaced.TooLarge class k) (fault.NoRoom lack) is io of = absurd of
 alone_fault a q (unplaced.TooLarge class k) (fault.Fixed slot reg) is io of = absurd of
+alone_fault a q (unplaced.TooLarge class k) (fault.Told slot line) is io of = absurd of
 alone_fault a q (unplaced.TooLarge class k) (fault.TooLarge name slot) is io of =
     let named : kind_value name ≡ IoWindow = ap kind_value of.0 ∙ io in
     let large = large_by_all q (system_in a) k (subst (λ c. IsTooLarge (io_alone q) (system_in a) c k) io is.large) in (
@@ -163,6 +165,7 @@ alone_large a q (refused.Fault fault.BadLists) is = absurd is
 alone_large a q (refused.Fault (fault.Assumed slot reg)) is = absurd is
 alone_large a q (refused.Fault (fault.NoRoom lack)) is = absurd is
 alone_large a q (refused.Fault (fault.Fixed slot reg)) is = absurd is
+alone_large a q (refused.Fault (fault.Told slot line)) is = absurd is
 alone_large a q (refused.Fault (fault.TooLarge class slot)) is =
     let at = is.1 in (
       record {
@@ -179,6 +182,7 @@ large_in_io a q w fault.BadLists is of = absurd of
 large_in_io a q w (fault.Assumed slot reg) is of = absurd of
 large_in_io a q w (fault.NoRoom lack) is of = absurd of
 large_in_io a q w (fault.Fixed slot reg) is of = absurd of
+large_in_io a q w (fault.Told slot line) is of = absurd of
 large_in_io a q w (fault.TooLarge name slot) is of = (ap kind_value of.0 ∙ is.0, record { function = w.function; is = of.1; large = is.1 })
 
 -- lists that are those of I/O alone

@@ -10,9 +10,9 @@ use Rattle.pci_spec.specs.Slot.{Slot}
 use Rattle.pci_spec.specs.Header.{layout, bar_count, rom_place}
 use Rattle.pci_spec.specs.Decoded.{Range}
 use Rattle.pci_spec.specs.System.{System, Function, Space, Io, Memory, IsFunction, IsSystem, is_bridge, has_part, register_of}
+use Rattle.settle_spec.specs.Lines.{taken_for}
 use Rattle.settle_spec.specs.Lists.{Request}
-use Rattle.settle_spec.specs.Items.{Item, Placing, AllPlaced, Lacks, and_placed, place_next, taken_by}
-use Rattle.settle_spec.specs.Growth.{place_each}
+use Rattle.settle_spec.specs.Items.{Item, Placing, AllPlaced, Lacks, and_placed, place_next, taken_by, place_each}
 use Rattle.settle_spec.specs.Places.{placed_of, first_lack}
 use Rattle.settle_spec.specs.Kept.{Kept}
 use Rattle.settle_spec.specs.Keeping.Places.{space_items, taken_at, place_of_item, placing_within, placing_on, lacking_on, lacking}
@@ -62,7 +62,7 @@ first_cases (Lacks j) other i e = inl cc
 module _ (q : Request) (s : System) (keep : Kept) where
   pub space_has : (space : Space) (bus : ℕ) (i : Item) → placing_on q s keep space bus ≡ Lacks i → Contains (space_items q s keep space bus) i
   space_has space bus i e =
-      lacks_in (place_of_item q s keep (λ over. placed_of (placing_within q s keep space 255 over))) (taken_at q s keep space bus) (space_items q s keep space bus) i
+      lacks_in (λ x xs. place_of_item q s keep (λ over. placed_of (placing_within q s keep space 255 over)) x (taken_for q x.region xs)) (taken_at q s keep space bus) (space_items q s keep space bus) i
       (sym (placing_step q s keep space 255 bus) ∙ e)
 
   on_bus : (space : Space) (bus : ℕ) (i : Item) → placing_on q s keep space bus ≡ Lacks i → IsItem q s keep i

@@ -10,6 +10,7 @@ pub mod Lacking
 pub mod IoFirst
 pub mod Endings
 pub mod Refusals
+pub mod Unkept
 pub mod Outcomes
 pub mod HeldTables
 pub mod Firsts
@@ -29,3 +30,8 @@ pub mod WishesBefore
 pub mod WishesExtents
 pub mod WishesGranted
 pub mod AlikeParts
+pub mod ToldFirsts
+pub mod ToldTests
+pub mod KeptAbove
+pub mod ToldSwitched
+pub mod BlocksAt

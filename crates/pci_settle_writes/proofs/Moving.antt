@@ -15,9 +15,10 @@ use Rattle.pci_spec.specs.Decoded as decoded
 use Rattle.pci_spec.specs.System.{System, Function, Space, Io, Memory, Part, Bar, Rom, Window, is_window, has_part, is_space_on, space_of}
 use Rattle.pci_spec.proofs.Members.{in_range_to}
 use Rattle.plan_spec.specs.Plan.{bridges_above, is_open}
+use Rattle.given_spec.specs.ToldRegion.{told_regions}
 use Rattle.settle_spec.specs.Lists.{Request}
 use Rattle.settle_spec.specs.Parts.{FunctionPart, is_part, is_left, header_bars, header_parts, are_same_space, class_in, has_left}
-use Rattle.settle_spec.specs.Registers.{has_own}
+use Rattle.settle_spec.specs.Registers.{is_answered_by, has_own}
 use Rattle.settle_spec.specs.Writes.{differs_at, part_registers, is_cut_off_in}
 use Rattle.settle_spec.specs.Kept.{Kept}
 use Rattle.settle_spec.specs.Keeping.Registers.{settled_function}
@@ -26,7 +27,7 @@ use Rattle.pci_base.specs.Space.{is_on}
 use Rattle.pci_image.specs.declared.bar.Bar.{Bar as CodeBar}
 use Rattle.pci_image.specs.Bars.{decoded_bar_of}
 use Rattle.pci_function.specs.declared.record.Record.{Record}
-use Rattle.pci_tree.proofs.Lifting.{same_bridge}
+use Rattle.pci_tree.proofs.Lifting.{same_bridge, same_slot_of}
 use Rattle.pci_place.specs.Classes.{is_wide_kind}
 use Rattle.pci_place.specs.Records.{IsRecordOf}
 use Rattle.pci_place.proofs.ClassOf.{kind_wide}
@@ -34,12 +35,14 @@ use Rattle.pci_place.proofs.Parts.{rom_of}
 use Rattle.pci_settle.specs.Kept.{kept_of}
 use Rattle.pci_settle.specs.Own.{is_left_bar, bar_class_of}
 use Rattle.pci_settle.proofs.OwnItems.{class_by}
+use Rattle.pci_settling.specs.Answers.{is_answering}
 use Rattle.pci_settling.specs.Claims.{has_left_bar, has_kept}
+use Rattle.pci_settling.proofs.AnsweringFunctions.{answering_is}
 use Rattle.pci_settling.proofs.PlacedImages.{register_place}
 use Rattle.pci_settling.proofs.KeptClaims.{any_map, any_filter, any_bar, on_is, bar_space, left_is, left_are, rom_on_is, kept_are}
 use Rattle.pci_settle_writes.specs.declared.shut.Around.{Around}
 use Rattle.pci_settle_writes.specs.declared.way.BySpace.{BySpace}
-use Rattle.pci_settle_writes.specs.Shut.{IsAround, in_space, in_class, differs_in, window_registers, is_window_changed, is_bar_changed, is_moving_bar, has_moving_rom, has_moving_by, is_cut_off_by, is_shut_by, closing_by}
+use Rattle.pci_settle_writes.specs.Shut.{IsAround, in_space, in_class, differs_in, window_registers, is_window_changed, is_bar_changed, is_moving_bar, has_moving_rom, has_moving_by, has_own_by, is_cut_off_by, is_shut_by, closing_by}
 use Rattle.pci_settle_writes.proofs.Ways.{not_all, not_none}
 
 -- ---- tests
@@ -103,10 +106,10 @@ module _ (q : Request) (s : System) (keep : Kept) (f : Function) (r : Record) (i
         ∙ sym (or_nothing _)
 
     bar_changes : (bar : CodeBar) (n : ℕ) → decoded_bar_of bar ≡ decoded_bar f.image f.probe n
-        → (is_bar_changed old new bar || not (in_class o.way.same (bar_class_of bar o.over o.terms.prefetch_last))) ≡ (changes_at q s keep f (Bar n) || changes_above q s keep (class_in q s f (Bar n)) f.slot.bus)
+        → (is_bar_changed old new bar || not (in_class o.way.same (bar_class_of bar o.over o.answering.terms.prefetch_last))) ≡ (changes_at q s keep f (Bar n) || changes_above q s keep (class_in q s f (Bar n)) f.slot.bus)
     bar_changes bar n e =
-        ap (λ b. b || not (in_class o.way.same (bar_class_of bar o.over o.terms.prefetch_last))) (bar_is bar n e)
-        ∙ ap (λ c. changes_at q s keep f (Bar n) || not (in_class o.way.same c)) (class_by q s f r o.over o.terms is at.terms at.over bar n e)
+        ap (λ b. b || not (in_class o.way.same (bar_class_of bar o.over o.answering.terms.prefetch_last))) (bar_is bar n e)
+        ∙ ap (λ c. changes_at q s keep f (Bar n) || not (in_class o.way.same c)) (class_by q s f r o.over o.answering.terms is at.terms at.over bar n e)
         ∙ ap (λ b. changes_at q s keep f (Bar n) || b) (above_is (class_in q s f (Bar n)))
 
     -- what changes of the BAR at a register, unless the table has it as one that stays
@@ -114,9 +117,9 @@ module _ (q : Request) (s : System) (keep : Kept) (f : Function) (r : Record) (i
     moved n = not (kept_of o.kept.now (Bar n)) && (changes_at q s keep f (Bar n) || changes_above q s keep (class_in q s f (Bar n)) f.slot.bus)
 
     bar_moves : (bar : CodeBar) (n : ℕ) → decoded_bar_of bar ≡ decoded_bar f.image f.probe n
-        → (not (kept_of o.kept.now (Bar ((bar.reg - 0x10) / 4))) && (is_bar_changed old new bar || not (in_class o.way.same (bar_class_of bar o.over o.terms.prefetch_last)))) ≡ moved n
+        → (not (kept_of o.kept.now (Bar ((bar.reg - 0x10) / 4))) && (is_bar_changed old new bar || not (in_class o.way.same (bar_class_of bar o.over o.answering.terms.prefetch_last)))) ≡ moved n
     bar_moves bar n e =
-        ap (λ m. not (kept_of o.kept.now (Bar m)) && (is_bar_changed old new bar || not (in_class o.way.same (bar_class_of bar o.over o.terms.prefetch_last))))
+        ap (λ m. not (kept_of o.kept.now (Bar m)) && (is_bar_changed old new bar || not (in_class o.way.same (bar_class_of bar o.over o.answering.terms.prefetch_last))))
         (register_place bar.reg n (ap (λ (x : DecodedBar). x.register) e))
         ∙ ap (λ b. not (kept_of o.kept.now (Bar n)) && b) (bar_changes bar n e)
 
@@ -133,9 +136,9 @@ module _ (q : Request) (s : System) (keep : Kept) (f : Function) (r : Record) (i
       bar_same : (bar : CodeBar) (n : ℕ) → decoded_bar_of bar ≡ decoded_bar f.image f.probe n
           → is_moving_bar o space old new bar ≡ (is_of (Bar n) && not (is_left q s f (Bar n)) && moved n)
       bar_same bar n e =
-          let all : Bool = not (kept_of o.kept.now (Bar ((bar.reg - 0x10) / 4))) && (is_bar_changed old new bar || not (in_class o.way.same (bar_class_of bar o.over o.terms.prefetch_last))) in
-          ap (λ b. b && not (is_left_bar bar o.over.above o.terms.has_io) && all) (bar_space f space bar n e)
-          ∙ ap (λ b. is_of (Bar n) && not b && all) (left_is q s f r is o.over.above at.over.above o.terms at.terms bar n e)
+          let all : Bool = not (kept_of o.kept.now (Bar ((bar.reg - 0x10) / 4))) && (is_bar_changed old new bar || not (in_class o.way.same (bar_class_of bar o.over o.answering.terms.prefetch_last))) in
+          ap (λ b. b && not (is_left_bar bar o.over.above o.answering.terms.has_io) && all) (bar_space f space bar n e)
+          ∙ ap (λ b. is_of (Bar n) && not b && all) (left_is q s f r is o.over.above at.over.above o.answering.terms at.terms bar n e)
           ∙ ap (λ b. is_of (Bar n) && not (is_left q s f (Bar n)) && b) (bar_moves bar n e)
 
       abbrev own : Part → Bool
@@ -145,7 +148,7 @@ module _ (q : Request) (s : System) (keep : Kept) (f : Function) (r : Record) (i
       rom_moves =
           let on : Bool = has_rom f.image f.probe && rom_is_on f.image in
           ap (λ b. b && (not o.kept.now.rom && (differs_in old new (rom_place (is_some r.bridge), 4) || not o.way.same.memory)))
-          (rom_on_is q s f r is o.over.above at.over.above o.terms at.terms space r.rom (rom_of s f r is))
+          (rom_on_is q s f r is o.over.above at.over.above o.answering.terms at.terms space r.rom (rom_of s f r is))
           ∙ ap (λ b. on && (not b && (differs_in old new (rom_place (is_some r.bridge), 4) || not o.way.same.memory))) (at.kept Rom refl)
           ∙ ap (λ b. on && (not (keep.stays (region Rom)) && (b || not o.way.same.memory))) (differs q s keep f old new old_is new_is (rom_place (is_some r.bridge), 4))
           ∙ ap (λ b. on && (not (keep.stays (region Rom)) && (differs_at f (settled_function q s keep f) (rom_place b, 4) || not o.way.same.memory))) (same_bridge r f is.value)
@@ -176,10 +179,18 @@ module _ (q : Request) (s : System) (keep : Kept) (f : Function) (r : Record) (i
 
       -- ---- what is shut
 
+      own_is : has_own_by o space r ≡ has_own q s space f
+      own_is =
+          let ranges = o.answering.told.ranges.now in
+          let standing = o.answering.standing.now in
+          ap (λ b. b || has_kept space o.over.above o.answering.terms r)
+          (ap (is_answering ranges standing space) (same_slot_of r f is.value) ∙ answering_is q s f space ranges standing at.told at.stand)
+          ∙ ap (λ b. list_any (is_answered_by q s space f) (told_regions q.told) || b) (kept_are q s f r is o.over.above at.over.above o.answering.terms at.terms space)
+
       cut_is : is_cut_off_by o space r ≡ is_cut_off_in q s f space
       cut_is =
-          ap (λ b. b && has_kept space o.over.above o.terms r && not (in_space o.way.on space)) (on_is s f r is space)
-          ∙ ap (λ b. is_space_on f space && b && not (in_space o.way.on space)) (kept_are q s f r is o.over.above at.over.above o.terms at.terms space)
+          ap (λ b. b && has_own_by o space r && not (in_space o.way.on space)) (on_is s f r is space)
+          ∙ ap (λ b. is_space_on f space && b && not (in_space o.way.on space)) own_is
           ∙ ap (λ b. is_space_on f space && has_own q s space f && b) (ap not (at.way.on space) ∙ not_all (λ b. is_space_on b space) (bridges_above s f.slot.bus))
 
       pub itself_is : is_shut_by o space old new r ≡ is_shut_itself q s keep space f
@@ -194,9 +205,9 @@ module _ (q : Request) (s : System) (keep : Kept) (f : Function) (r : Record) (i
   pub closing_is : (shut : BySpace) → ((x : Space) → in_space shut x ≡ is_shut q s keep x f) → closing_by o r shut ≡ closing_command q s keep f
   closing_is shut same =
       let holds : r.command ≡ command f.image = ap (λ (x : decoded.Record). x.command) is.value in
-      let left : Bool = has_left_bar r o.over.above o.terms in
+      let left : Bool = has_left_bar r o.over.above o.answering.terms in
       ap (λ b. without_low 4 r.command + (if not b && (not left && is_on r.command Io) then 1 else 0) + (if not shut.memory && is_on r.command Memory then 2 else 0)) (same Io)
       ∙ ap (λ b. without_low 4 r.command + (if not (is_shut q s keep Io f) && (not left && is_on r.command Io) then 1 else 0) + (if not b && is_on r.command Memory then 2 else 0)) (same Memory)
       ∙ ap (λ b. without_low 4 r.command + (if not (is_shut q s keep Io f) && (not b && is_on r.command Io) then 1 else 0) + (if not (is_shut q s keep Memory f) && is_on r.command Memory then 2 else 0))
-      (left_are q s f r is o.over.above at.over.above o.terms at.terms)
+      (left_are q s f r is o.over.above at.over.above o.answering.terms at.terms)
       ∙ ap (λ n. without_low 4 n + (if not (is_shut q s keep Io f) && (not (has_left q s f) && is_on n Io) then 1 else 0) + (if not (is_shut q s keep Memory f) && is_on n Memory then 2 else 0)) holds

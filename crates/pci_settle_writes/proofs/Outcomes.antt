@@ -3,18 +3,20 @@ use Rattle.std.proofs.Common.{◌≡◌, ◌⊎◌, inl, inr, List, [], ◌∷�
 use Rattle.std.specs.List.{find}
 use Rattle.std.specs.Option.{option_map}
 use Rattle.std.proofs.lemmas.Bool.{and_parts, and_from, both_ways}
-use Rattle.std.proofs.lemmas.Option.{none-some}
+use Rattle.std.proofs.lemmas.Option.{none-some, same_Some}
 use Rattle.pci_spec.specs.System.{System}
 use Rattle.settle_spec.specs.Lists.{Request, are_bad_lists}
 use Rattle.settle_spec.specs.Parts.{FunctionPart, system_parts}
 use Rattle.settle_spec.specs.Stands.{is_fixed_part, stands}
-use Rattle.settle_spec.specs.Writes.{Settling, BadLists, Fixed, NoRoom, Settled, or_fixed, or_lack, fixed_without}
+use Rattle.given_spec.specs.ToldRegion.{ToldRegion}
+use Rattle.settle_spec.specs.Writes.{Settling, BadLists, Fixed, NoRoom, NotKept, Settled, or_fixed, or_lack, fixed_without}
 use Rattle.settle_spec.specs.Kept.{Kept, as_it_stands, growing}
 use Rattle.settle_spec.specs.Keeping.Places.{lacking}
-use Rattle.settle_spec.specs.Keeping.Writes.{settle_writes, settle_keeping}
+use Rattle.settle_spec.specs.Keeping.Writes.{settle_writes, settle_keeping, is_not_reached, does_not_stay, earliest, or_told, or_not_staying, or_written}
 use Rattle.settle_spec.specs.Growing.{or_else, settle_growing, kept_by, finally_kept}
 use Rattle.settle_spec.specs.Sparing.{is_settled}
 use Rattle.settle_laws.proofs.NothingGrows.{growing_is_standing}
+use Rattle.settle_laws.proofs.Told.OnlyHeld.{held_of}
 use Rattle.stand_laws.proofs.GrowingKept.{growing_stands}
 use Rattle.pci_base.specs.declared.memory.Refused.{Refused}
 use Rattle.pci_base.specs.declared.memory.Refused.TheVariants as refused
@@ -25,12 +27,13 @@ use Rattle.pci_settle.specs.NewWindows.{IsTooLarge}
 use Rattle.pci_stay.specs.declared.windows.TooLarge.{TooLarge}
 use Rattle.pci_settle_writes.specs.declared.lack.SettleFault.{SettleFault}
 use Rattle.pci_settle_writes.specs.declared.lack.SettleFault.TheVariants as fault
-use Rattle.pci_settle_writes.specs.Lacks.{is_too_large, IsSettleFaultOf, too_large, no_room}
+use Rattle.pci_settle_writes.specs.Lacks.{is_too_large, IsSettleFaultOf, too_large, no_room, not_kept}
 use Rattle.pci_settle_writes.specs.Fixed.{fixed_part}
+use Rattle.pci_settle_writes.specs.ToldEndings.{told_fault, first_told}
+use Rattle.pci_settle_writes.specs.Bounded.{or_other, kept_fault}
 use Rattle.pci_settle_writes.specs.Ended.{Ended, IsEnded}
-use Rattle.pci_settle_writes.specs.Endings.{then_writes, after_lists, AreFixedKept, IsEndedBy, IsRefused, IsRefusedGrowing, HasLarge, IsNotGrown, kept_after, EndsAfter, IsEndedAfter, HasNoAssumed, EndsWith, IsRefusal}
+use Rattle.pci_settle_writes.specs.Endings.{after_lists, AreFixedKept, AreKeptStaying, IsEndedBy, IsRefused, IsRefusedGrowing, HasLarge, IsNotGrown, kept_after, EndsAfter, IsEndedAfter, HasNoAssumed, EndsWith, IsRefusal}
 use Rattle.pci_settle_writes.proofs.Endings.{ends_fine}
-use Rattle.pci_settle_writes.proofs.Refusals.{none_found}
 
 -- ---- what is fixed and stays also stands
 
@@ -62,24 +65,40 @@ module _ (q : Request) (s : System) where
       and_from (is_fixed_part q r) (not (keeps r)) both.0 (not_fewer (keeps r) (stands q s r) (standing r) both.1))
       (system_parts q s) none
 
-  pub growing_fixed : None ≡ option_map fixed_part (fixed_without (growing q s).stays q s) → AreFixedKept q s (growing q s)
-  growing_fixed found =
-      let none = none_found fixed_part (fixed_without (growing q s).stays q s) found in
-      record { stand = fixed_stand (growing q s).stays (growing_stands q s) none; stay = none }
+  pub growing_fixed : earliest q (is_not_reached q s) ≡ None → AreKeptStaying q s (growing q s) → AreFixedKept q s (growing q s)
+  growing_fixed reached stay = record {
+    stand = record { told = reached; fixed = fixed_stand (growing q s).stays (growing_stands q s) stay.fixed };
+    stay = stay;
+  }
 
 -- ---- what is refused
+
+-- how settling where windows grow ends once all that is to stay does
+abbrev grown_rest : Admission → Request → Settling
+grown_rest a q =
+    or_lack (lacking q (system_in a) (growing q (system_in a))) (or_written q (system_in a) (growing q (system_in a)) (Settled (settle_writes q (system_in a) (growing q (system_in a)))))
 
 refused_after : (o : Option FunctionPart) (x : Settling) → IsRefused x → IsRefused (or_fixed o x)
 refused_after None x is = is
 refused_after (Some r) x is = tt
 
--- something that is fixed doesn't stay where windows grow
+refused_told : (o : Option ToldRegion) (x : Settling) → IsRefused x → IsRefused (or_told o x)
+refused_told None x is = is
+refused_told (Some x) other is = tt
+
+-- something that is told or fixed doesn't stay where windows grow
+unstaying_refused : (a : Admission) (q : Request) → IsRefused (or_not_staying q (system_in a) (growing q (system_in a)) (grown_rest a q)) → IsRefusedGrowing a q
+unstaying_refused a q is =
+    let s = system_in a in
+    let staying : Settling = or_not_staying q s (growing q s) (grown_rest a q) in
+    refused_told (earliest q (is_not_reached q s)) (or_fixed (fixed_without (stands q s) q s) staying) (refused_after (fixed_without (stands q s) q s) staying is)
+
 pub refused_fixed : (a : Admission) (q : Request) (r : FunctionPart) → fixed_without (growing q (system_in a)).stays q (system_in a) ≡ Some r → IsRefusedGrowing a q
 refused_fixed a q r at =
     let s = system_in a in
     let keep = growing q s in
-    let rest : Settling = or_lack (lacking q s keep) (then_writes q (settle_writes q s keep)) in
-    refused_after (fixed_without (stands q s) q s) (or_fixed (fixed_without keep.stays q s) rest) (subst (λ o. IsRefused (or_fixed o rest)) (sym at) tt)
+    unstaying_refused a q (refused_told (earliest q (does_not_stay q s keep)) (or_fixed (fixed_without keep.stays q s) (grown_rest a q))
+    (subst (λ o. IsRefused (or_fixed o (grown_rest a q))) (sym at) tt))
 
 pub refused_by : (a : Admission) (q : Request) (f : SettleFault) (o : Option FunctionPart) → fixed_without (growing q (system_in a)).stays q (system_in a) ≡ o → Some f ≡ option_map fixed_part o → IsRefusedGrowing a q
 refused_by a q f None at e = absurd (none-some f (sym e))
@@ -92,6 +111,7 @@ not_grown_by a q (fault.Assumed slot reg) (Some r) e is = absurd (let no : ⊥ =
 not_grown_by a q (fault.NoRoom lack) (Some r) e is = is
 not_grown_by a q (fault.TooLarge class slot) (Some r) e is = absurd (let no : ⊥ = cc in no)
 not_grown_by a q (fault.Fixed slot reg) (Some r) e is = is
+not_grown_by a q (fault.Told slot line) (Some r) e is = absurd (let no : ⊥ = cc in no)
 
 module _ (a : Admission) (q : Request) where
   abbrev s : System
@@ -101,6 +121,20 @@ module _ (a : Admission) (q : Request) where
   unstaying_grown f e =
       not_grown_by a q f (fixed_without (growing q s).stays q s) e (refused_by a q f (fixed_without (growing q s).stays q s) refl e)
 
+  -- a told range that stands doesn't stay, or else a fixed part
+  cut_grown_by : (f : SettleFault) (o : Option ToldRegion) → earliest q (does_not_stay q s (growing q s)) ≡ o → Some f ≡ option_map told_fault o → IsNotGrown a q (refused.Fault f)
+  cut_grown_by f None at e = absurd (none-some f (sym e))
+  cut_grown_by f (Some x) at e = subst (λ y. IsNotGrown a q (refused.Fault y)) (sym (same_Some f (told_fault x) e))
+      (unstaying_refused a q (subst (λ o. IsRefused (or_told o (or_fixed (fixed_without (growing q s).stays q s) (grown_rest a q)))) (sym at) tt))
+
+  unkept_grown_by : (f : SettleFault) (o : Option SettleFault) → first_told q (does_not_stay q s (growing q s)) ≡ o
+      → Some f ≡ or_other o (option_map fixed_part (fixed_without (growing q s).stays q s)) → IsNotGrown a q (refused.Fault f)
+  unkept_grown_by f None at e = unstaying_grown f e
+  unkept_grown_by f (Some g) at e = cut_grown_by f (earliest q (does_not_stay q s (growing q s))) refl (e ∙ sym at)
+
+  pub unkept_grown : (f : SettleFault) → Some f ≡ kept_fault q s (growing q s) → IsNotGrown a q (refused.Fault f)
+  unkept_grown f e = unkept_grown_by f (first_told q (does_not_stay q s (growing q s))) refl e
+
   pub not_grown : (e : Refused SettleFault) → IsEndedBy a q (growing q s) e → IsNotGrown a q e
   not_grown refused.Memory is = tt
   not_grown (refused.Fault fault.BadLists) is = absurd is
@@ -108,12 +142,14 @@ module _ (a : Admission) (q : Request) where
   not_grown (refused.Fault (fault.NoRoom lack)) is = subst IsRefused (sym is) tt
   not_grown (refused.Fault (fault.TooLarge class slot)) is = is.at
   not_grown (refused.Fault (fault.Fixed slot reg)) is = subst IsRefused (sym is) tt
+  not_grown (refused.Fault (fault.Told slot line)) is = subst IsRefused (sym is) tt
 
   pub large_not_grown : (w : TooLarge) (f : SettleFault) → IsTooLarge q s (kind_value w.class) w.function → IsSettleFaultOf s (too_large w) f → IsNotGrown a q (refused.Fault f)
   large_not_grown w fault.BadLists large of = absurd of
   large_not_grown w (fault.Assumed slot reg) large of = absurd of
   large_not_grown w (fault.NoRoom lack) large of = absurd of
   large_not_grown w (fault.Fixed slot reg) large of = absurd of
+  large_not_grown w (fault.Told slot line) large of = absurd of
   large_not_grown w (fault.TooLarge name slot) large of =
       record { function = w.function; is = of.1; large = subst (λ c. IsTooLarge q s (kind_value c) w.function) (sym of.0) large }
 
@@ -124,13 +160,14 @@ module _ (a : Admission) (q : Request) where
     ended_growing is = subst (λ (k : Kept). IsEnded q k a o)
         (sym (ap (λ end. kept_by end (growing q s) (as_it_stands q s)) is.ends)) is
 
-    pub ended_anew : q.anew ≡ true → IsEnded q (as_it_stands q s) a o → IsEnded q (kept_after q s) a o
-    ended_anew anew is = ended_growing (subst (λ (k : Kept). IsEnded q k a o) (sym (growing_is_standing q s anew)) is)
+    pub ended_anew : q.told.ranges ≡ [] → q.anew ≡ true → IsEnded q (as_it_stands q s) a o → IsEnded q (kept_after q s) a o
+    ended_anew untold anew is = ended_growing (subst (λ (k : Kept). IsEnded q k a o) (sym (growing_is_standing q (held_of q untold) s anew)) is)
 
     refused_kept : (end : Settling) (own other : Kept) → IsRefused end → kept_by end own other ≡ other
     refused_kept (Settled writes) own other is = absurd is
     refused_kept BadLists own other is = refl
     refused_kept (Fixed slot register) own other is = refl
+    refused_kept (NotKept slot register) own other is = refl
     refused_kept (NoRoom class slot register size alignment) own other is = refl
 
     standing_after : IsRefusedGrowing a q → IsEnded q (as_it_stands q s) a o → IsEnded q (kept_after q s) a o
@@ -142,17 +179,19 @@ module _ (a : Admission) (q : Request) where
     ended_standing (fault.NoRoom lack) none small is = standing_after none is
     ended_standing (fault.TooLarge class slot) none small is = absurd (both_ways true small refl)
     ended_standing (fault.Fixed slot reg) none small is = standing_after none is
+    ended_standing (fault.Told slot line) none small is = standing_after none is
 
-  anew_refused : q.anew ≡ true → (end : Settling) → after_lists q s (as_it_stands q s) ≡ end → IsRefused end → IsRefusedGrowing a q
-  anew_refused anew end is refused = subst IsRefused (sym (ap (after_lists q s) (growing_is_standing q s anew) ∙ is)) refused
+  anew_refused : q.told.ranges ≡ [] → q.anew ≡ true → (end : Settling) → after_lists q s (as_it_stands q s) ≡ end → IsRefused end → IsRefusedGrowing a q
+  anew_refused untold anew end is refused = subst IsRefused (sym (ap (after_lists q s) (growing_is_standing q (held_of q untold) s anew) ∙ is)) refused
 
-  pub after_anew : q.anew ≡ true → (e : Refused SettleFault) → IsEndedBy a q (as_it_stands q s) e → IsEndedAfter a q e
-  after_anew anew refused.Memory is = tt
-  after_anew anew (refused.Fault fault.BadLists) is = absurd is
-  after_anew anew (refused.Fault (fault.Assumed slot reg)) is = absurd is
-  after_anew anew (refused.Fault (fault.NoRoom lack)) is = (is, inl (anew_refused anew (no_room lack) is tt))
-  after_anew anew (refused.Fault (fault.TooLarge class slot)) is = is
-  after_anew anew (refused.Fault (fault.Fixed slot reg)) is = (is, inl (anew_refused anew (Fixed slot reg) is tt))
+  pub after_anew : q.told.ranges ≡ [] → q.anew ≡ true → (e : Refused SettleFault) → IsEndedBy a q (as_it_stands q s) e → IsEndedAfter a q e
+  after_anew untold anew refused.Memory is = tt
+  after_anew untold anew (refused.Fault fault.BadLists) is = absurd is
+  after_anew untold anew (refused.Fault (fault.Assumed slot reg)) is = absurd is
+  after_anew untold anew (refused.Fault (fault.NoRoom lack)) is = (is, inl (anew_refused untold anew (no_room lack) is tt))
+  after_anew untold anew (refused.Fault (fault.TooLarge class slot)) is = is
+  after_anew untold anew (refused.Fault (fault.Fixed slot reg)) is = (is, inl (anew_refused untold anew (Fixed slot reg) is tt))
+  after_anew untold anew (refused.Fault (fault.Told slot line)) is = (is, inl (anew_refused untold anew (not_kept slot line) is tt))
 
   -- ---- with lists that are fine
 
@@ -168,6 +207,7 @@ module _ (a : Admission) (q : Request) where
     at_last f own other (Settled writes) e = sym e
     at_last f own other BadLists e = refl
     at_last f own other (Fixed slot register) e = refl
+    at_last f own other (NotKept slot register) e = refl
     at_last f own other (NoRoom class slot register size alignment) e = refl
 
     module _ (o : Ended) (is : IsEnded q (kept_after q s) a o) where
@@ -182,6 +222,7 @@ module _ (a : Admission) (q : Request) where
     or_else_refused (Settled writes) other is = absurd is
     or_else_refused BadLists other is = refl
     or_else_refused (Fixed slot register) other is = refl
+    or_else_refused (NotKept slot register) other is = refl
     or_else_refused (NoRoom class slot register size alignment) other is = refl
 
     unsettled_after : (end : Settling) → EndsAfter a q end → is_settled end ≡ false → (is_settled (settle_growing q s) ≡ false) ⊎ HasLarge a q
@@ -196,6 +237,7 @@ module _ (a : Admission) (q : Request) where
     unsettled (fault.NoRoom lack) is = unsettled_after (no_room lack) is refl
     unsettled (fault.TooLarge class slot) is = inr record { class = kind_value class; slot = slot; at = is.at }
     unsettled (fault.Fixed slot reg) is = unsettled_after (Fixed slot reg) is refl
+    unsettled (fault.Told slot line) is = unsettled_after (not_kept slot line) is refl
 
     -- and how the refusal is told
     refusal_ends : (end : Settling) → EndsAfter a q end → EndsWith a q end
@@ -211,3 +253,4 @@ module _ (a : Admission) (q : Request) where
     refusal_of sized (refused.Fault (fault.NoRoom lack)) is = (sized, refusal_ends (no_room lack) is)
     refusal_of sized (refused.Fault (fault.TooLarge class slot)) is = (fine, sized, is)
     refusal_of sized (refused.Fault (fault.Fixed slot reg)) is = (sized, refusal_ends (Fixed slot reg) is)
+    refusal_of sized (refused.Fault (fault.Told slot line)) is = (sized, refusal_ends (not_kept slot line) is)

@@ -8,7 +8,7 @@ use Rattle.pci_spec.specs.Header.{layout, address_registers}
 use Rattle.pci_spec.specs.System.{System, Function, is_bridge}
 use Rattle.pci_spec.specs.Machine.{Write}
 use Rattle.pci_spec.proofs.Members.{in_nil, in_cons_cases, in_head, in_tail, IsInPiece, in_flat_map_to}
-use Rattle.plan_spec.specs.Planning.PlanWrites.{Change, register_write}
+use Rattle.plan_spec.specs.Planning.PlanWrites.{register_write}
 use Rattle.plan_spec.proofs.Planning.Registers.{number_below}
 use Rattle.settle_spec.specs.Lists.{Request}
 use Rattle.settle_spec.specs.Kept.{Kept}

@@ -31,12 +31,14 @@ use Rattle.pci_place.specs.declared.above.Above.{Above}
 use Rattle.pci_place.specs.Above.{IsAbove, AreAboves, system_in}
 use Rattle.pci_place.specs.Records.{IsRecordOf}
 use Rattle.pci_settle.specs.declared.own.Terms.{Terms}
-use Rattle.pci_settle.specs.Slots.{Demand}
+use Rattle.pci_settle.specs.Slots.{Demand, demand_of}
 use Rattle.pci_settle.specs.Own.{AreTerms}
 use Rattle.pci_settled.specs.declared.places.Places.{Places}
 use Rattle.pci_settled.specs.Places.{place_range_in}
 use Rattle.pci_settling.specs.Images.{HasPlacesAndWindows}
-use Rattle.pci_settling.specs.Live.{is_live, IsRequestOfTerms, HasAllPlaces, AreLiveBuses, is_live_on, is_live_behind}
+use Rattle.pci_settling.specs.declared.answering.Answering.{Answering}
+use Rattle.pci_settling.specs.Answers.{AreFlagsOfTold}
+use Rattle.pci_settling.specs.Live.{is_live, IsRequestOf, HasAllPlaces, AreLiveBuses, is_live_on, is_live_behind}
 use Rattle.pci_settling.specs.declared.settled.Behind.{Behind}
 use Rattle.pci_settling.specs.Settled.{IsCommandTold}
 use Rattle.pci_plan.proofs.PlannedDumps.{ArePlanned, next_planned, function_here}
@@ -44,6 +46,7 @@ use Rattle.pci_settle.specs.declared.kept.Kept.{Kept}
 use Rattle.pci_settle.specs.Kept.{kept_of}
 use Rattle.pci_settle.specs.Tables.{untold}
 use Rattle.pci_settle.specs.Keeping.{told_of_kind}
+use Rattle.pci_settle_writes.specs.declared.tables.Tables.{Tables}
 use Rattle.pci_settle_writes.specs.Requests.{IsAskedOf}
 use Rattle.pci_settle_writes.specs.Told.{TellsKeeping}
 use Rattle.pci_settle_writes.specs.Wished.{TellsWishes}
@@ -51,12 +54,17 @@ use Rattle.pci_settle_writes.proofs.StagedWrites.{kept_window}
 
 -- ---- what is asked for
 
-pub request_by : (q : Request) (roots : List ℕ) (l : Demand) (t : Terms) → IsAskedOf q roots l → AreTerms l t → IsRequestOfTerms q roots t
-request_by q roots l t asked terms = record { rooted = asked.roots_are; terms = subst (λ x. AreTerms x t) (sym asked.demands_are) terms }
+pub request_by : (q : Request) (s : System) (roots : List ℕ) (l : Demand) (a : Answering) → IsAskedOf q roots l → AreTerms l a.terms → l.told.ranges ≡ a.told.ranges.now → AreFlagsOfTold q s a.standing.now → IsRequestOf q s roots a
+request_by q s roots l a asked terms told flags = record {
+  rooted = asked.roots_are;
+  terms = subst (λ x. AreTerms x a.terms) (sym asked.demands_are) terms;
+  told = ap (λ (x : Demand). x.told.ranges) asked.demands_are ∙ told;
+  flags = flags;
+}
 
 -- ---- what is told of a function
 
-module _ (roots : List ℕ) (s : System) (system : IsSystem s) (nested : IsNested roots s) (q : Request) (keep : Keeping) (t : Terms) (table : List Places) (of : IsRequestOfTerms q roots t) (placed : HasAllPlaces q s keep table) where
+module _ (roots : List ℕ) (s : System) (system : IsSystem s) (nested : IsNested roots s) (q : Request) (keep : Keeping) (t : Answering) (table : List Places) (of : IsRequestOf q s roots t) (placed : HasAllPlaces q s keep table) where
   -- the table of buses with live functions says whether the bus behind a bridge is one
   behind_now : (space : Space) (live : List Bool) → AreLiveBuses roots s space t table live → (f : Function) (r : Record) → IsRecordOf s f r → is_live_behind live r.bridge ≡ has_live_behind s (is_live q s keep space) f
   behind_now space live has f r is = by r.bridge refl
@@ -95,28 +103,29 @@ module _ (roots : List ℕ) (s : System) (system : IsSystem s) (nested : IsNeste
   }
 
   -- and so is what tells its Command
-  pub told_here : (io memory : List Bool) → AreLiveBuses roots s Io t table io → AreLiveBuses roots s Memory t table memory → (aboves : List Above) → AreAboves s aboves
+  pub told_here : (terms : Terms) → t.terms ≡ terms → (io memory : List Bool) → AreLiveBuses roots s Io t table io → AreLiveBuses roots s Memory t table memory → (aboves : List Above) → AreAboves s aboves
       → (f : Function) (r : Record) → IsRecordOf s f r → (bus : ℕ) → bus ≡ f.slot.bus → (none : Above) (here : Behind) → here.io ≡ is_live_behind io r.bridge → here.memory ≡ is_live_behind memory r.bridge
-      → IsCommandTold q s keep f (get_or aboves bus none) t here
-  told_here io memory io_is memory_is aboves are f r is bus on_bus none here here_io_is here_memory_is = record {
+      → IsCommandTold q s keep f (get_or aboves bus none) terms here
+  told_here terms same io memory io_is memory_is aboves are f r is bus on_bus none here here_io_is here_memory_is = record {
     over = subst (λ n. IsAbove s f.slot.bus (get_or aboves n none)) (sym on_bus) (are f none is.listed);
-    terms = of.terms;
+    terms = subst (AreTerms (demand_of q)) same of.terms;
     io = here_io_is ∙ behind_now Io io io_is f r is;
     memory = here_memory_is ∙ behind_now Memory memory memory_is f r is;
   }
 
 -- ---- block by block
 
--- what is asked for, with the places that parts get, what stays and what is wished by these tables
-pub record IsAskedBy (q : Request) (keep : Keeping) (roots : List ℕ) (s : System) (l : Demand) (table : List Places) (grown wished : List (ByKind (Option Range))) (staying : List Kept) : Type 0 where
+-- what is asked for, with the told ranges that stand, the places that parts get, what stays and what is wished by these tables
+pub record IsAskedBy (q : Request) (keep : Keeping) (roots : List ℕ) (s : System) (l : Demand) (tables : Tables) (wished : List (ByKind (Option Range))) : Type 0 where
   pub asked : IsAskedOf q roots l
-  pub places : HasAllPlaces q s keep table
-  pub tells : TellsKeeping q s keep grown staying
+  pub stand : AreFlagsOfTold q s tables.standing.now
+  pub places : HasAllPlaces q s keep tables.places.now
+  pub tells : TellsKeeping q s keep tables.grown.now tables.staying.now
   pub wishes : TellsWishes s keep wished
 
 -- a function is as it is to be, whatever is asked for
-abbrev pub IsSettledOf : List ℕ → System → Demand → List Places → List (ByKind (Option Range)) → List (ByKind (Option Range)) → List Kept → Function → Function → Type 0
-IsSettledOf roots s l table grown wished staying f g = (q : Request) (keep : Keeping) → IsAskedBy q keep roots s l table grown wished staying → g ≡ settled_function q s keep f
+abbrev pub IsSettledOf : List ℕ → System → Demand → Tables → List (ByKind (Option Range)) → Function → Function → Type 0
+IsSettledOf roots s l tables wished f g = (q : Request) (keep : Keeping) → IsAskedBy q keep roots s l tables wished → g ≡ settled_function q s keep f
 
 -- the function of a block, with its record and its read backs
 pub record IsHere (a : Admission) (k : ℕ) (b : Block) (r : Record) : Type 0 where
@@ -136,20 +145,20 @@ block_here a records is has k b r inside b_at r_at =
 abbrev made : Slot → List ℕ → List ℕ → Function
 made slot image probe = record { slot = slot; image = image; probe = probe }
 
-module _ (a : Admission) (is : IsAdmitted a) (l : Demand) (table : List Places) (grown wished : List (ByKind (Option Range))) (staying : List Kept) where
+module _ (a : Admission) (is : IsAdmitted a) (l : Demand) (tables : Tables) (wished : List (ByKind (Option Range))) where
   abbrev P : Function → Function → Type 0
-  P f g = IsSettledOf a.roots (system_in a) l table grown wished staying f g
+  P f g = IsSettledOf a.roots (system_in a) l tables wished f g
 
   pub next_settled : (k : ℕ) (found : List Block) → ArePlanned P a.dump a.probe k found → (b new : Block) (r : Record) (here : IsHere a k b r) → k < length a.dump → b ≡ get_or a.dump k b
-      → new.slot ≡ b.slot → new.title ≡ b.title → ((q : Request) (keep : Keeping) → IsAskedBy q keep a.roots (system_in a) l table grown wished staying → new.image ≡ (settled_function q (system_in a) keep (function_of b here.probe)).image) → ArePlanned P a.dump a.probe (k + 1) (found ++ new ∷ [])
+      → new.slot ≡ b.slot → new.title ≡ b.title → ((q : Request) (keep : Keeping) → IsAskedBy q keep a.roots (system_in a) l tables wished → new.image ≡ (settled_function q (system_in a) keep (function_of b here.probe)).image) → ArePlanned P a.dump a.probe (k + 1) (found ++ new ∷ [])
   next_settled k found so_far b new r here inside b_at slot title image =
       let p = here.probe in
       let planned : P (function_of b p) (function_of new p) = λ q keep asked. ap (λ (x : Slot). made x new.image p.image) slot ∙ ap (λ (x : List ℕ). made b.slot x p.image) (image q keep asked) in
       next_planned P a.dump a.probe is.slots k found so_far new b p inside b_at here.beside slot title planned
 
 -- once all are there, they and the probe are the settled system
-module _ (roots : List ℕ) (s : System) (l : Demand) (table : List Places) (grown wished : List (ByKind (Option Range))) (staying : List Kept) (q : Request) (keep : Keeping) (asked : IsAskedBy q keep roots s l table grown wished staying) where
-  pub all_settled : (xs ys : List Function) → AllZip (IsSettledOf roots s l table grown wished staying) xs ys → ys ≡ map (settled_function q s keep) xs
+module _ (roots : List ℕ) (s : System) (l : Demand) (tables : Tables) (wished : List (ByKind (Option Range))) (q : Request) (keep : Keeping) (asked : IsAskedBy q keep roots s l tables wished) where
+  pub all_settled : (xs ys : List Function) → AllZip (IsSettledOf roots s l tables wished) xs ys → ys ≡ map (settled_function q s keep) xs
   all_settled [] [] all = refl
   all_settled [] (y ∷ ys) all = absurd all
   all_settled (x ∷ xs) [] all = absurd all

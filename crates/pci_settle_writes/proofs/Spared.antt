@@ -1,5 +1,5 @@
--- Settling with room behind slots: beside wishes it ends as without, and what it comes to can be settled.
-use Rattle.std.proofs.Common.{◌≡◌, ◌<◌, ◌≤◌, ◌^◌, ◌⊎◌, ℕ, inl, inr, take, List, [], ◌∷◌, length, map, Bool, true, false, cond, Option, None, Some, refl, sym, ◌∙◌, ap, subst}
+-- Settling with room behind slots: beside wishes it ends as without, and what it comes to can be settled, as told, too.
+use Rattle.std.proofs.Common.{◌≡◌, ◌<◌, ◌≤◌, ◌^◌, ◌⊎◌, ℕ, inl, inr, take, List, [], ◌∷◌, length, map, Bool, true, false, cond, refl, sym, ◌∙◌, ap, subst}
 use Rattle.std.specs.List.{All, Contains}
 use Rattle.std.proofs.lemmas.List.Elements.{All-contains, All-map}
 use Rattle.std.proofs.lemmas.Bool.{cond_both}
@@ -8,29 +8,30 @@ use Rattle.pci_spec.specs.Text.{Block}
 use Rattle.pci_spec.specs.Machine.{Write, system_after}
 use Rattle.pci_spec.specs.Sound.{IsSound}
 use Rattle.pci_spec.specs.System.{System, system_of}
+use Rattle.given_spec.specs.Told.{IsTold}
 use Rattle.settle_spec.specs.Lists.{RootRange, Request, are_bad_lists}
-use Rattle.settle_spec.specs.Parts.{FunctionPart}
-use Rattle.settle_spec.specs.Stands.{stands}
-use Rattle.settle_spec.specs.Items.{Item, spare_of}
-use Rattle.settle_spec.specs.Writes.{Settling, Settled, fixed_without, fixed_write, or_fixed, or_lack, or_write}
+use Rattle.settle_spec.specs.Items.{spare_of}
+use Rattle.settle_spec.specs.Writes.{Settled}
 use Rattle.settle_spec.specs.Kept.{Kept}
-use Rattle.settle_spec.specs.Keeping.Places.{lacking}
 use Rattle.settle_spec.specs.Keeping.Writes.{closings, settle_writes, settle_keeping}
 use Rattle.settle_spec.specs.Growing.{settle_growing, finally_kept}
 use Rattle.settle_spec.specs.Wishes.{Granted, with_all_spares, granted}
 use Rattle.settle_spec.specs.Sparing.{without_slots, is_settled, have_spares, granted_beside}
-use Rattle.settle_laws.specs.GrowingLaws.{CanBeAsked}
+use Rattle.stand_laws.specs.Told.Kept.{LinesAreForward}
 use Rattle.settle_laws.specs.Keeping.PlacesLaws.{CanSettle}
-use Rattle.settle_laws.proofs.SettlingEnds.{ends}
-use Rattle.settle_laws.proofs.Wishing.Alike.{granted_alike}
-use Rattle.settle_laws.proofs.Wishing.Granted.{all_granted}
-use Rattle.settle_laws.proofs.Wishing.Refusing.{wishes_write_none}
-use Rattle.settle_laws.proofs.Wishing.Sparing.{lacks_alike, can_finally, can_granted}
+use Rattle.settle_laws.specs.ToldSoundLaws.{IsSoundAsTold, IsToldOf, KeepsTold}
+use Rattle.settle_laws.specs.ToldSoundLaws as law
+use Rattle.settle_laws.proofs.Told.Ended.{keeps_told}
+use Rattle.settle_laws.proofs.Told.Forward.{told_forward}
+use Rattle.settle_laws.proofs.Told.Settling.{wishes_can}
+use Rattle.settle_laws.proofs.Told.Slots.{stand_alike}
+use Rattle.settle_laws.proofs.Told.Wished.{settled_wished}
 use Rattle.pci_base.specs.declared.range.RootRange.{RootRange as CodeRange}
 use Rattle.pci_settle.specs.Lists.{root_range_value}
 use Rattle.pci_tree.specs.Admission.{Admission, IsAdmitted}
 use Rattle.pci_place.specs.Above.{system_in}
 use Rattle.pci_plan.specs.Moves.{IsMove}
+use Rattle.pci_settle_writes.specs.AsTold.{HasLines, EndsAsTold, StopsAsTold, ReachesAlways, AlwaysReaches, EndsOffLines}
 use Rattle.pci_settle_writes.specs.Dumps.{IsSettledDump}
 use Rattle.pci_settle_writes.specs.Denied.{register_at, IsPlacing, IsSpared}
 use Rattle.pci_settle_writes.specs.Ended.{Ended, IsEnded}
@@ -38,8 +39,9 @@ use Rattle.pci_settle_writes.specs.Endings.{kept_after}
 use Rattle.pci_settle_writes.specs.Sparing.{IsWishedFor}
 use Rattle.pci_settle_writes.specs.Wishes.{behind_slots}
 use Rattle.pci_settle_writes.proofs.Endings.{ends_fine}
+use Rattle.pci_settle_writes.proofs.Written.{writes_beside}
 use Rattle.pci_settle_writes.proofs.Outcomes.{settles, ended}
-use Rattle.pci_settle_writes.proofs.SettledSound.{dump_sound, settled_moves, writes_reach, writes_stop}
+use Rattle.pci_settle_writes.proofs.SettledSound.{dump_sound, settled_moves, writes_reach, writes_stop, dump_off_lines, dump_as_told, stop_as_told, stop_reaches}
 
 -- the dump is sound, the writes lead there, and may stop
 pub record IsSoundlySpared (a : Admission) (dump : List Block) (writes : List Write) (count : ℕ) : Type 0 where
@@ -48,15 +50,12 @@ pub record IsSoundlySpared (a : Admission) (dump : List Block) (writes : List Wr
   pub stops : (k : ℕ) → (count ≤ k) ⊎ IsSound a.roots (system_in a) → IsSound a.roots (system_after (system_in a) (take k writes))
   pub moves : IsMove record { start = a; dump = dump; writes = writes; safe_from = count }
 
--- what settled still settles where no fixed function is written
-still : (a b : Option FunctionPart) (lack : Option Item) (w v : Option Write) (own other writes : List Write) → (w ≡ None → v ≡ None)
-    → or_fixed a (or_fixed b (or_lack lack (or_write w (Settled own)))) ≡ Settled writes
-    → or_fixed a (or_fixed b (or_lack lack (or_write v (Settled other)))) ≡ Settled other
-still (Some r) b lack w v own other writes none is = absurd (let no : ⊥ = cc in no)
-still None (Some r) lack w v own other writes none is = absurd (let no : ⊥ = cc in no)
-still None None (Some i) w v own other writes none is = absurd (let no : ⊥ = cc in no)
-still None None None (Some x) v own other writes none is = absurd (let no : ⊥ = cc in no)
-still None None None None v own other writes none is = ap (λ o. or_write o (Settled other)) (none refl)
+-- and so it is as told: the end is off lines, and each stop reaches what is answered always
+pub record IsSparedAsTold (q : Request) (a : Admission) (dump : List Block) (writes : List Write) (count : ℕ) : Type 0 where
+  pub sound : EndsAsTold q (system_in a) (system_of dump a.probe)
+  pub stops : StopsAsTold q (system_in a) writes count
+  pub always : AlwaysReaches q (system_in a) writes
+  pub off : EndsOffLines q (system_in a) (system_of dump a.probe)
 
 -- ranges of a list end in 64 bits
 pub highest_of : (ranges : List CodeRange) → All (λ r. r.range.last < 2 ^ 64) ranges → (r : RootRange) → Contains (map root_range_value ranges) r → r.range.last < 2 ^ 64
@@ -77,8 +76,8 @@ module _ (a : Admission) (admitted : IsAdmitted a) (q : Request) (roots_are : q.
   abbrev s : System
   s = system_in a
 
-  asked_for : (slots : List Slot) → CanBeAsked (behind_slots q slots) s
-  asked_for slots = subst (λ roots. CanBeAsked record { roots = roots; lists = q.lists; fixed = q.fixed; anew = q.anew; slots = slots; spares = q.spares } s) (sym roots_are)
+  asked_for : (slots : List Slot) → law.IsAdmitted (behind_slots q slots) s
+  asked_for slots = subst (λ roots. law.IsAdmitted record { roots = roots; lists = q.lists; fixed = q.fixed; anew = q.anew; slots = slots; spares = q.spares; told = q.told } s) (sym roots_are)
       record { high = high; system = admitted.system; nested = admitted.nested; profile = admitted.profile; chains = admitted.chains }
 
   -- ---- with what is kept as new windows are placed
@@ -99,18 +98,8 @@ module _ (a : Admission) (admitted : IsAdmitted a) (q : Request) (roots_are : q.
     pub grows : is_settled (settle_growing p s) ≡ true
     grows = ap is_settled (settles a p fine o is)
 
-    before : CanSettle p s k
-    before = can_finally p s (asked_for slots) grows
-
     wished_ends : settle_keeping p s j ≡ Settled (settle_writes p s j)
-    wished_ends =
-        ends_fine p s j fine
-        ∙ ap (λ b. or_fixed (fixed_without (stands p s) p s) (or_fixed b (or_lack (lacking p s j) (or_write (fixed_write p (settle_writes p s j)) (Settled (settle_writes p s j))))))
-        (ap (λ i. fixed_without i.stays p s) (granted_alike p s (spare_of q) k))
-        ∙ ap (λ lack. or_fixed (fixed_without (stands p s) p s) (or_fixed (fixed_without k.stays p s) (or_lack lack (or_write (fixed_write p (settle_writes p s j)) (Settled (settle_writes p s j))))))
-        (lacks_alike p q s (asked_for slots))
-        ∙ still (fixed_without (stands p s) p s) (fixed_without k.stays p s) (lacking p s k) (fixed_write p (settle_writes p s k)) (fixed_write p (settle_writes p s j)) (settle_writes p s k) (settle_writes p s j) o.writes
-        (wishes_write_none p s k j before (all_granted p q s k before).can (granted_alike p s (spare_of q) k) last.unwished) last.ends
+    wished_ends = settled_wished p q s (asked_for slots) grows
 
     pub spared : (dump : List Block) (writes : List Write) (count : ℕ) (denied : List (Slot × ℕ)) → IsWishedFor q slots k a dump writes count denied → IsPlacing a q p
         → is_settled (settle_growing (without_slots q) s) ≡ true → IsSpared q a dump writes count denied
@@ -158,17 +147,67 @@ module _ (a : Admission) (admitted : IsAdmitted a) (q : Request) (roots_are : q.
     then_kept = (granted_beside q x.placing s).kept
 
     can_spared : CanSettle x.placing s then_kept
-    can_spared = can_granted x.placing q s (of_placing (λ p. CanBeAsked p s) (asked_for []) (asked_for q.slots)) writes x.ends
+    can_spared = (wishes_can x.placing q s (of_placing (λ p. law.IsAdmitted p s) (asked_for []) (asked_for q.slots)) writes x.ends).1
 
     writes_are : (p : Request) (j : Kept) → settle_keeping p s j ≡ Settled writes → writes ≡ settle_writes p s j
-    writes_are p j is = sym (ends (are_bad_lists p.roots p.lists) (fixed_without (stands p s) p s) (fixed_without j.stays p s) (lacking p s j) (fixed_write p (settle_writes p s j)) (settle_writes p s j) writes is).same
+    writes_are p j is = sym (writes_beside p s j writes is)
+
+    are : writes ≡ settle_writes x.placing s then_kept
+    are = writes_are x.placing then_kept x.ends
 
     pub soundly : IsSoundlySpared a dump writes count
-    soundly =
-        let are = writes_are x.placing then_kept x.ends in
-        record {
-          sound = dump_sound a admitted x.placing placing_roots then_kept can_spared dump x.dump_is;
-          reached = writes_reach a admitted x.placing placing_roots then_kept can_spared dump x.dump_is writes are;
-          stops = writes_stop a admitted x.placing placing_roots then_kept can_spared dump x.dump_is writes are count x.closing;
-          moves = settled_moves a admitted x.placing placing_roots then_kept can_spared dump x.dump_is writes are count x.closing;
-        }
+    soundly = record {
+      sound = dump_sound a admitted x.placing placing_roots then_kept can_spared dump x.dump_is;
+      reached = writes_reach a admitted x.placing placing_roots then_kept can_spared dump x.dump_is writes are;
+      stops = writes_stop a admitted x.placing placing_roots then_kept can_spared dump x.dump_is writes are count x.closing;
+      moves = settled_moves a admitted x.placing placing_roots then_kept can_spared dump x.dump_is writes are count x.closing;
+    }
+
+    -- ---- as told: slots say nothing of what is told, and nothing of what stands
+
+    module _ (lawful : IsTold q.told.ranges) (awake : q.told.asleep ≡ []) where
+      keeps : KeepsTold x.placing s then_kept
+      keeps = keeps_told x.placing s then_kept writes x.ends
+
+      told_of : HasLines q s → IsToldOf x.placing s
+      told_of has = of_placing (λ p. IsToldOf p s)
+          record { lawful = lawful; awake = awake; listed = has.listed; led_to = has.led_to }
+          record { lawful = lawful; awake = awake; listed = has.listed; led_to = has.led_to }
+
+      as_asked : (t : System) → IsSoundAsTold x.placing t → IsSoundAsTold q t
+      as_asked t = of_placing (λ p. IsSoundAsTold p t → IsSoundAsTold q t) (λ sound. sound) (λ sound. sound)
+
+      as_placed : (t : System) → IsSoundAsTold q t → IsSoundAsTold x.placing t
+      as_placed t = of_placing (λ p. IsSoundAsTold q t → IsSoundAsTold p t) (λ sound. sound) (λ sound. sound)
+
+      reaches : (t : System) → ReachesAlways x.placing t → ReachesAlways q t
+      reaches t = of_placing (λ p. ReachesAlways p t → ReachesAlways q t) (λ all. all) (λ all. all)
+
+      forward : LinesAreForward x.placing
+      forward = of_placing LinesAreForward (told_forward q lawful) (told_forward q lawful)
+
+      unslotted : (t : System) → EndsOffLines (without_slots q) s t → EndsOffLines q s t
+      unslotted t all r y listed is_told shares =
+          let h = all r y listed is_told shares in
+          record {
+            f = h.f;
+            listed = h.listed;
+            slot_is = h.slot_is;
+            off = h.off;
+            stood = sym (stand_alike q [] s record { function = h.f; part = r.part }) ∙ h.stood;
+            first = h.first;
+            shares = h.shares;
+          }
+
+      off : (t : System) → EndsOffLines x.placing s t → EndsOffLines q s t
+      off t = of_placing (λ p. EndsOffLines p s t → EndsOffLines q s t) (unslotted t) (λ all. all)
+
+      pub as_told : IsSparedAsTold q a dump writes count
+      as_told = record {
+        sound = λ has. as_asked (system_of dump a.probe) (dump_as_told a admitted x.placing placing_roots then_kept can_spared (told_of has) keeps dump x.dump_is);
+        stops = λ has k from. as_asked (system_after s (take k writes))
+            (stop_as_told a admitted x.placing placing_roots then_kept can_spared (told_of has) keeps writes are count x.closing k
+            (elim from [ inl past ↦ inl past | inr sound ↦ inr (as_placed s sound) ]));
+        always = λ has k. reaches (system_after s (take k writes)) (stop_reaches a admitted x.placing placing_roots then_kept can_spared (told_of has) keeps writes are k);
+        off = off (system_of dump a.probe) (dump_off_lines a admitted x.placing placing_roots then_kept can_spared dump x.dump_is forward);
+      }

@@ -65,6 +65,13 @@ each_class PrefetchWindow = refl
 
 -- ---- the bus behind a bridge
 
+-- one more bridge is above it than above the bridge's own bus
+module _ (roots : List ℕ) (s : System) (system : IsSystem s) (nested : IsNested roots s) where
+  pub one_more : (f : Function) → Contains s f → is_bridge f ≡ true → (test : Function → Bool) (old here all : Bool) → old ≡ list_all test (bridges_above s f.slot.bus) → here ≡ test f → all ≡ (old && here)
+      → all ≡ list_all test (bridges_above s (secondary f))
+  one_more f listed bridge test old here all e_old e_here e_all =
+      e_all ∙ ap (λ x. x && here) e_old ∙ ap (λ x. list_all test (bridges_above s f.slot.bus) && x) e_here ∙ sym (all_above roots s system nested test f listed bridge)
+
 module _ (roots : List ℕ) (q : Request) (s : System) (keep : Kept) (system : IsSystem s) (nested : IsNested roots s) where
   pub on_root : (bus : ℕ) → Contains roots bus → IsWay q s keep bus no_way
   on_root bus root = record {
@@ -73,17 +80,12 @@ module _ (roots : List ℕ) (q : Request) (s : System) (keep : Kept) (system : I
     same = λ c. each_class c ∙ sym (all_above_root roots s system nested (λ b. not (changes_window q s keep c b)) bus root);
   }
 
-  one_more : (f : Function) → Contains s f → is_bridge f ≡ true → (test : Function → Bool) (old here all : Bool) → old ≡ list_all test (bridges_above s f.slot.bus) → here ≡ test f → all ≡ (old && here)
-      → all ≡ list_all test (bridges_above s (secondary f))
-  one_more f listed bridge test old here all e_old e_here e_all =
-      e_all ∙ ap (λ x. x && here) e_old ∙ ap (λ x. list_all test (bridges_above s f.slot.bus) && x) e_here ∙ sym (all_above roots s system nested test f listed bridge)
-
   pub behind_bridge : (f : Function) (r : Record) (is : IsRecordOf s f r) → is_bridge f ≡ true → (way new : Way) (shut : BySpace) (changed : ByClass) → IsWay q s keep f.slot.bus way
       → ((x : Space) → in_space shut x ≡ is_shut_itself q s keep x f) → ((c : WindowKind) → in_class changed c ≡ changes_window q s keep c f)
       → ((x : Space) → in_space new.on x ≡ (in_space way.on x && is_on r.command x)) → ((x : Space) → in_space new.clear x ≡ (in_space way.clear x && not (in_space shut x)))
       → ((c : WindowKind) → in_class new.same c ≡ (in_class way.same c && not (in_class changed c))) → IsWay q s keep (secondary f) new
   behind_bridge f r is bridge way new shut changed at shut_is changed_is on clear stay = record {
-    on = λ x. one_more f is.listed bridge (λ b. is_space_on b x) (in_space way.on x) (is_on r.command x) (in_space new.on x) (at.on x) (on_is s f r is x) (on x);
-    clear = λ x. one_more f is.listed bridge (λ b. not (is_shut_itself q s keep x b)) (in_space way.clear x) (not (in_space shut x)) (in_space new.clear x) (at.clear x) (ap not (shut_is x)) (clear x);
-    same = λ c. one_more f is.listed bridge (λ b. not (changes_window q s keep c b)) (in_class way.same c) (not (in_class changed c)) (in_class new.same c) (at.same c) (ap not (changed_is c)) (stay c);
+    on = λ x. one_more roots s system nested f is.listed bridge (λ b. is_space_on b x) (in_space way.on x) (is_on r.command x) (in_space new.on x) (at.on x) (on_is s f r is x) (on x);
+    clear = λ x. one_more roots s system nested f is.listed bridge (λ b. not (is_shut_itself q s keep x b)) (in_space way.clear x) (not (in_space shut x)) (in_space new.clear x) (at.clear x) (ap not (shut_is x)) (clear x);
+    same = λ c. one_more roots s system nested f is.listed bridge (λ b. not (changes_window q s keep c b)) (in_class way.same c) (not (in_class changed c)) (in_class new.same c) (at.same c) (ap not (changed_is c)) (stay c);
   }

@@ -46,6 +46,7 @@ use Rattle.pci_spare.proofs.Facts.{item_at}
 use Rattle.pci_settle_writes.specs.declared.settle.Denied.{Denied}
 use Rattle.pci_settle_writes.specs.Before.{AreFlagsOf}
 use Rattle.pci_settle_writes.specs.Denied.{register_at, denied_value}
+use Rattle.pci_settle.specs.Lines.{AreLines}
 use Rattle.pci_settle_writes.specs.Wishes.{AreOfGranted, IsAskedIn, AreWishes}
 use Rattle.pci_settle_writes.proofs.WishesPlain.{plain_same}
 
@@ -85,13 +86,14 @@ module _ (s : System) (records : List Record) (has : HasRecords s (map record_va
 
 -- ---- what is asked of a board
 
-pub board_asked : (p : Request) (s : System) (roots : Roots) (l : Lists) (b : Board) (fixed : List Bool) → IsAskedIn p s b.records.now roots l fixed → b.roots.now ≡ roots → b.lists.now ≡ l → b.fixed.now ≡ fixed → IsBridgeToBus b.records.now b.over.now → IsAsked p s b
-board_asked p s roots l b fixed asked roots_are lists fixed_are over = record {
+pub board_asked : (p : Request) (s : System) (roots : Roots) (l : Lists) (b : Board) (fixed : List Bool) → IsAskedIn p s b.records.now roots l fixed → b.roots.now ≡ roots → b.lists.now ≡ l → b.fixed.now ≡ fixed → AreLines (buses_of roots) l.told.ranges.now b.lines.now → IsBridgeToBus b.records.now b.over.now → IsAsked p s b
+board_asked p s roots l b fixed asked roots_are lists fixed_are lines over = record {
   has = asked.has;
   system = asked.system;
   nested = asked.nested;
   roots = asked.roots_are ∙ ap buses_of (sym roots_are);
   lists = asked.lists_are ∙ sym (ap lists_value lists);
+  told = subst (λ rs. AreLines rs p.told.ranges b.lines.now) (sym asked.roots_are) (subst (λ ranges. AreLines (buses_of roots) ranges b.lines.now) (sym asked.told_are) lines);
   over = over;
   fixed = flags_there s b.records.now asked.has p.fixed b.fixed.now (subst (AreFlagsOf b.records.now p.fixed) (sym fixed_are) asked.fixed_are);
 }

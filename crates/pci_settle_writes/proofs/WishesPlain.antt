@@ -1,5 +1,5 @@
 -- No BAR or ROM keeps room free: wishes are of windows alone.
-use Rattle.std.proofs.Common.{◌≡◌, ◌&&◌, ℕ, zero, suc, [], ◌∷◌, true, false, cond, not, refl, ap, ◌∙◌, Option, None, Some}
+use Rattle.std.proofs.Common.{◌≡◌, ◌&&◌, ℕ, zero, suc, List, [], ◌∷◌, ◌++◌, true, false, cond, not, refl, ap, ◌∙◌, Option, None, Some}
 use Rattle.std.specs.Bool.{⊤, ◌==◌, nat_le}
 use Rattle.std.specs.List.{Contains}
 use Rattle.std.specs.Option.{option_map}
@@ -11,12 +11,13 @@ use Rattle.pci_spec.specs.Bus.{is_root}
 use Rattle.pci_spec.proofs.Members.{in_head, in_tail}
 use Rattle.plan_spec.specs.Place.{range_from}
 use Rattle.settle_spec.specs.FirstPlace.{Extent, first_place}
+use Rattle.settle_spec.specs.Lines.{lines_behind}
 use Rattle.settle_spec.specs.Lists.{Request, class_ranges}
 use Rattle.settle_spec.specs.Parts.{FunctionPart, bridge_over}
 use Rattle.settle_spec.specs.Stands.{is_fixed_part, is_in_lists, rank, window_part}
 use Rattle.settle_spec.specs.Items.{spare_of}
 use Rattle.settle_spec.specs.Kept.{Kept}
-use Rattle.settle_spec.specs.Wishes.{there_then, with_window, with_bridge, ending_at, end_over, can_end_at, with_room_above, ending_if, ending_within, ending, range_of_window, Spared, spot_behind, spared_at, spared_above, held_by, opened_at, spared_if, spared_within, spared_behind, Granted, or_denied, with_spare_of, with_spares_of, with_all_spares, granted}
+use Rattle.settle_spec.specs.Wishes.{taken_then, with_window, with_bridge, ending_at, end_over, can_end_at, with_room_above, ending_if, ending_within, ending, range_of_window, Spared, spot_behind, spared_at, spared_above, held_by, opened_at, spared_if, spared_within, spared_behind, Granted, or_denied, with_spare_of, with_spares_of, with_all_spares, granted}
 use Rattle.settle_spec.proofs.BridgeOver.{over_leads}
 use Rattle.settle_laws.proofs.Wishing.Granted.{spare_is}
 use Rattle.pci_settled.proofs.Parts.{rank_one}
@@ -93,11 +94,11 @@ module _ (q : Request) (s : System) (r : FunctionPart) (other : (c : WindowKind)
         by None is = tt
         by (Some d) is = (let leads = over_leads s bus d is in each d leads.0 leads.1)
 
-    above_same : (c : WindowKind) (above : Function → Extent → Kept → Option Spared) (b : Function) (e : Extent) → ((d : Function) → Contains s d → is_bridge d ≡ true → SameAt k (above d e k)) → SameAt k (spared_above q s c above b e k)
+    above_same : (c : WindowKind) (above : Function → Extent → List Range → Kept → Option Spared) (b : Function) (e : Extent) → ((d : Function) → Contains s d → is_bridge d ≡ true → SameAt k (above d e (lines_behind q (window_part c b)) k)) → SameAt k (spared_above q s c above b e k)
     above_same c above b e each =
-        cond_both (is_root q.roots b.slot.bus) (option_map (λ at. let x : Spared = record { at = at; kept = k } in x) (first_place (class_ranges q c b.slot.bus) (there_then q s k (window_space c) b.slot.bus) e)) (with_bridge (λ d. above d e k) (bridge_over s b.slot.bus)) (SameAt k)
-        (λ root. place_same (first_place (class_ranges q c b.slot.bus) (there_then q s k (window_space c) b.slot.bus) e))
-        (λ off. behind_same (λ d. above d e k) each b.slot.bus)
+        cond_both (is_root q.roots b.slot.bus) (option_map (λ at. let x : Spared = record { at = at; kept = k } in x) (first_place (class_ranges q c b.slot.bus) (lines_behind q (window_part c b) ++ taken_then q s k (window_space c) b.slot.bus) e)) (with_bridge (λ d. above d e (lines_behind q (window_part c b)) k) (bridge_over s b.slot.bus)) (SameAt k)
+        (λ root. place_same (first_place (class_ranges q c b.slot.bus) (lines_behind q (window_part c b) ++ taken_then q s k (window_space c) b.slot.bus) e))
+        (λ off. behind_same (λ d. above d e (lines_behind q (window_part c b)) k) each b.slot.bus)
 
     spot_same : (c : WindowKind) (b : Function) → Contains s b → is_bridge b ≡ true → (e : Extent) (at : ℕ) → SameAt k (spared_at q s c b e k at)
     spot_same c b listed bridge e at =
@@ -105,18 +106,19 @@ module _ (q : Request) (s : System) (r : FunctionPart) (other : (c : WindowKind)
         cond_both (nat_le (range_from at e.size).last e.highest) (option_map (λ kept. let x : Spared = record { at = at; kept = kept } in x) ended) None (SameAt k)
         (λ low. at_same at ended (ending_same c 256 b listed bridge (range_from at e.size).last k)) (λ high. tt)
 
-    room_behind_same : (c : WindowKind) (above : Function → Extent → Kept → Option Spared) (b : Function) → Contains s b → is_bridge b ≡ true → (e : Extent) → ((d : Function) → Contains s d → is_bridge d ≡ true → (x : Extent) → SameAt k (above d x k)) → (o : Option Range) → SameAt k (spared_if q s c above b e k o)
-    room_behind_same c above b listed bridge e each None =
+    room_behind_same : (c : WindowKind) (above : Function → Extent → List Range → Kept → Option Spared) (b : Function) → Contains s b → is_bridge b ≡ true → (e : Extent) (behind : List Range) → ((d : Function) → Contains s d → is_bridge d ≡ true → (x : Extent) (held : List Range) → SameAt k (above d x held k)) → (o : Option Range)
+        → SameAt k (spared_if q s c above b e behind k o)
+    room_behind_same c above b listed bridge e behind each None =
         let found = spared_above q s c above b (held_by q s c b e) k in
         cond_both (has_window c b.probe && not (is_fixed_part q (window_part c b))) (option_map (opened_at q s c b e) found) None (SameAt k)
-        (λ may. opened_same c b listed bridge e found (above_same c above b (held_by q s c b e) (λ d in_s is. each d in_s is (held_by q s c b e)))) (λ may_not. tt)
-    room_behind_same c above b listed bridge e each (Some w) = spot_same c b listed bridge e (spot_behind q s c b e k w)
+        (λ may. opened_same c b listed bridge e found (above_same c above b (held_by q s c b e) (λ d in_s is. each d in_s is (held_by q s c b e) (lines_behind q (window_part c b))))) (λ may_not. tt)
+    room_behind_same c above b listed bridge e behind each (Some w) = spot_same c b listed bridge e (spot_behind q s c b e behind k w)
 
-  spared_same : (c : WindowKind) (depth : ℕ) (b : Function) → Contains s b → is_bridge b ≡ true → (e : Extent) (k : Kept) → SameAt k (spared_within q s c depth b e k)
+  spared_same : (c : WindowKind) (depth : ℕ) (b : Function) → Contains s b → is_bridge b ≡ true → (e : Extent) (behind : List Range) (k : Kept) → SameAt k (spared_within q s c depth b e behind k)
   unfolding spared_within
-  spared_same c zero b listed bridge e k = tt
-  spared_same c (suc depth) b listed bridge e k =
-      room_behind_same k c (spared_within q s c depth) b listed bridge e (λ d in_s is x. spared_same c depth d in_s is x k) (range_of_window q s c b k)
+  spared_same c zero b listed bridge e behind k = tt
+  spared_same c (suc depth) b listed bridge e behind k =
+      room_behind_same k c (spared_within q s c depth) b listed bridge e behind (λ d in_s is x held. spared_same c depth d in_s is x held k) (range_of_window q s c b k)
 
   -- ---- all wishes
 
@@ -128,7 +130,7 @@ module _ (q : Request) (s : System) (r : FunctionPart) (other : (c : WindowKind)
   wish_same c b listed g None bridge = refl
   wish_same c b listed g (Some e) bridge =
       cond_both (has_window c b.probe) (or_denied (window_part c b) g (spared_behind q s c b e g.kept)) g (λ x. x.kept.wished r ≡ g.kept.wished r)
-      (λ there. granted_same (window_part c b) g (spared_behind q s c b e g.kept) (spared_same c 256 b listed (bridge e refl) e g.kept)) (λ absent. refl)
+      (λ there. granted_same (window_part c b) g (spared_behind q s c b e g.kept) (spared_same c 256 b listed (bridge e refl) e [] g.kept)) (λ absent. refl)
 
   module _ (asked : Request) where
     wish_of : (c : WindowKind) (b : Function) → Contains s b → (g : Granted) → (with_spare_of q s c b (spare_of asked c b) g).kept.wished r ≡ g.kept.wished r

@@ -1,12 +1,12 @@
 -- How it is printed that nothing is settled.
 use Rattle.std.specs.Prelude.{ℕ, false, List, ◌++◌, codes}
-use Rattle.std.specs.Fmt.{digits}
+use Rattle.std.specs.Fmt.{digits, decimal}
 use Rattle.pci_spec.specs.Slot.{Slot}
 use Rattle.pci_spec.specs.Window.{WindowKind, window_register}
-use Rattle.pci_spec.specs.Line.{field, region_field, window_name}
+use Rattle.pci_spec.specs.Line.{field, slot_field, region_field, window_name}
 use Rattle.pci_base.specs.WindowKinds.{kind_value}
 use Rattle.pci_settle_writes.specs.declared.lack.SettleFault.{SettleFault}
-use Rattle.pci_settle_writes.specs.declared.lack.SettleFault.TheVariants.{BadLists, Assumed, NoRoom, TooLarge, Fixed}
+use Rattle.pci_settle_writes.specs.declared.lack.SettleFault.TheVariants.{BadLists, Assumed, NoRoom, TooLarge, Fixed, Told}
 
 -- a number in hex digits, without a zero in front
 abbrev pub hex_text : ℕ → List ℕ
@@ -31,3 +31,4 @@ settle_fault_text (TooLarge class slot) =
     codes "72 NoRoom"
     ++ field (class_part_text (kind_value class) slot (window_register (kind_value class)))
 settle_fault_text (Fixed slot reg) = codes "74 Fixed" ++ region_field slot reg
+settle_fault_text (Told slot line) = codes "75 Told" ++ slot_field slot ++ codes " +" ++ decimal line

@@ -1,10 +1,11 @@
 -- What has no place, as the code names it.
-use Rattle.std.specs.Prelude.{◌≡◌, ℕ, ◌<◌, Bool, true, false, length, Some}
+use Rattle.std.specs.Prelude.{◌≡◌, ℕ, ◌+◌, ◌<◌, Bool, true, false, length, Some}
 use Rattle.std.specs.Option.{is_some}
 use Rattle.pci_spec.specs.Header.{bar_register, rom_place}
 use Rattle.pci_spec.specs.Window.{WindowKind, window_register}
 use Rattle.pci_spec.specs.System.{System}
-use Rattle.settle_spec.specs.Writes.{Settling, NoRoom, or_lack}
+use Rattle.pci_spec.specs.Slot.{Slot}
+use Rattle.settle_spec.specs.Writes.{Settling, NoRoom, NotKept, or_lack}
 use Rattle.pci_base.specs.declared.window_kind.WindowKind.{WindowKind as CodeKind}
 use Rattle.pci_base.specs.WindowKinds.{kind_value}
 use Rattle.pci_function.specs.declared.record.Record.{Record}
@@ -27,6 +28,7 @@ settle_fault_number (fault.Assumed slot reg) = 76
 settle_fault_number (fault.NoRoom lack) = 72
 settle_fault_number (fault.TooLarge class slot) = 72
 settle_fault_number (fault.Fixed slot reg) = 74
+settle_fault_number (fault.Told slot line) = 75
 
 -- a new window is too large
 abbrev pub is_too_large : SettleFault → Bool
@@ -65,11 +67,16 @@ too_large w = unplaced.TooLarge w.class w.function
 abbrev pub no_room : Lack → Settling
 no_room l = NoRoom (kind_value l.class) l.slot l.register l.size l.alignment
 
+-- as settling ends where the range of a line isn't kept: its register is behind all of its slot
+abbrev pub not_kept : Slot → ℕ → Settling
+not_kept slot line = NotKept slot (255 + line)
+
 -- the fault names just that
 abbrev pub IsSettleFaultOf : System → Unplaced → SettleFault → Type 0
 IsSettleFaultOf s u fault.BadLists = ⊥
 IsSettleFaultOf s u (fault.Assumed slot reg) = ⊥
 IsSettleFaultOf s u (fault.Fixed slot reg) = ⊥
+IsSettleFaultOf s u (fault.Told slot line) = ⊥
 IsSettleFaultOf s (unplaced.Lacks x) (fault.NoRoom lack) =
     (other : Settling) → or_lack (Some (candidate_value s x)) other ≡ no_room lack
 IsSettleFaultOf s (unplaced.Lacks x) (fault.TooLarge class slot) = ⊥

@@ -5,6 +5,7 @@ pub mod Wished
 pub mod Before
 pub mod Wishes
 pub mod Shut
+pub mod Closed
 pub mod Stages
 pub mod Lacks
 pub mod Fixed
@@ -15,3 +16,7 @@ pub mod Denied
 pub mod Sparing
 pub mod FaultText
 pub mod Alike
+pub mod ToldEndings
+pub mod Bounded
+pub mod PlacedBy
+pub mod AsTold

@@ -1,7 +1,8 @@
 -- What is asked for.
-use Rattle.std.specs.Prelude.{◌≡◌, ℕ, Bool, List}
+use Rattle.std.specs.Prelude.{◌≡◌, ℕ, Bool, IsTrue, List, []}
 use Rattle.pci_spec.specs.Slot.{Slot}
 use Rattle.settle_spec.specs.Lists.{Request}
+use Rattle.pci_settle.specs.declared.list.Lists.{Lists}
 use Rattle.pci_settle.specs.Slots.{Demand, demand_of}
 
 -- settling below these roots, in these lists and with this room behind slots; functions that may not be written, and whether all
@@ -14,9 +15,14 @@ request roots d fixed anew = record {
   anew = anew;
   slots = d.slots;
   spares = d.spares;
+  told = d.told;
 }
 
 -- it is asked for below these roots, in these lists and behind these slots, whatever is to keep its place
 pub record IsAskedOf (q : Request) (roots : List ℕ) (d : Demand) : Type 0 where
   pub roots_are : q.roots ≡ roots
   pub demands_are : demand_of q ≡ d
+
+-- all is placed anew only where nothing is told
+abbrev pub MayAsk : Bool → Lists → Type 0
+MayAsk anew lists = IsTrue anew → lists.told.ranges.now ≡ []

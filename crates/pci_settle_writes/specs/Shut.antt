@@ -1,5 +1,5 @@
 -- Which functions are shut in a space, by what is decoded of each and by what is above its bus.
-use Rattle.std.specs.Prelude.{◌≡◌, ℕ, ◌+◌, ◌-◌, ◌/◌, ◌==◌, Bool, false, IsTrue, ◌&&◌, ◌||◌, not, if◌then◌else◌, List, [], ◌∷◌, map, Option, None, Some}
+use Rattle.std.specs.Prelude.{◌≡◌, ℕ, ◌+◌, ◌-◌, ◌/◌, ◌==◌, Bool, false, IsTrue, ◌&&◌, ◌||◌, not, if◌then◌else◌, List, [], ◌∷◌, length, map, Option, None, Some}
 use Rattle.std.specs.Option.{is_some}
 use Rattle.std.specs.List.{list_any, list_all}
 use Rattle.pci_spec.specs.Number.{number_at}
@@ -24,6 +24,8 @@ use Rattle.pci_settle.specs.Slots.{demand_of}
 use Rattle.pci_settle.specs.Kept.{kept_of}
 use Rattle.pci_settle.specs.Own.{AreTerms, is_left_bar, bar_class_of}
 use Rattle.pci_settle.specs.Over.{IsOverBus}
+use Rattle.pci_settling.specs.Answers.{is_answering, AreFlagsOfTold}
+use Rattle.pci_settling.specs.declared.answering.Answering.{Answering}
 use Rattle.pci_settling.specs.Claims.{is_bar_in, has_left_bar, is_rom_on, has_kept}
 use Rattle.pci_settle_writes.specs.declared.closed.Closing.{Closing}
 use Rattle.pci_settle_writes.specs.declared.shut.Around.{Around}
@@ -58,10 +60,12 @@ pub record IsWay (q : Request) (s : System) (keep : Kept) (bus : ℕ) (way : Way
   pub same : (c : WindowKind) → in_class way.same c
       ≡ list_all (λ b. not (changes_window q s keep c b)) (bridges_above s bus)
 
--- what is around a function, and what of it stays
+-- what is around a function, what of it stays, and which told ranges stand
 pub record IsAround (q : Request) (s : System) (keep : Kept) (f : Function) (o : Around) : Type 0 where
   pub over : IsOverBus q s f.slot.bus o.over
-  pub terms : AreTerms (demand_of q) o.terms
+  pub terms : AreTerms (demand_of q) o.answering.terms
+  pub told : q.told.ranges ≡ o.answering.told.ranges.now
+  pub stand : AreFlagsOfTold q s o.answering.standing.now
   pub way : IsWay q s keep f.slot.bus o.way
   pub kept : (part : Part) → IsTrue (has_part f part)
       → kept_of o.kept.now part ≡ keep.stays record { function = f; part = part }
@@ -99,11 +103,11 @@ is_bar_changed old new bar =
 
 -- no window of a BAR's class changes of the bridges above it
 abbrev pub is_same_above : Around → CodeBar → Bool
-is_same_above o bar = in_class o.way.same (bar_class_of bar o.over o.terms.prefetch_last)
+is_same_above o bar = in_class o.way.same (bar_class_of bar o.over o.answering.terms.prefetch_last)
 
 abbrev pub is_moving_bar : Around → Space → List ℕ → List ℕ → CodeBar → Bool
 is_moving_bar o space old new bar =
-    is_bar_in space bar && not (is_left_bar bar o.over.above o.terms.has_io)
+    is_bar_in space bar && not (is_left_bar bar o.over.above o.answering.terms.has_io)
     && (not (kept_of o.kept.now (Bar ((bar.reg - BASE_ADDRESS) / 4)))
     && (is_bar_changed old new bar || not (is_same_above o bar)))
 
@@ -119,10 +123,20 @@ has_moving_by o space old new r =
     list_any (is_moving_bar o space old new) r.bars.items
     || (are_same_space space Memory && has_moving_rom o old new r)
 
--- it is on in a space in which it has a BAR or ROM, and a bridge above it isn't
+-- a told range has its flag by its index
+abbrev pub HasEachAnswer : Answering → Type 0
+HasEachAnswer a = length a.standing.now ≡ length a.told.ranges.now
+
+-- it has a BAR, a ROM or a told range to answer in a space
+abbrev pub has_own_by : Around → Space → Record → Bool
+has_own_by o space r =
+    is_answering o.answering.told.ranges.now o.answering.standing.now space r.slot
+    || has_kept space o.over.above o.answering.terms r
+
+-- it is on in a space in which it has something to answer, and a bridge above it isn't
 abbrev pub is_cut_off_by : Around → Space → Record → Bool
 is_cut_off_by o space r =
-    is_on r.command space && has_kept space o.over.above o.terms r
+    is_on r.command space && has_own_by o space r
     && not (in_space o.way.on space)
 
 abbrev pub is_shut_by : Around → Space → List ℕ → List ℕ → Record → Bool
@@ -132,7 +146,7 @@ is_shut_by o space old new r = has_moving_by o space old new r || is_cut_off_by 
 abbrev pub closing_by : Around → Record → BySpace → ℕ
 closing_by o r shut =
     without_low 4 r.command
-    + (if not shut.io && (not (has_left_bar r o.over.above o.terms) && is_on r.command Io)
+    + (if not shut.io && (not (has_left_bar r o.over.above o.answering.terms) && is_on r.command Io)
     then 1 else 0)
     + (if not shut.memory && is_on r.command Memory then 2 else 0)
 

@@ -86,6 +86,7 @@ pub record IsAskedIn (p : Request) (s : System) (records : List Record) (roots :
   pub nested : IsNested p.roots s
   pub roots_are : p.roots ≡ buses_of roots
   pub lists_are : p.lists ≡ lists_value l
+  pub told_are : p.told.ranges ≡ l.told.ranges.now
   pub fixed_are : AreFlagsOf records p.fixed fixed
 
 abbrev pub AreGrantedBy : {A : Type 0} → List Record → Roots → Lists → Basis A → List (ByKind (Option Range)) → List Denied → Type 0

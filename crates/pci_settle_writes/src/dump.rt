@@ -5,8 +5,10 @@ ghost use Rattle.settle_spec.specs.Kept.{Kept as Keeping};
 ghost use Rattle.pci_place.specs.Above.{system_in};
 ghost use Rattle.pci_settle.specs.Kept.{nothing_kept};
 ghost use Rattle.pci_settle.specs.Slots.{demand_value};
+ghost use Rattle.pci_settle.specs.Own.{AreTerms};
 ghost use Rattle.pci_settle.specs.Tables.{untold};
 ghost use Rattle.pci_settling.specs.Live.{HasAllPlaces};
+ghost use Rattle.pci_settling.specs.Answers.{AreFlagsOfTold};
 ghost use Rattle.pci_settle_writes.specs.Requests.{IsAskedOf};
 ghost use Rattle.pci_settle_writes.specs.Told.{TellsKeeping};
 ghost use Rattle.pci_settle_writes.specs.Wished.{TellsWishes};
@@ -22,6 +24,7 @@ use pci_settle::list::Lists;
 use pci_settle::own::Terms;
 use pci_settle::table::{WindowRanges, ranges_told};
 use pci_settled::window::BridgeWindows;
+use pci_settling::answering::Answering;
 use pci_settling::image::ShownWindows;
 use pci_settling::live::{is_live_behind, live_buses};
 use pci_settling::settled::{Behind, settled_function};
@@ -55,6 +58,19 @@ fn shown_windows<'a>(
     ShownWindows { staying, wished }
 }
 
+/// What functions answer beside their BARs and ROMs, by flags of the told ranges that stand.
+pub fn answering_of<'a>(lists: &'a Lists<'a>, standing: &'a [bool]) -> Answering<'a>
+    ensures terms { AreTerms (demand_value lists.now) result.terms }
+    ensures told { result.told.ranges.now ≡ lists.now.told.ranges.now }
+    ensures standing { result.standing.now ≡ standing.now }
+{
+    Answering {
+        terms: Terms::of(lists),
+        told: lists.told,
+        standing,
+    }
+}
+
 /// The dump with each function as it is to be, slots and titles as they are: with the places that parts get, with what stays,
 /// with what the windows that grow come to, and with the addresses that are wished of windows, where `wished` tells some.
 ///
@@ -70,20 +86,23 @@ pub fn settled_dump<'a, A: Allocator, B: Allocator>(
     requires places { length tables.now.places.now ≡ length (system_in admitted.now) }
     // what stays of a function stands where its record does
     requires staying { length tables.now.staying.now ≡ length (system_in admitted.now) }
+    // a told range has its flag by its index
+    requires told { length tables.now.standing.now ≡ length lists.now.told.ranges.now }
     // a title is the caller's own text, and no register
     ensures titles { IfOk result
         (λ dump. map (λ b. b.title) dump ≡ map (λ b. b.title) admitted.now.dump) }
     ensures settled { IfOk result (λ dump. (q : Request) (keep : Keeping)
         → IsAskedOf q admitted.now.roots (demand_value lists.now)
+        → AreFlagsOfTold q (system_in admitted.now) tables.now.standing.now
         → HasAllPlaces q (system_in admitted.now) keep tables.now.places.now
         → TellsKeeping q (system_in admitted.now) keep tables.now.grown.now tables.now.staying.now
         → TellsWishes (system_in admitted.now) keep wished.now
         → IsSettledDump q keep admitted.now dump) }
 {
     let aboves = aboves(admitted);
-    let terms = Terms::of(lists);
-    let io = live_buses(admitted, tables.places, Space::Io, &aboves, terms);
-    let memory = live_buses(admitted, tables.places, Space::Mem, &aboves, terms);
+    let answering = answering_of(lists, tables.standing);
+    let io = live_buses(admitted, tables.places, Space::Io, &aboves, &answering);
+    let memory = live_buses(admitted, tables.places, Space::Mem, &aboves, &answering);
     let outline = admitted.outline();
     let records = outline.records();
     let blocks = admitted.dump().blocks();
@@ -99,6 +118,7 @@ pub fn settled_dump<'a, A: Allocator, B: Allocator>(
             memory: is_live_behind(&memory, record),
         };
         let old = &block.image;
+        let terms = answering.terms;
         let image = settled_function(record, old, places, &shown, above, terms, behind);
         dump.push_next(Block {
             image,

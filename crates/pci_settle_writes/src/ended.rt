@@ -26,6 +26,8 @@ pub struct Ended<A: Allocator> {
     pub staying: Vec<Kept, A>,
     /// What windows that grow come to; empty where none does.
     pub grown: Vec<WindowRanges, A>,
+    /// Of each told range whether it stands, by its index in the text.
+    pub standing: Vec<bool, A>,
 }
 
 impl<A: Allocator> Ended<A> {
@@ -34,11 +36,13 @@ impl<A: Allocator> Ended<A> {
         ensures places { result.places.now ≡ self.now.places.items }
         ensures staying { result.staying.now ≡ self.now.staying.items }
         ensures grown { result.grown.now ≡ self.now.grown.items }
+        ensures standing { result.standing.now ≡ self.now.standing.items }
     {
         Tables {
             places: self.places.as_slice(),
             staying: self.staying.as_slice(),
             grown: self.grown.as_slice(),
+            standing: self.standing.as_slice(),
         }
     }
 }

@@ -1,19 +1,20 @@
 //! Settling where windows grow.
-ghost use Rattle.std.specs.Prelude.{◌≡◌, IfOk, IfErr, map};
+ghost use Rattle.std.specs.Prelude.{◌≡◌, IfOk, IfErr, length, map};
 ghost use Rattle.settle_spec.specs.Kept.{growing as growing_kept};
 ghost use Rattle.pci_place.specs.Above.{system_in};
 ghost use Rattle.pci_settle.specs.Slots.{demand_value};
-ghost use Rattle.pci_stand.specs.Flags.{AreFlags};
 ghost use Rattle.pci_stand.specs.Known.{asked};
 ghost use Rattle.pci_grow.specs.Growing.{AreGrown, grown_value};
+ghost use Rattle.pci_settle_writes.specs.Bounded.{HasBounds, AreBounds};
 ghost use Rattle.pci_settle_writes.specs.Ended.{ended_value, IsEnded};
 ghost use Rattle.pci_settle_writes.specs.Endings.{IsNotGrown};
 
+use crate::bounds::{Bounds, first_without};
 use crate::ended::Ended;
-use crate::fixed::fixed_without;
 use crate::io::fault_of_window;
 use crate::lack::SettleFault;
 use crate::settle::settle_held;
+use crate::told::{copy_of, first_unreached};
 use pci_base::memory::Refused;
 use pci_base::slot::Slot;
 use pci_grow::growing::{Grown, growing};
@@ -48,32 +49,42 @@ pub fn settle_grown<A: Allocator + Copy, B: Allocator>(
     admitted: &Admitted<B>,
     lists: &Lists,
     fixed: &[Slot],
-    flags: &[bool],
+    bounds: &Bounds,
 ) -> Result<Ended<A>, Refused<SettleFault>>
-    requires { AreFlags fixed.now flags.now }
+    requires has { HasBounds bounds.now }
+    requires told { bounds.now.told.ranges ≡ lists.now.told }
+    requires bounds { AreBounds (asked admitted.now.roots (demand_value lists.now) fixed.now)
+        (system_in admitted.now) bounds.now }
     ensures titles { IfOk result
         (λ x. map (λ b. b.title) x.settled.dump ≡ map (λ b. b.title) admitted.now.dump) }
+    ensures places { IfOk result (λ x. length x.places.items ≡ length (system_in admitted.now)) }
+    ensures staying { IfOk result (λ x. length x.staying.items ≡ length (system_in admitted.now)) }
+    ensures told { IfOk result (λ x. length x.standing.items ≡ length lists.now.told.ranges.now) }
     ensures ends { IfOk result (λ x. IsEnded
         (asked admitted.now.roots (demand_value lists.now) fixed.now)
         (growing_kept (asked admitted.now.roots (demand_value lists.now) fixed.now)
         (system_in admitted.now)) admitted.now (ended_value x)) }
-    ensures refusal { IfErr result (IsNotGrown admitted.now
-        (asked admitted.now.roots (demand_value lists.now) fixed.now)) }
+    ensures refusal { IfErr result (λ e. IsNotGrown admitted.now
+        (asked admitted.now.roots (demand_value lists.now) fixed.now) e) }
 {
     let outline = admitted.outline();
     let over = open_windows(outline.records());
+    if let Some(fault) = first_unreached(&bounds.told) {
+        return Err(Refused::Fault(fault));
+    }
     let grown = grown_windows(alloc, admitted, lists, fixed)?;
     let stay = grown.stays.as_slice();
     // what stays stands, too
-    if let Some(fault) = fixed_without(admitted, lists, flags, stay) {
+    if let Some(fault) = first_without(admitted, lists, bounds, stay) {
         return Err(Refused::Fault(fault));
     }
     let left = grown.left(&over);
-    let held = settle_held(alloc, admitted, lists, flags, &left, stay)?;
+    let held = settle_held(alloc, admitted, lists, bounds, &left, stay)?;
     Ok(Ended {
         settled: held.settled,
         places: held.places,
         staying: grown.stays,
         grown: grown.coming,
+        standing: copy_of(alloc, bounds.told.standing)?,
     })
 }

@@ -1,5 +1,5 @@
 //! What has no place in I/O, where new windows of memory are too large to tell what stays in a window of all addresses.
-ghost use Rattle.std.specs.Prelude.{◌≡◌, [], None, IfOk, IfErr, OnOk};
+ghost use Rattle.std.specs.Prelude.{◌≡◌, ◌==◌, ◌&&◌, [], None, IfOk, IfErr, OnOk, length};
 ghost use Rattle.pci_spec.specs.Window.{IoWindow};
 ghost use Rattle.pci_spec.specs.System.{Io};
 ghost use Rattle.plan_spec.specs.Plan.{same_class};
@@ -109,7 +109,14 @@ fn place_io<A: Allocator + Copy, B: Allocator>(
     }
 }
 
-/// Where nothing is fixed, what has no place in I/O is the fault. Where something is, a part of it that doesn't stay would come
+/// Whether nothing is told and nothing is fixed.
+fn is_free(lists: &Lists, fixed: &[Slot]) -> bool
+    ensures { result ≡ (length fixed.now == 0 && length lists.now.told.ranges.now == 0) }
+{
+    fixed.is_empty() && lists.told.as_slice().is_empty()
+}
+
+/// Where nothing is fixed or told, what has no place in I/O is the fault. Where something is, what of it doesn't stay would come
 /// before, and isn't known.
 pub fn place_io_unfixed<A: Allocator + Copy, B: Allocator>(
     alloc: A,
@@ -117,14 +124,14 @@ pub fn place_io_unfixed<A: Allocator + Copy, B: Allocator>(
     lists: &Lists,
     fixed: &[Slot],
 ) -> Result<(), Refused<SettleFault>>
-    ensures room { OnOk result (fixed.now ≡ [] → space_lack
+    ensures room { OnOk result (fixed.now ≡ [] → lists.now.told.ranges.now ≡ [] → space_lack
         (asked admitted.now.roots (demand_value lists.now) fixed.now) (system_in admitted.now)
         (as_it_stands (asked admitted.now.roots (demand_value lists.now) fixed.now)
         (system_in admitted.now)) Io admitted.now.roots ≡ None) }
     ensures fault { IfErr result (IsUnfixedLack admitted.now
         (asked admitted.now.roots (demand_value lists.now) fixed.now)) }
 {
-    if !fixed.is_empty() {
+    if !is_free(lists, fixed) {
         return Ok(());
     }
     place_io(alloc, admitted, lists, fixed)?;

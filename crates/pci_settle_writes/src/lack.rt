@@ -46,10 +46,13 @@ pub enum SettleFault {
     /// 74: registers of the function may not be written, and this part of it doesn't keep its place, or this offset would be
     /// written.
     Fixed { slot: Slot, reg: u8 },
+    /// 75: the range that this line of a text tells of isn't reached as all stands or shares an address with another line, or
+    /// would no longer be reached, or would be switched on, or a bridge above it off for a time.
+    Told { slot: Slot, line: u16 },
 }
 
 impl SettleFault {
-    /// The fault's number, 70, 72, 74 or 76.
+    /// The fault's number, 70, 72, 74, 75 or 76.
     pub fn number(&self) -> u8
         ensures { result ≡ settle_fault_number self.now }
     {
@@ -58,6 +61,7 @@ impl SettleFault {
             SettleFault::Assumed { .. } => 76,
             SettleFault::NoRoom(_) | SettleFault::TooLarge { .. } => 72,
             SettleFault::Fixed { .. } => 74,
+            SettleFault::Told { .. } => 75,
         }
     }
 
@@ -70,7 +74,8 @@ impl SettleFault {
             SettleFault::BadLists
             | SettleFault::Assumed { .. }
             | SettleFault::NoRoom(_)
-            | SettleFault::Fixed { .. } => false,
+            | SettleFault::Fixed { .. }
+            | SettleFault::Told { .. } => false,
         }
     }
 }
@@ -147,6 +152,7 @@ impl fmt::Display for SettleFault {
                 write!(f, "72 NoRoom {part}")
             }
             SettleFault::Fixed { slot, reg } => write!(f, "74 Fixed {slot} {reg:02x}"),
+            SettleFault::Told { slot, line } => write!(f, "75 Told {slot} +{line}"),
         }
     }
 }

@@ -3,6 +3,7 @@
 
 pub mod alike;
 pub mod assumed;
+pub mod bounds;
 pub mod closed;
 pub mod dump;
 pub mod ended;
@@ -15,6 +16,7 @@ pub mod shut;
 pub mod sparing;
 pub mod standing;
 pub mod tables;
+pub mod told;
 pub mod way;
 pub mod wished;
 pub mod wishes;

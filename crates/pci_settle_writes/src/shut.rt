@@ -3,19 +3,17 @@ ghost use Rattle.std.specs.Prelude.{◌≡◌, ◌==◌, ◌||◌, IfOk, length}
 ghost use Rattle.std.specs.List.{All, list_any};
 ghost use Rattle.pci_spec.specs.System.{Io, Memory};
 ghost use Rattle.settle_spec.specs.Lists.{Request};
-ghost use Rattle.settle_spec.specs.Kept.{Kept as Keeping, unwished};
+ghost use Rattle.settle_spec.specs.Kept.{Kept as Keeping};
 ghost use Rattle.pci_base.specs.Space.{space_of};
 ghost use Rattle.pci_place.specs.Above.{system_in};
-ghost use Rattle.pci_settle.specs.Slots.{demand_value};
-ghost use Rattle.pci_settle.specs.Over.{AreOpenOver};
 ghost use Rattle.pci_settling.specs.Shown.{HasRegister};
-ghost use Rattle.pci_settle_writes.specs.Requests.{IsAskedOf};
-ghost use Rattle.pci_settle_writes.specs.Told.{IsTableOf};
-ghost use Rattle.pci_settle_writes.specs.Dumps.{IsSettledDump};
-ghost use Rattle.pci_settle_writes.specs.Shut.{is_same_above, is_bar_changed, is_moving_bar, has_moving_rom, has_moving_by, is_cut_off_by, is_shut_by, closing_by, AreClosings};
+ghost use Rattle.pci_settle_writes.specs.Closed.{IsClosedBy};
+ghost use Rattle.pci_settle_writes.specs.ToldEndings.{AreClearAbove};
+ghost use Rattle.pci_settle_writes.specs.Shut.{is_same_above, is_bar_changed, is_moving_bar, has_moving_rom, has_moving_by, HasEachAnswer, has_own_by, is_cut_off_by, is_shut_by, closing_by, AreClosings};
 
 use crate::closed::{Closing, changed_windows};
-use crate::dump::Images;
+use crate::dump::{Images, answering_of};
+use crate::tables::Tables;
 use crate::way::{BySpace, Way};
 use pci_base::image::Image;
 use pci_base::memory::OutOfMemory;
@@ -28,18 +26,29 @@ use pci_place::above::aboves;
 use pci_settle::kept::Kept;
 use pci_settle::list::Lists;
 use pci_settle::over::{OpenWindows, Over, open_over};
-use pci_settle::own::{Terms, class_of, is_left_bar};
+use pci_settle::own::{class_of, is_left_bar};
+use pci_settling::answering::{Answering, is_answering};
 use pci_settling::claim::{has_kept, has_left_bar, is_bar_of, is_rom_on};
 use pci_tree::admitted::Admitted;
-use std::alloc::Allocator;
+use std::alloc::{Allocator, Global};
 
 /// What is around a function, and what of it stays.
 #[derive(Clone, Copy)]
 struct Around<'a> {
     over: Over,
-    terms: Terms<'a>,
+    /// What functions answer beside their BARs and ROMs.
+    answering: Answering<'a>,
     way: Way,
     kept: &'a Kept,
+}
+
+/// What closing leaves of each function, and what bridges above each bus are.
+#[derive(Drop)]
+pub struct Closings<A: Allocator = Global> {
+    /// In slot order.
+    pub each: Vec<Closing, A>,
+    /// By bus number.
+    pub ways: Vec<Way, A>,
 }
 
 impl Around<'_> {
@@ -47,7 +56,9 @@ impl Around<'_> {
     fn is_same_above(&self, bar: &Bar) -> bool
         ensures { result ≡ is_same_above self.now bar.now }
     {
-        self.way.same.get(class_of(bar, &self.over, self.terms))
+        self.way
+            .same
+            .get(class_of(bar, &self.over, self.answering.terms))
     }
 }
 
@@ -67,7 +78,7 @@ fn is_moving_bar(space: Space, around: &Around, old: &Image, new: &Image, bar: &
     ensures { result ≡ is_moving_bar around.now (space_of space) old.now.0 new.now.0 bar.now }
 {
     is_bar_of(space, bar)
-        && !is_left_bar(bar, around.over.above, around.terms)
+        && !is_left_bar(bar, around.over.above, around.answering.terms)
         && !around.kept.bar((bar.reg - BASE_ADDRESS) / 4)
         && (is_bar_changed(old, new, bar) || !around.is_same_above(bar))
 }
@@ -106,18 +117,27 @@ fn has_moving(space: Space, around: &Around, old: &Image, new: &Image, record: &
         || space == Space::Mem && has_moving_rom(around, old, new, record)
 }
 
-/// Whether a function is on in a space in which it has a BAR or ROM, and a bridge above it isn't.
+/// Whether a function has a BAR, a ROM or a told range to answer in a space.
+fn has_own(space: Space, around: &Around, record: &Record) -> bool
+    requires { HasEachAnswer around.now.answering }
+    ensures { result ≡ has_own_by around.now (space_of space) «record».now }
+{
+    is_answering(&around.answering, record.slot, space)
+        || has_kept(space, around.over.above, around.answering.terms, record)
+}
+
+/// Whether a function is on in a space in which it has something to answer, and a bridge above it isn't.
 fn is_cut_off(space: Space, around: &Around, record: &Record) -> bool
+    requires { HasEachAnswer around.now.answering }
     ensures { result ≡ is_cut_off_by around.now (space_of space) «record».now }
 {
-    space.is_on(record.command)
-        && has_kept(space, around.over.above, around.terms, record)
-        && !around.way.on.get(space)
+    space.is_on(record.command) && has_own(space, around, record) && !around.way.on.get(space)
 }
 
 /// In which spaces a function is shut for itself: something of it moves, or it is cut off.
 fn shut_itself(around: &Around, old: &Image, new: &Image, record: &Record) -> BySpace
-    requires { All HasRegister «record».now.bars.items }
+    requires bars { All HasRegister «record».now.bars.items }
+    requires told { HasEachAnswer around.now.answering }
     ensures io { result.io ≡ is_shut_by around.now Io old.now.0 new.now.0 «record».now }
     ensures memory { result.memory ≡ is_shut_by around.now Memory old.now.0 new.now.0 «record».now }
 {
@@ -136,7 +156,7 @@ fn closing_command(around: &Around, record: &Record, shut: BySpace) -> u16
 {
     let over = around.over.above;
     let io = !shut.io
-        && !has_left_bar(record, over, around.terms)
+        && !has_left_bar(record, over, around.answering.terms)
         && Space::Io.is_on(record.command);
     let memory = !shut.memory && Space::Mem.is_on(record.command);
     let enables = match (io, memory) {
@@ -148,40 +168,43 @@ fn closing_command(around: &Around, record: &Record, shut: BySpace) -> u16
     record.command / 4 * 4 + enables
 }
 
-/// What closing leaves of each function, in slot order. `overs` has the open windows over each bus, and `staying` is what stays.
+/// What closing leaves of each function, and what the bridges above each bus are. `overs` has the open windows over each bus.
 /// What is shut and which windows change is known of each bridge above a function before the function itself, as a bridge has a
 /// lower slot than what is behind it.
-pub fn all_closings<A: Allocator, B: Allocator>(
+pub fn all_closings<A: Allocator + Copy, B: Allocator>(
     alloc: A,
     admitted: &Admitted<B>,
     lists: &Lists,
     overs: &[OpenWindows],
     images: &Images,
-    staying: &[Kept],
-) -> Result<Vec<Closing, A>, OutOfMemory>
+    tables: &Tables,
+) -> Result<Closings<A>, OutOfMemory>
     // old and new of a function have one index
     requires plain { length images.now.plain.now ≡ length admitted.now.dump }
     requires settled { length images.now.settled.now ≡ length admitted.now.dump }
     // what stays of a function stands where its record does
-    requires staying { length staying.now ≡ length (system_in admitted.now) }
+    requires staying { length tables.now.staying.now ≡ length (system_in admitted.now) }
+    // a told range has its flag by its index
+    requires told { length tables.now.standing.now ≡ length lists.now.told.ranges.now }
     // a function's entry stands where its record does
     ensures count { IfOk result
-        (λ closings. length closings.items ≡ length (system_in admitted.now)) }
-    ensures closings { IfOk result (λ closings. (q : Request) (keep : Keeping)
-        → IsAskedOf q admitted.now.roots (demand_value lists.now)
-        → AreOpenOver q (system_in admitted.now) overs.now
-        → IsTableOf (system_in admitted.now) keep.stays staying.now
-        → IsSettledDump q (unwished keep) admitted.now images.now.plain.now
-        → IsSettledDump q keep admitted.now images.now.settled.now
-        → AreClosings q (system_in admitted.now) keep closings.items) }
+        (λ x. length x.each.items ≡ length (system_in admitted.now)) }
+    // bus numbers index it
+    ensures buses { IfOk result (λ x. length x.ways.items ≡ 256) }
+    ensures closings { IfOk result (λ x. (q : Request) (keep : Keeping)
+        → IsClosedBy q keep admitted.now lists.now overs.now images.now tables.now
+        → AreClosings q (system_in admitted.now) keep x.each.items) }
+    ensures ways { IfOk result (λ x. (q : Request) (keep : Keeping)
+        → IsClosedBy q keep admitted.now lists.now overs.now images.now tables.now
+        → AreClearAbove q (system_in admitted.now) keep x.ways.items) }
 {
     let aboves = aboves(admitted);
-    let terms = Terms::of(lists);
+    let answering = answering_of(lists, tables.standing);
     let outline = admitted.outline();
     let records = outline.records();
     let start = admitted.dump().blocks();
-    let mut ways = [Way::NONE; BUSES];
-    let mut closings = Vec::new(alloc);
+    let mut ways = vec![in alloc; Way::NONE; BUSES]?;
+    let mut each = Vec::new(alloc);
     for k in 0..records.len() {
         let record = &records[k];
         let bus = record.slot.bus();
@@ -190,10 +213,10 @@ pub fn all_closings<A: Allocator, B: Allocator>(
             above: aboves[usize::from(bus)],
             windows: open_over(overs, bus),
         };
-        let kept = &staying[k];
+        let kept = &tables.staying[k];
         let around = Around {
             over,
-            terms,
+            answering,
             way,
             kept,
         };
@@ -202,7 +225,7 @@ pub fn all_closings<A: Allocator, B: Allocator>(
         let new = &images.settled[k];
         let itself = shut_itself(&around, &old.image, &new.image, record);
         let changed = changed_windows(record, &old.image, &plain.image, &new.image);
-        closings.push(Closing {
+        each.push(Closing {
             command: closing_command(&around, record, way.shut(itself)),
             windows: changed.without(&kept.windows),
         })?;
@@ -210,5 +233,5 @@ pub fn all_closings<A: Allocator, B: Allocator>(
             ways[usize::from(bridge.secondary)] = way.and(record.command, itself, changed);
         }
     }
-    Ok(closings)
+    Ok(Closings { each, ways })
 }

@@ -10,7 +10,7 @@ ghost use Rattle.pci_plan.specs.Writes.{write_value};
 ghost use Rattle.pci_settle.specs.Lists.{lists_value};
 ghost use Rattle.pci_settle.specs.Slots.{demand_value};
 ghost use Rattle.pci_stand.specs.Flags.{AreFlags};
-ghost use Rattle.pci_settle_writes.specs.Requests.{request};
+ghost use Rattle.pci_settle_writes.specs.Requests.{request, MayAsk};
 ghost use Rattle.pci_settle_writes.specs.Denied.{denied_value, IsSpared};
 ghost use Rattle.pci_settle_writes.specs.Ended.{ended_value, IsEnded};
 ghost use Rattle.pci_settle_writes.specs.Endings.{kept_after, IsEndedAfter};
@@ -61,6 +61,7 @@ fn without_slots<'a>(lists: &Lists<'a>) -> Lists<'a>
             mem: lists.slots.mem,
             pref: lists.slots.pref,
         },
+        told: lists.told,
     }
 }
 
@@ -80,6 +81,8 @@ fn settle_wished<A: Allocator + Copy, B: Allocator>(
     ended: &Ended<A>,
 ) -> Result<Settled<A>, OutOfMemory>
     requires flags { AreFlags asked.now.fixed.now asked.now.flags.now }
+    // a told range has its flag by its index
+    requires told { length ended.now.standing.items ≡ length placing.now.told.ranges.now }
     // what is known of a function stands where its record does
     requires places { length ended.now.places.items ≡ length (system_in admitted.now) }
     requires staying { length ended.now.staying.items ≡ length (system_in admitted.now) }
@@ -130,11 +133,18 @@ fn with_spares<A: Allocator + Copy, B: Allocator>(
     staying: &[Kept],
 ) -> Result<Option<Ended<A>>, OutOfMemory>
     requires flags { AreFlags asked.now.fixed.now asked.now.flags.now }
+    requires anew { MayAsk asked.now.anew asked.now.lists }
     requires staying { length staying.now ≡ length (system_in admitted.now) }
     // else it is refused before
     requires fine { IsFalse (are_bad_lists admitted.now.roots (lists_value asked.now.lists)) }
     ensures titles { IfOk result (λ o. IfSome o
         (λ x. map (λ b. b.title) x.settled.dump ≡ map (λ b. b.title) admitted.now.dump)) }
+    ensures places { IfOk result (λ o. IfSome o
+        (λ x. length x.places.items ≡ length (system_in admitted.now))) }
+    ensures staying { IfOk result (λ o. IfSome o
+        (λ x. length x.staying.items ≡ length (system_in admitted.now))) }
+    ensures told { IfOk result (λ o. IfSome o
+        (λ x. length x.standing.items ≡ length asked.now.lists.told.ranges.now)) }
     ensures spares { IfOk result (λ o. IfSome o (λ x. IsEnded (asked_value admitted.now.roots asked.now)
         (kept_after (asked_value admitted.now.roots asked.now) (system_in admitted.now)) admitted.now (ended_value x))) }
     ensures have { IfOk result (λ o. HaveSpares admitted.now (asked_value admitted.now.roots asked.now)
@@ -164,14 +174,15 @@ pub fn settle_sparing<A: Allocator + Copy, B: Allocator>(
 ) -> Result<Settled<A>, Refused<SettleFault>>
     // else it is refused before
     requires fine { IsFalse (are_bad_lists admitted.now.roots (lists_value lists.now)) }
+    requires anew { MayAsk anew lists.now }
     requires high { All (λ r. r.range.last < 2 ^ 64) lists.now.pref.now }
     ensures titles { IfOk result
         (λ x. map (λ b. b.title) x.dump ≡ map (λ b. b.title) admitted.now.dump) }
     ensures spared { IfOk result (λ x. IsSpared
         (request admitted.now.roots (demand_value lists.now) fixed.now anew) admitted.now x.dump
         (map write_value x.writes.all.items) x.writes.closings (map denied_value x.denied.items)) }
-    ensures refusal { IfErr result (IsEndedAfter admitted.now
-        (request admitted.now.roots (with_slots [] (demand_value lists.now)) fixed.now anew)) }
+    ensures refusal { IfErr result (λ e. IsEndedAfter admitted.now
+        (request admitted.now.roots (with_slots [] (demand_value lists.now)) fixed.now anew) e) }
 {
     // what it was admitted by: the contract speaks of the system that it makes
     let _outline = admitted.outline();

@@ -1,5 +1,5 @@
 //! Settling where no window grows: where all is placed anew, and beside what stays as it stands.
-ghost use Rattle.std.specs.Prelude.{◌≡◌, IsTrue, IfOk, IfErr, length, map};
+ghost use Rattle.std.specs.Prelude.{◌≡◌, [], IsTrue, IfOk, IfErr, length, map};
 ghost use Rattle.settle_spec.specs.Lists.{Request};
 ghost use Rattle.settle_spec.specs.Kept.{as_it_stands};
 ghost use Rattle.pci_place.specs.Above.{system_in};
@@ -8,14 +8,17 @@ ghost use Rattle.pci_stand.specs.Flags.{AreFlags};
 ghost use Rattle.pci_stand.specs.Known.{asked};
 ghost use Rattle.pci_stay.specs.Staying.{AreStaying};
 ghost use Rattle.pci_settle_writes.specs.Requests.{IsAskedOf};
+ghost use Rattle.pci_settle_writes.specs.Bounded.{HasBounds, AreBounds};
 ghost use Rattle.pci_settle_writes.specs.Ended.{ended_value, IsEnded};
 ghost use Rattle.pci_settle_writes.specs.Endings.{IsTooLargeAsked, IsEndedBy, kept_after, IsEndedAfter};
 
+use crate::bounds::{Bounds, first_without};
 use crate::ended::Ended;
 use crate::fixed::fixed_without;
 use crate::io::{fault_of_window, place_io_unfixed};
 use crate::lack::SettleFault;
 use crate::settle::settle_held;
+use crate::told::{Told, copy_of, first_unreached};
 use pci_base::memory::Refused;
 use pci_base::slot::Slot;
 use pci_settle::kept::{Kept, nothing_kept};
@@ -34,15 +37,22 @@ pub fn settle_all<A: Allocator + Copy, B: Allocator>(
     lists: &Lists,
     fixed: &[bool],
 ) -> Result<Ended<A>, Refused<SettleFault>>
-    requires { length fixed.now ≡ 65536 }
+    requires flags { length fixed.now ≡ 65536 }
+    // else told ranges and the windows over them stand
+    requires untold { lists.now.told.ranges.now ≡ [] }
     ensures titles { IfOk result
         (λ x. map (λ b. b.title) x.settled.dump ≡ map (λ b. b.title) admitted.now.dump) }
+    ensures places { IfOk result (λ x. length x.places.items ≡ length (system_in admitted.now)) }
+    ensures staying { IfOk result (λ x. length x.staying.items ≡ length (system_in admitted.now)) }
+    ensures told { IfOk result (λ x. length x.standing.items ≡ length lists.now.told.ranges.now) }
     ensures ends { IfOk result (λ x. (q : Request)
-        → IsAskedOf q admitted.now.roots (demand_value lists.now) → IsTrue q.anew
+        → IsAskedOf q admitted.now.roots (demand_value lists.now)
+        → IsTrue q.anew
         → AreFlags q.fixed fixed.now
         → IsEnded q (kept_after q (system_in admitted.now)) admitted.now (ended_value x)) }
     ensures refusal { IfErr result (λ e. (q : Request)
-        → IsAskedOf q admitted.now.roots (demand_value lists.now) → IsTrue q.anew
+        → IsAskedOf q admitted.now.roots (demand_value lists.now)
+        → IsTrue q.anew
         → AreFlags q.fixed fixed.now → IsEndedAfter admitted.now q e) }
 {
     let outline = admitted.outline();
@@ -58,17 +68,26 @@ pub fn settle_all<A: Allocator + Copy, B: Allocator>(
         grown: &[],
         places: &[],
     };
-    let held = settle_held(alloc, admitted, lists, fixed, &left, kept)?;
+    let bounds = Bounds {
+        fixed,
+        told: Told {
+            ranges: lists.told,
+            lines: &[],
+            standing: &[],
+        },
+    };
+    let held = settle_held(alloc, admitted, lists, &bounds, &left, kept)?;
     Ok(Ended {
         settled: held.settled,
         places: held.places,
         staying: none,
         grown: Vec::new(alloc),
+        standing: Vec::new(alloc),
     })
 }
 
 /// Which parts stay where no window grows. Beside an open window of all addresses the bridge is named whose new window would be
-/// too large; where nothing is fixed, what has no place in I/O is named before.
+/// too large; where nothing is fixed or told, what has no place in I/O is named before.
 fn staying_parts<A: Allocator + Copy, B: Allocator>(
     alloc: A,
     admitted: &Admitted<B>,
@@ -97,29 +116,38 @@ pub fn settle_standing<A: Allocator + Copy, B: Allocator>(
     admitted: &Admitted<B>,
     lists: &Lists,
     fixed: &[Slot],
-    flags: &[bool],
+    bounds: &Bounds,
 ) -> Result<Ended<A>, Refused<SettleFault>>
-    requires { AreFlags fixed.now flags.now }
+    requires has { HasBounds bounds.now }
+    requires told { bounds.now.told.ranges ≡ lists.now.told }
+    requires bounds { AreBounds (asked admitted.now.roots (demand_value lists.now) fixed.now)
+        (system_in admitted.now) bounds.now }
     ensures titles { IfOk result
         (λ x. map (λ b. b.title) x.settled.dump ≡ map (λ b. b.title) admitted.now.dump) }
+    ensures places { IfOk result (λ x. length x.places.items ≡ length (system_in admitted.now)) }
+    ensures staying { IfOk result (λ x. length x.staying.items ≡ length (system_in admitted.now)) }
+    ensures told { IfOk result (λ x. length x.standing.items ≡ length lists.now.told.ranges.now) }
     ensures ends { IfOk result (λ x. IsEnded
         (asked admitted.now.roots (demand_value lists.now) fixed.now)
         (as_it_stands (asked admitted.now.roots (demand_value lists.now) fixed.now)
         (system_in admitted.now)) admitted.now (ended_value x)) }
-    ensures refusal { IfErr result (IsEndedBy admitted.now
+    ensures refusal { IfErr result (λ e. IsEndedBy admitted.now
         (asked admitted.now.roots (demand_value lists.now) fixed.now)
         (as_it_stands (asked admitted.now.roots (demand_value lists.now) fixed.now)
-        (system_in admitted.now))) }
+        (system_in admitted.now)) e) }
 {
     let outline = admitted.outline();
     let over = open_windows(outline.records());
+    if let Some(fault) = first_unreached(&bounds.told) {
+        return Err(Refused::Fault(fault));
+    }
     let stand = standing(alloc, admitted, lists, fixed)?;
-    if let Some(fault) = fixed_without(admitted, lists, flags, stand.as_slice()) {
+    if let Some(fault) = fixed_without(admitted, lists, bounds.fixed, stand.as_slice()) {
         return Err(Refused::Fault(fault));
     }
     let table = staying_parts(alloc, admitted, lists, fixed)?;
     let stay = table.as_slice();
-    if let Some(fault) = fixed_without(admitted, lists, flags, stay) {
+    if let Some(fault) = first_without(admitted, lists, bounds, stay) {
         return Err(Refused::Fault(fault));
     }
     let left = Left {
@@ -128,11 +156,12 @@ pub fn settle_standing<A: Allocator + Copy, B: Allocator>(
         grown: &[],
         places: &[],
     };
-    let held = settle_held(alloc, admitted, lists, flags, &left, stay)?;
+    let held = settle_held(alloc, admitted, lists, bounds, &left, stay)?;
     Ok(Ended {
         settled: held.settled,
         places: held.places,
         staying: table,
         grown: Vec::new(alloc),
+        standing: copy_of(alloc, bounds.told.standing)?,
     })
 }

@@ -12,4 +12,6 @@ pub struct Tables<'a> {
     pub staying: &'a [Kept],
     /// What windows that grow come to; empty where none does.
     pub grown: &'a [WindowRanges],
+    /// Of each told range whether it stands, by its index in the text.
+    pub standing: &'a [bool],
 }

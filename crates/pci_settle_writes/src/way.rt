@@ -43,6 +43,26 @@ impl ByClass {
         prefetchable: false,
     };
 
+    /// It holds of all.
+    pub const ALL: ByClass = ByClass {
+        io: true,
+        memory: true,
+        prefetchable: true,
+    };
+
+    /// Of which classes it holds, and these windows stay, too.
+    pub fn and_kept(self, windows: &ByKind<bool>) -> ByClass
+        ensures io { result.io ≡ (self.io && windows.now.io) }
+        ensures memory { result.memory ≡ (self.memory && windows.now.memory) }
+        ensures prefetchable { result.prefetchable ≡ (self.prefetchable && windows.now.prefetchable) }
+    {
+        ByClass {
+            io: self.io && windows.io,
+            memory: self.memory && windows.memory,
+            prefetchable: self.prefetchable && windows.prefetchable,
+        }
+    }
+
     /// The same but for these windows.
     pub fn without(self, windows: &ByKind<bool>) -> ByClass
         ensures io { result.io ≡ (not windows.now.io && self.io) }

@@ -7,6 +7,7 @@ ghost use Rattle.pci_plan.specs.Writes.{write_value};
 ghost use Rattle.pci_settle.specs.Slots.{demand_value};
 ghost use Rattle.pci_settle.specs.Over.{AreOpenOver};
 ghost use Rattle.pci_settling.specs.Live.{HasAllPlaces};
+ghost use Rattle.pci_settling.specs.Answers.{AreFlagsOfTold};
 ghost use Rattle.pci_settle_writes.specs.Requests.{IsAskedOf};
 ghost use Rattle.pci_settle_writes.specs.Told.{TellsKeeping};
 ghost use Rattle.pci_settle_writes.specs.Wished.{TellsWishes};
@@ -14,6 +15,7 @@ ghost use Rattle.pci_settle_writes.specs.Dumps.{IsSettledDump, IsSettledBy};
 
 use crate::dump::{Images, settled_dump};
 use crate::settle::Settled;
+use crate::shut::all_closings;
 use crate::tables::Tables;
 use crate::writes::writes_to;
 use pci_base::memory::OutOfMemory;
@@ -48,6 +50,8 @@ pub fn settled_wished<'a, A: Allocator + Copy, B: Allocator>(
     requires places { length tables.now.places.now ≡ length (system_in admitted.now) }
     // what stays of a function stands where its record does
     requires staying { length tables.now.staying.now ≡ length (system_in admitted.now) }
+    // a told range has its flag by its index
+    requires told { length tables.now.standing.now ≡ length lists.now.told.ranges.now }
     // old and new of a function have one index
     requires plain { length wished.now.plain.now ≡ length admitted.now.dump }
     // a title is the caller's own text, and no register
@@ -56,6 +60,7 @@ pub fn settled_wished<'a, A: Allocator + Copy, B: Allocator>(
     ensures denied { IfOk result (λ x. x.denied.items ≡ []) }
     ensures settled { IfOk result (λ x. (q : Request) (keep : Keeping)
         → IsAskedOf q admitted.now.roots (demand_value lists.now)
+        → AreFlagsOfTold q (system_in admitted.now) tables.now.standing.now
         → AreOpenOver q (system_in admitted.now) overs.now
         → HasAllPlaces q (system_in admitted.now) keep tables.now.places.now
         → TellsKeeping q (system_in admitted.now) keep tables.now.grown.now tables.now.staying.now
@@ -69,7 +74,8 @@ pub fn settled_wished<'a, A: Allocator + Copy, B: Allocator>(
         plain: wished.plain,
         settled: dump.blocks(),
     };
-    let writes = writes_to(alloc, admitted, lists, overs, &images, tables.staying)?;
+    let closings = all_closings(alloc, admitted, lists, overs, &images, tables)?;
+    let writes = writes_to(alloc, admitted, images.settled, closings.each.as_slice())?;
     let denied = Vec::new(alloc);
     Ok(Settled {
         dump,

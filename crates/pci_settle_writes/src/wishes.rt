@@ -6,7 +6,9 @@ ghost use Rattle.settle_spec.specs.Lists.{Request};
 ghost use Rattle.settle_spec.specs.Kept.{Kept as Keeping};
 ghost use Rattle.settle_laws.specs.KeptLaws.{WishesNothing};
 ghost use Rattle.pci_place.specs.Above.{system_in};
+ghost use Rattle.pci_tree.specs.Roots.{buses_of};
 ghost use Rattle.pci_tree.specs.Ways.{IsBridgeToBus};
+ghost use Rattle.pci_settle.specs.Lines.{AreLineRows, AreLines};
 ghost use Rattle.pci_settle.specs.Slots.{demand_value};
 ghost use Rattle.pci_stand.specs.Flags.{AreFlags};
 ghost use Rattle.pci_settling.specs.Live.{HasAllPlaces};
@@ -24,6 +26,7 @@ use pci_base::memory::OutOfMemory;
 use pci_base::window_kind::ByKind;
 use pci_function::record::Record;
 use pci_settle::extent::Extent;
+use pci_settle::lines::{Line, lines};
 use pci_settle::list::Lists;
 use pci_settle::slots::Slots;
 use pci_settle::table::WindowRanges;
@@ -58,6 +61,13 @@ struct Basis<A: Allocator> {
     windows: Vec<WindowRanges, A>,
     /// Where BARs and ROMs are before any wish.
     own: Vec<Located, A>,
+}
+
+/// Which buses are roots, and the told ranges by bus.
+#[derive(Clone, Copy)]
+struct Buses<'a> {
+    roots: &'a Roots,
+    lines: &'a [Line],
 }
 
 /// Collects what wishes are granted by.
@@ -116,6 +126,8 @@ fn grant_all<A: Allocator + Copy>(
 ) -> Result<Wishes<A>, OutOfMemory>
     // the bridge over a bus is one of the functions
     requires over { IsBridgeToBus board.now.records.now board.now.over.now }
+    // those of a level are found by halving
+    requires lines { AreLineRows board.now.lines.now }
     // without an address an extent has no last one, and of 0 there is no multiple
     requires spares { AreExtents wanted.now.spares.now }
     ensures count { IfOk result (λ w. length w.wished.items ≡ length board.now.records.now) }
@@ -135,20 +147,24 @@ fn grant_all<A: Allocator + Copy>(
 fn grant_by<A: Allocator + Copy>(
     alloc: A,
     records: &[Record],
-    roots: &Roots,
+    buses: &Buses,
     lists: &Lists,
     basis: &Basis<A>,
 ) -> Result<Wishes<A>, OutOfMemory>
-    requires { AreExtents basis.now.spares }
+    requires spares { AreExtents basis.now.spares }
+    requires rows { AreLineRows buses.now.lines.now }
+    requires lines { AreLines (buses_of buses.now.roots.now) lists.now.told.ranges.now
+        buses.now.lines.now }
     ensures count { IfOk result (λ w. length w.wished.items ≡ length records.now) }
     ensures granted { IfOk result
-        (λ w. AreGrantedBy records.now roots.now lists.now basis.now w.wished.items w.denied.items) }
+        (λ w. AreGrantedBy records.now buses.now.roots.now lists.now basis.now w.wished.items w.denied.items) }
 {
     let board = Board {
         records,
-        roots,
+        roots: buses.roots,
         over: &bridges_over(records),
         lists,
+        lines: buses.lines,
         fixed: basis.fixed.as_slice(),
         windows: basis.windows.as_slice(),
     };
@@ -188,5 +204,11 @@ pub fn wishes_of<A: Allocator + Copy, B: Allocator>(
     let outline = admitted.outline();
     let records = outline.records();
     let basis = basis_of(alloc, records, &lists.slots, fixed, tables)?;
-    grant_by(alloc, records, &outline.roots(), lists, &basis)
+    let roots = outline.roots();
+    let lines = lines(alloc, lists.told, &roots)?;
+    let buses = Buses {
+        roots: &roots,
+        lines: lines.as_slice(),
+    };
+    grant_by(alloc, records, &buses, lists, &basis)
 }

@@ -4,20 +4,16 @@ ghost use Rattle.std.specs.List.{list_all, flat_map};
 ghost use Rattle.pci_spec.specs.System.{System};
 ghost use Rattle.plan_spec.specs.Planning.PlanWrites.{register_write};
 ghost use Rattle.settle_spec.specs.Lists.{Request};
-ghost use Rattle.settle_spec.specs.Kept.{Kept as Keeping, unwished};
+ghost use Rattle.settle_spec.specs.Kept.{Kept as Keeping};
+ghost use Rattle.settle_spec.specs.Keeping.Writes as spec;
 ghost use Rattle.settle_spec.specs.Keeping.Writes.{closings, setting_from, opening_from, settle_writes};
 ghost use Rattle.pci_place.specs.Above.{system_in};
 ghost use Rattle.pci_plan.specs.Writes.{write_value};
-ghost use Rattle.pci_settle.specs.Slots.{demand_value};
-ghost use Rattle.pci_settle.specs.Over.{AreOpenOver};
-ghost use Rattle.pci_settle_writes.specs.Requests.{IsAskedOf};
-ghost use Rattle.pci_settle_writes.specs.Told.{IsTableOf};
+ghost use Rattle.pci_settle_writes.specs.Shut.{AreClosings};
 ghost use Rattle.pci_settle_writes.specs.Dumps.{IsSettledDump};
 ghost use Rattle.pci_settle_writes.specs.Stages.{pair_of, is_access_of, images_change, bridge_closing, bridge_settings, is_bridge_image, HasEachStage, AreStages, command_at, closing_at, setting_at};
 
 use crate::closed::{Closing, closed_image};
-use crate::dump::Images;
-use crate::shut::all_closings;
 use pci_base::image::Image;
 use pci_base::memory::OutOfMemory;
 use pci_base::offset::{
@@ -29,9 +25,6 @@ use pci_dump::block::Block;
 use pci_image::layout::Layout;
 use pci_plan::write::Write;
 use pci_plan::writes::add_registers;
-use pci_settle::kept::Kept;
-use pci_settle::list::Lists;
-use pci_settle::over::OpenWindows;
 use pci_tree::admitted::Admitted;
 use std::alloc::{Allocator, Global};
 
@@ -296,47 +289,36 @@ fn writes_by<A: Allocator>(alloc: A, stages: &Stages) -> Result<Writes<A>, OutOf
 /// The writes that lead to the settled dump. First Command is written of functions that are shut in a space or have an I/O BAR
 /// that is left, and windows that change and don't stay are closed, the highest slot first. A window that was open and only gets
 /// room that is kept free isn't. Then the address registers are set that change, and then functions are opened, both the lowest
-/// slot first. None of them would change nothing. `overs` has the open windows over each bus, and is empty where all is placed
-/// anew; `staying` is what stays.
+/// slot first. None of them would change nothing. `closings` are what closing leaves of each function in slot order, and
+/// `settled` has the blocks of the settled dump.
 ///
 /// Errors: 2 `OutOfMemory` where a growth was refused.
 pub fn writes_to<A: Allocator + Copy, B: Allocator>(
     alloc: A,
     admitted: &Admitted<B>,
-    lists: &Lists,
-    overs: &[OpenWindows],
-    images: &Images,
-    staying: &[Kept],
+    settled: &[Block],
+    closings: &[Closing],
 ) -> Result<Writes<A>, OutOfMemory>
     // old and new of a function have one index
-    requires plain { length images.now.plain.now ≡ length admitted.now.dump }
-    requires settled { length images.now.settled.now ≡ length admitted.now.dump }
-    // what stays of a function stands where its record does
-    requires staying { length staying.now ≡ length (system_in admitted.now) }
+    requires settled { length settled.now ≡ length admitted.now.dump }
+    requires closings { length closings.now ≡ length (system_in admitted.now) }
     ensures writes { IfOk result (λ writes. (q : Request) (keep : Keeping)
-        → IsAskedOf q admitted.now.roots (demand_value lists.now)
-        → AreOpenOver q (system_in admitted.now) overs.now
-        → IsTableOf (system_in admitted.now) keep.stays staying.now
-        → IsSettledDump q (unwished keep) admitted.now images.now.plain.now
-        → IsSettledDump q keep admitted.now images.now.settled.now
+        → IsSettledDump q keep admitted.now settled.now
+        → AreClosings q (system_in admitted.now) keep closings.now
         → map write_value writes.all.items ≡ settle_writes q (system_in admitted.now) keep) }
     ensures closings { IfOk result (λ writes. (q : Request) (keep : Keeping)
-        → IsAskedOf q admitted.now.roots (demand_value lists.now)
-        → AreOpenOver q (system_in admitted.now) overs.now
-        → IsTableOf (system_in admitted.now) keep.stays staying.now
-        → IsSettledDump q (unwished keep) admitted.now images.now.plain.now
-        → IsSettledDump q keep admitted.now images.now.settled.now
+        → IsSettledDump q keep admitted.now settled.now
+        → AreClosings q (system_in admitted.now) keep closings.now
         → writes.closings
-        ≡ length (closings q (system_in admitted.now) keep (system_in admitted.now))) }
+        ≡ length (spec.closings q (system_in admitted.now) keep (system_in admitted.now))) }
 {
     // What the dump was admitted by: the contract speaks of the system that it makes.
     let _outline = admitted.outline();
-    let closings = all_closings(alloc, admitted, lists, overs, images, staying)?;
     let stages = Stages {
         start: admitted.dump().blocks(),
         probe: admitted.probe().blocks(),
-        closings: closings.as_slice(),
-        settled: images.settled,
+        closings,
+        settled,
     };
     writes_by(alloc, &stages)
 }

@@ -13,6 +13,8 @@ use Rattle.pci_place.specs.Above.{system_in}
 use Rattle.pci_place.proofs.Records.{same_count}
 use Rattle.pci_settle.specs.Kept.{nothing_kept}
 use Rattle.pci_settle.specs.Slots.{Demand, demand_value}
+use Rattle.pci_settling.specs.Answers.{AreFlagsOfTold}
+use Rattle.pci_settling.specs.declared.answering.Answering.{Answering}
 use Rattle.pci_settling.proofs.Registers.{have_registers}
 use Rattle.pci_plan.proofs.PlannedDumps.{ArePlanned, none_planned, found_count, next_above, all_planned}
 use Rattle.pci_settle_writes.proofs.SettledDumps.{IsSettledOf, IsHere, request_by, placed_here, told_here, block_here, next_settled, all_settled}
@@ -28,7 +30,10 @@ module _ (g : Over) (c : After-empty-dump g) where
   l = demand_value c.args.lists.now
 
   abbrev P : Function → Function → Type 0
-  P = IsSettledOf a.roots (system_in a) l c.args.tables.now.places.now c.args.tables.now.grown.now c.args.wished.now c.args.tables.now.staying.now
+  P = IsSettledOf a.roots (system_in a) l c.args.tables.now c.args.wished.now
+
+  abbrev answering : Answering
+  answering = c.answering_of-answering.result
 
   admitted_is : IsAdmitted a
   admitted_is = c.outline-outline.ensures.admitted
@@ -110,12 +115,12 @@ loop-k-preserved g c =
     let new : Block = record { slot = c.push_next.inside.slot; title = c.push_next.inside.title; image = c.settled_function-image.result.0 } in
     let bus = c.from.ensures ∙ c.bus.ensures ∙ ap (λ (x : Slot). x.bus) (same_slot_of r f at.is.value) in
     subst (λ (found : List Block). ArePlanned (P g start) (a g start).dump (a g start).probe (k + 1) found) (sym c.in_ok-push_next.ensures)
-    (next_settled (a g start) (admitted_is g start) (l g start) c.args.tables.now.places.now c.args.tables.now.grown.now c.args.wished.now c.args.tables.now.staying.now k c.loop-k.dump c.loop-k.invariant old new r at less b slot title
+    (next_settled (a g start) (admitted_is g start) (l g start) c.args.tables.now c.args.wished.now k c.loop-k.dump c.loop-k.invariant old new r at less b slot title
     (λ q keep by.
-    let of = request_by q (a g start).roots (l g start) c.of-terms.result by.asked c.of-terms.ensures in
+    let of = request_by q s (a g start).roots (l g start) (answering g start) by.asked c.answering_of-answering.ensures.terms (sym c.answering_of-answering.ensures.told) (subst (AreFlagsOfTold q s) (sym c.answering_of-answering.ensures.standing) by.stand) in
     c.settled_function-image.ensures q s keep f (ap (λ (x : Block). x.image) c.block.view_is)
-    (placed_here (a g start).roots s (admitted_is g start).system (admitted_is g start).nested q keep c.of-terms.result c.args.tables.now.places.now of by.places c.args.tables.now.grown.now c.args.wished.now c.args.tables.now.staying.now by.tells by.wishes k f r at.at at.is _ _ refl nothing_kept c.shown_windows-shown.result.staying.kept.now c.shown_windows-shown.ensures.kept _ _ c.shown_windows-shown.ensures.grown c.shown_windows-shown.ensures.wished)
-    (told_here (a g start).roots s (admitted_is g start).system (admitted_is g start).nested q keep c.of-terms.result c.args.tables.now.places.now of by.places
+    (placed_here (a g start).roots s (admitted_is g start).system (admitted_is g start).nested q keep (answering g start) c.args.tables.now.places.now of by.places c.args.tables.now.grown.now c.args.wished.now c.args.tables.now.staying.now by.tells by.wishes k f r at.at at.is _ _ refl nothing_kept c.shown_windows-shown.result.staying.kept.now c.shown_windows-shown.ensures.kept _ _ c.shown_windows-shown.ensures.grown c.shown_windows-shown.ensures.wished)
+    (told_here (a g start).roots s (admitted_is g start).system (admitted_is g start).nested q keep (answering g start) c.args.tables.now.places.now of by.places (answering g start).terms refl
     c.live_buses-io.result c.live_buses-memory.result c.live_buses-io.ensures c.live_buses-memory.ensures c.aboves-aboves.result c.aboves-aboves.ensures
     f r at.is c.from.result bus _ record { io = c.is_live_behind.result; memory = c.is_live_behind-in-loop-k.result } c.is_live_behind.ensures c.is_live_behind-in-loop-k.ensures)))
 
@@ -150,7 +155,7 @@ returns-clause-settled g c =
     let e = ap length (blocks_are g start) in
     let done = c.loop-k-test.false in
     let all = all_planned (P g start) (a g start).dump (a g start).probe (admitted_is g start).slots c.loop-k.k c.loop-k.dump c.loop-k.invariant (omega (arith, e, done)) in
-    λ q keep asked places tells wishes. record {
+    λ q keep asked stand places tells wishes. record {
       slots = all.0;
-      system = all_settled (a g start).roots (system_in (a g start)) (l g start) c.args.tables.now.places.now c.args.tables.now.grown.now c.args.wished.now c.args.tables.now.staying.now q keep (record { asked = asked; places = places; tells = tells; wishes = wishes }) (system_in (a g start)) _ all.2;
+      system = all_settled (a g start).roots (system_in (a g start)) (l g start) c.args.tables.now c.args.wished.now q keep (record { asked = asked; stand = stand; places = places; tells = tells; wishes = wishes }) (system_in (a g start)) _ all.2;
     }

@@ -6,4 +6,4 @@ use Rattle.pci_settle_writes.proofs.dump.settled_dump.Given as goal
 
 abbrev pub invariant-loop-k : goal.invariant-loop-k
 invariant-loop-k g l =
-    ArePlanned (IsSettledOf l.admitted.roots (system_in l.admitted) (demand_value l.fn.lists) l.tables.places.now l.tables.grown.now l.wished l.tables.staying.now) l.admitted.dump l.admitted.probe l.k l.dump
+    ArePlanned (IsSettledOf l.admitted.roots (system_in l.admitted) (demand_value l.fn.lists) l.tables l.wished) l.admitted.dump l.admitted.probe l.k l.dump

@@ -1,19 +1,22 @@
-use Rattle.std.proofs.Common.{◌∙◌, List, length, sym, ap}
+use Rattle.std.proofs.Common.{◌∙◌, ◌&&◌, List, length, sym, ap}
 use Rattle.std.specs.Bool.{◌==◌}
-use Rattle.std.proofs.lemmas.Bool.{false≢true}
+use Rattle.std.proofs.lemmas.Bool.{false≢true, and_parts}
 use Rattle.std.proofs.lemmas.Result.{err_from_is_err_and}
+use Rattle.given_spec.specs.Told.{ToldRange}
 use Rattle.pci_base.specs.declared.slot.Slot.{Slot}
 use Rattle.pci_settle_writes.proofs.IoFirst.{empty_if}
 use Rattle.pci_settle_writes.proofs.io.place_io_unfixed.Goals as goal
 
-pub returns-then-not-is_empty-clause-room : goal.returns-then-not-is_empty-clause-room
-returns-then-not-is_empty-clause-room g c = λ none.
-    absurd (false≢true (sym c.if-not-is_empty.true ∙ c.is_empty.ensures ∙ ap (λ (xs : List Slot). length xs == 0) none))
+pub returns-then-not-is_free-clause-room : goal.returns-then-not-is_free-clause-room
+returns-then-not-is_free-clause-room g c = λ none untold.
+    absurd (false≢true (sym c.if-not-is_free.true ∙ c.is_free.ensures ∙ ap (λ (xs : List Slot). length xs == 0 && length c.args.lists.now.told.ranges.now == 0) none
+    ∙ ap (λ (xs : List ToldRange). length xs == 0) untold))
 
 pub returns-in_err-place_io-clause-fault : goal.returns-in_err-place_io-clause-fault
 returns-in_err-place_io-clause-fault g c =
     let p = err_from_is_err_and c.from_residual.result c.from_residual.ensures.1 in
-    rw (p.1, p.2) (empty_if c.args.fixed.now (sym c.is_empty.ensures ∙ c.if-not-is_empty.false), c.in_err-place_io.ensures.fault)
+    let both = and_parts (length c.args.fixed.now == 0) (length c.args.lists.now.told.ranges.now == 0) (sym c.is_free.ensures ∙ c.if-not-is_free.false) in
+    rw (p.1, p.2) ((empty_if c.args.fixed.now both.0, empty_if c.args.lists.now.told.ranges.now both.1), c.in_err-place_io.ensures.fault)
 
 pub returns-clause-room : goal.returns-clause-room
-returns-clause-room g c = λ none. c.in_ok-place_io.ensures.room
+returns-clause-room g c = λ none untold. c.in_ok-place_io.ensures.room

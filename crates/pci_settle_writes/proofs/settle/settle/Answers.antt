@@ -12,7 +12,7 @@ use Rattle.pci_settle_writes.specs.Denied.{denied_value}
 use Rattle.pci_settle_writes.specs.Fixed.{assumed_part}
 use Rattle.pci_settle_writes.proofs.Refusals.{none_found}
 use Rattle.pci_settle_writes.proofs.Outcomes.{refusal_of}
-use Rattle.pci_settle_writes.proofs.Spared.{highest_of, soundly}
+use Rattle.pci_settle_writes.proofs.Spared.{highest_of, soundly, as_told}
 use Rattle.pci_settle_writes.proofs.settle.settle.Goals as goal
 
 pub settle_sparing-requires-clause-fine : goal.settle_sparing-requires-clause-fine
@@ -60,6 +60,46 @@ returns-clause-moves g c =
     let x = c.in_ok-settled.settled in
     (soundly a c.outline.ensures.admitted q refl fine (highest_of c.args.lists.now.pref.now c.end_in_64_bits.ensures) x.dump (map write_value x.writes.all.items) x.writes.closings (map denied_value x.denied.items)
     c.in_ok-settled.ensures.spared).moves
+
+pub returns-clause-told_sound : goal.returns-clause-told_sound
+returns-clause-told_sound g c =
+    let a = c.args.admitted.now in
+    let d = demand_value c.args.lists.now in
+    let q = request a.roots d c.args.fixed.now c.args.anew in
+    let fine : are_bad_lists a.roots d.lists ≡ false = sym (c.are_bad.ensures ∙ ap (λ rs. are_bad_lists rs d.lists) (c.roots-roots.ensures ∙ c.outline.ensures.roots)) ∙ c.if-are_bad.false in
+    let x = c.in_ok-settled.settled in
+    (as_told a c.outline.ensures.admitted q refl fine (highest_of c.args.lists.now.pref.now c.end_in_64_bits.ensures) x.dump (map write_value x.writes.all.items) x.writes.closings (map denied_value x.denied.items)
+    c.in_ok-settled.ensures.spared c.args.lists.now.told.lawful refl).sound
+
+pub returns-clause-told_stops : goal.returns-clause-told_stops
+returns-clause-told_stops g c =
+    let a = c.args.admitted.now in
+    let d = demand_value c.args.lists.now in
+    let q = request a.roots d c.args.fixed.now c.args.anew in
+    let fine : are_bad_lists a.roots d.lists ≡ false = sym (c.are_bad.ensures ∙ ap (λ rs. are_bad_lists rs d.lists) (c.roots-roots.ensures ∙ c.outline.ensures.roots)) ∙ c.if-are_bad.false in
+    let x = c.in_ok-settled.settled in
+    (as_told a c.outline.ensures.admitted q refl fine (highest_of c.args.lists.now.pref.now c.end_in_64_bits.ensures) x.dump (map write_value x.writes.all.items) x.writes.closings (map denied_value x.denied.items)
+    c.in_ok-settled.ensures.spared c.args.lists.now.told.lawful refl).stops
+
+pub returns-clause-always : goal.returns-clause-always
+returns-clause-always g c =
+    let a = c.args.admitted.now in
+    let d = demand_value c.args.lists.now in
+    let q = request a.roots d c.args.fixed.now c.args.anew in
+    let fine : are_bad_lists a.roots d.lists ≡ false = sym (c.are_bad.ensures ∙ ap (λ rs. are_bad_lists rs d.lists) (c.roots-roots.ensures ∙ c.outline.ensures.roots)) ∙ c.if-are_bad.false in
+    let x = c.in_ok-settled.settled in
+    (as_told a c.outline.ensures.admitted q refl fine (highest_of c.args.lists.now.pref.now c.end_in_64_bits.ensures) x.dump (map write_value x.writes.all.items) x.writes.closings (map denied_value x.denied.items)
+    c.in_ok-settled.ensures.spared c.args.lists.now.told.lawful refl).always
+
+pub returns-clause-off_lines : goal.returns-clause-off_lines
+returns-clause-off_lines g c =
+    let a = c.args.admitted.now in
+    let d = demand_value c.args.lists.now in
+    let q = request a.roots d c.args.fixed.now c.args.anew in
+    let fine : are_bad_lists a.roots d.lists ≡ false = sym (c.are_bad.ensures ∙ ap (λ rs. are_bad_lists rs d.lists) (c.roots-roots.ensures ∙ c.outline.ensures.roots)) ∙ c.if-are_bad.false in
+    let x = c.in_ok-settled.settled in
+    (as_told a c.outline.ensures.admitted q refl fine (highest_of c.args.lists.now.pref.now c.end_in_64_bits.ensures) x.dump (map write_value x.writes.all.items) x.writes.closings (map denied_value x.denied.items)
+    c.in_ok-settled.ensures.spared c.args.lists.now.told.lawful refl).off
 
 pub returns-in_err-settled-clause-refusal : goal.returns-in_err-settled-clause-refusal
 returns-in_err-settled-clause-refusal g c =

@@ -1,5 +1,5 @@
-use Rattle.std.proofs.Common.{◌≡◌, ◌∙◌, ◌+◌, ◌<◌, ◌++◌, [], ◌∷◌, ℕ, List, length, get_or, false, not, ◌&&◌, ◌||◌, arith, sym, ap, subst}
-use Rattle.std.proofs.lemmas.List.{length-append}
+use Rattle.std.proofs.Common.{◌≡◌, ◌∙◌, ◌+◌, ◌<◌, ◌++◌, [], ◌∷◌, ℕ, List, Vec, length, get_or, replicate, false, not, ◌&&◌, ◌||◌, arith, sym, ap, subst}
+use Rattle.std.proofs.lemmas.List.{length-append, length-set}
 use Rattle.pci_spec.specs.Slot.{Slot}
 use Rattle.pci_spec.specs.Text.{Block}
 use Rattle.pci_spec.specs.Window.{WindowKind}
@@ -14,12 +14,15 @@ use Rattle.pci_tree.specs.Admission.{Admission, IsAdmitted}
 use Rattle.pci_tree.proofs.Lifting.{same_slot_of}
 use Rattle.pci_place.specs.declared.above.Above.{Above}
 use Rattle.pci_place.specs.Above.{system_in, IsAbove}
+use Rattle.pci_place.proofs.BusTables.{AreTo}
 use Rattle.pci_place.proofs.Records.{lent, FunctionAt, same_count, function_read}
 use Rattle.pci_settle.specs.declared.over.Over.{Over}
 use Rattle.pci_settle.specs.Kept.{nothing_kept}
 use Rattle.pci_settle.specs.Slots.{Demand, demand_of, demand_value}
 use Rattle.pci_settle.specs.Over.{AreClassWindows, no_windows}
 use Rattle.pci_settle.specs.Own.{AreTerms}
+use Rattle.pci_settling.specs.Answers.{AreFlagsOfTold}
+use Rattle.pci_settling.specs.declared.answering.Answering.{Answering}
 use Rattle.pci_settling.proofs.Registers.{have_registers}
 use Rattle.pci_settling.specs.Images.{is_window_kept}
 use Rattle.pci_settle_writes.specs.declared.closed.Closing.{Closing}
@@ -30,22 +33,15 @@ use Rattle.pci_settle_writes.specs.Dumps.{IsSettledDump}
 use Rattle.pci_settle_writes.specs.Shut.{IsWay, IsAround, in_space, in_class, is_shut_by, closing_by}
 use Rattle.pci_settle_writes.specs.Stages.{AreOf, AreSettledBlocks}
 use Rattle.pci_settle_writes.proofs.States.{start_of, settled_of}
-use Rattle.pci_settle_writes.proofs.Ways.{by_spaces, by_classes}
-use Rattle.pci_settle_writes.proofs.Closings.{AreClosedTo, none_closed, all_closed, start_image, settled_image, way_at, closed_same, closed_more}
+use Rattle.pci_settle_writes.proofs.Ways.{no_way as nothing_above, by_spaces, by_classes}
+use Rattle.pci_settle_writes.proofs.Closings.{AreClosedTo, none_closed, all_closed, all_clear, start_image, settled_image, way_at, closed_same, closed_more}
 use Rattle.pci_settle_writes.proofs.shut.all_closings.Goals as goal
-use Rattle.pci_settle_writes.proofs.shut.all_closings.Goals.{After-blocks-start, in-Some, in_default}
+use Rattle.pci_settle_writes.proofs.shut.all_closings.Goals.{After-blocks-start, After-new-each, in-Some, in_default}
 use Rattle.pci_settle_writes.proofs.shut.all_closings.Given.{Over as Outer}
 
 -- what stands there where a table has no bus
 abbrev no_above : Above
 no_above = record { io = false; pref = false; wide = false }
-
-abbrev no_way : Way
-no_way = record {
-  on = record { io = false; memory = false };
-  clear = record { io = false; memory = false };
-  same = record { io = false; memory = false; prefetchable = false };
-}
 
 module _ (g : Outer) (c : After-blocks-start g) where
   abbrev a : Admission
@@ -73,21 +69,33 @@ module _ (g : Outer) (c : After-blocks-start g) where
   settled : (q : Request) (keep : Keeping) (blocks : List Block) → IsSettledDump q keep a blocks → AreSettledBlocks q (system_in a) keep blocks
   settled q keep blocks to = settled_of a admitted_is q keep blocks to
 
-  terms : (q : Request) → IsAskedOf q a.roots l → AreTerms (demand_of q) c.of-terms.result
-  terms q asked = subst (λ lists. AreTerms lists c.of-terms.result) (sym asked.demands_are) c.of-terms.ensures
+  abbrev answering : Answering
+  answering = c.answering_of-answering.result
+
+  terms : (q : Request) → IsAskedOf q a.roots l → AreTerms (demand_of q) answering.terms
+  terms q asked = subst (λ lists. AreTerms lists answering.terms) (sym asked.demands_are) c.answering_of-answering.ensures.terms
 
   -- the function of a record
   function_here : (k : ℕ) (r : Record) → k < length c.records-records.result.now → r ≡ get_or c.records-records.result.now k r → FunctionAt (system_in a) r k
   function_here = function_read (system_in a) c.records-records.result.now c.records-records.ensures.value c.outline-outline.ensures.records
 
+-- before the first function
+module _ (g : Outer) (c : After-new-each g) where
+  made : c.in_ok-ways.ways.items ≡ replicate 256 nothing_above
+  made = c.in_ok-ways.ensures.items_if_clones_equal (λ y same. same)
+
 pub loop-k-init : goal.loop-k-init
 loop-k-init g c =
     let start = (goal.at.loop-k-init g c).After-blocks-start in
     record {
-      count = ap length c.new-closings.ensures.items;
-      closed = λ q keep asked told stay plainly to.
+      count = ap length c.new-each.ensures.items;
+      size = ap length (made g c);
+      closed = λ q keep by.
           let none = none_closed q (a g start).roots (system_in (a g start)) keep (admitted_is g start).system (admitted_is g start).nested in
-          record { marks = none.marks; values = c.new-closings.ensures.items };
+          record {
+            marks = subst (λ ways. AreTo (IsWay q (system_in (a g start)) keep) (a g start).roots (system_in (a g start)) 0 ways) (sym (made g c)) none.marks;
+            values = c.new-each.ensures.items;
+          };
     }
 
 pub bounds-start-k : goal.bounds-start-k
@@ -117,17 +125,17 @@ bounds-images-k-in-loop-k g c =
     let more = c.loop-k-test.true in
     omega (arith, s, n, e, more)
 
-pub bounds-staying-k : goal.bounds-staying-k
-bounds-staying-k g c =
-    let start = (goal.at.bounds-staying-k g c).After-blocks-start in
+pub bounds-tables-k : goal.bounds-tables-k
+bounds-tables-k g c =
+    let start = (goal.at.bounds-tables-k g c).After-blocks-start in
     let n = count g start in
     let e = c.requires.staying in
     let more = c.loop-k-test.true in
     omega (arith, n, e, more)
 
-pub shut_itself-itself-requires : goal.shut_itself-itself-requires
-shut_itself-itself-requires g c =
-    let first = (goal.at.shut_itself-itself-requires g c).After-blocks-start in
+pub shut_itself-itself-requires-clause-bars : goal.shut_itself-itself-requires-clause-bars
+shut_itself-itself-requires-clause-bars g c =
+    let first = (goal.at.shut_itself-itself-requires-clause-bars g c).After-blocks-start in
     let here = function_here g first c.loop-k.k c.index-records-k.result c.loop-k-test.true c.index-records-k.is in
     have_registers (system_in (a g first)) here.f c.index-records-k.result here.is
 
@@ -142,25 +150,31 @@ loop-k-preserved g c =
     let here = function_here g first k r c.loop-k-test.true c.index-records-k.is in
     let f = here.f in
     let bus : c.bus-bus.result ≡ f.slot.bus = c.bus-bus.ensures ∙ ap (λ (x : Slot). x.bus) (same_slot_of r f here.is.value) in
-    let way : Way = get_or c.loop-k.ways c.from.result no_way in
+    let way : Way = c.index-way.result.now in
     let above : Above = get_or c.aboves-aboves.result c.from-in-loop-k.result no_above in
     let over : Over = record { above = above; windows = c.open_over.result } in
-    let around : Around = record { over = over; terms = c.of-terms.result; way = way; kept = record { ref_ptr = c.args.staying.ref_ptr; now = get_or c.args.staying.now k nothing_kept } } in
+    let around : Around = record { over = over; answering = answering g first; way = way; kept = record { ref_ptr = c.args.tables.now.staying.ref_ptr; now = get_or c.args.tables.now.staying.now k nothing_kept } } in
     let left : Closing = record { command = closing_by around r c.shut.result; windows = c.without.result } in
-    let closings : c.push.new.self.items ≡ c.loop-k.closings.items ++ left ∷ [] =
-    c.in_ok-push.ensures.items ∙ ap (λ n. c.loop-k.closings.items ++ (record { command = n; windows = c.without.result }) ∷ []) c.closing_command.ensures in
+    let each : c.push.new.self.items ≡ c.loop-k.each.items ++ left ∷ [] =
+    c.in_ok-push.ensures.items ∙ ap (λ n. c.loop-k.each.items ++ (record { command = n; windows = c.without.result }) ∷ []) c.closing_command.ensures in
     record {
-      count = ap length closings ∙ length-append c.loop-k.closings.items _ ∙ ap (λ n. n + 1) c.loop-k.invariant.count;
-      closed = λ q keep asked told stay plainly to.
-          let was = c.loop-k.invariant.closed q keep asked told stay plainly to in
+      count = ap length each ∙ length-append c.loop-k.each.items _ ∙ ap (λ n. n + 1) c.loop-k.invariant.count;
+      size = elim c.match-record.branch [
+        | in-Some w ↦ ap (λ (v : Vec Way g.row.A.Denot). length v.items) w.ways-is ∙ length-set c.loop-k.ways.items w.from-in-Some.result w.and.result ∙ c.loop-k.invariant.size
+        | in_default w ↦ ap (λ (v : Vec Way g.row.A.Denot). length v.items) w.ways-is ∙ c.loop-k.invariant.size
+      ];
+      closed = λ q keep by.
+          let was = c.loop-k.invariant.closed q keep by in
           let is_around : IsAround q s keep f around = record {
             over = record {
               above = subst (λ n. IsAbove s f.slot.bus (get_or c.aboves-aboves.result n no_above)) (sym (c.from-in-loop-k.ensures ∙ bus)) (c.aboves-aboves.ensures f no_above here.is.listed);
-              windows_are = subst (AreClassWindows q s f.slot.bus) (sym (c.open_over.ensures ∙ ap (λ n. get_or c.args.overs.now n no_windows) bus)) (told f here.is.listed);
+              windows_are = subst (AreClassWindows q s f.slot.bus) (sym (c.open_over.ensures ∙ ap (λ n. get_or c.args.overs.now n no_windows) bus)) (by.overs_are f here.is.listed);
             };
-            terms = terms g first q asked;
-            way = subst (λ n. IsWay q s keep f.slot.bus (get_or c.loop-k.ways n no_way)) (sym (c.from.ensures ∙ bus)) (way_at q roots s keep admitted.system admitted.nested k f r here.at here.is c.loop-k.ways c.loop-k.closings.items was no_way);
-            kept = λ part there. stay.each k f nothing_kept part here.at there;
+            terms = terms g first q by.asked;
+            told = ap (λ (d : Demand). d.told.ranges) by.asked.demands_are ∙ sym c.answering_of-answering.ensures.told;
+            stand = subst (AreFlagsOfTold q s) (sym c.answering_of-answering.ensures.standing) by.stand;
+            way = subst (IsWay q s keep f.slot.bus) (sym (c.index-way.ensures ∙ ap (λ n. get_or c.loop-k.ways.items n way) (c.from.ensures ∙ bus))) (way_at q roots s keep admitted.system admitted.nested k f r here.at here.is c.loop-k.ways.items c.loop-k.each.items was way);
+            kept = λ part there. by.stays.each k f nothing_kept part here.at there;
           } in
           let old : List ℕ = c.old.inside.image.0 in
           let plain : List ℕ = c.plain.inside.image.0 in
@@ -169,24 +183,24 @@ loop-k-preserved g c =
           ∙ start_image q roots s keep admitted.system admitted.nested k f r here.at here.is c.blocks-start.result.now c.index-start-k.result c.index-start-k.is (start g first) in
           let plain_is : plain ≡ (settled_function q s (unwished keep) f).image = ap (λ (x : Block). x.image) (c.plain.view_is ∙ sym c.index-images-k.is)
           ∙ settled_image q roots s keep admitted.system admitted.nested k f r here.at here.is (unwished keep) c.args.images.now.plain.now c.index-images-k.result c.index-images-k.is
-          (settled g first q (unwished keep) c.args.images.now.plain.now plainly) in
+          (settled g first q (unwished keep) c.args.images.now.plain.now by.plain) in
           let new_is : new ≡ (settled_function q s keep f).image = ap (λ (x : Block). x.image) (c.new.view_is ∙ sym c.index-images-k-in-loop-k.is)
           ∙ settled_image q roots s keep admitted.system admitted.nested k f r here.at here.is keep c.args.images.now.settled.now c.index-images-k-in-loop-k.result c.index-images-k-in-loop-k.is
-          (settled g first q keep c.args.images.now.settled.now to) in
+          (settled g first q keep c.args.images.now.settled.now by.settled) in
           let itself_by : (x : Space) → in_space c.shut_itself-itself.result x ≡ is_shut_by around x old new r =
           by_spaces (λ x. in_space c.shut_itself-itself.result x ≡ is_shut_by around x old new r) c.shut_itself-itself.ensures.io c.shut_itself-itself.ensures.memory in
           let shut_by : (x : Space) → in_space c.shut.result x ≡ (in_space c.shut_itself-itself.result x || not (in_space way.clear x)) =
           by_spaces (λ x. in_space c.shut.result x ≡ (in_space c.shut_itself-itself.result x || not (in_space way.clear x))) c.shut.ensures.io c.shut.ensures.memory in
-          let kept = get_or c.args.staying.now k nothing_kept in
+          let kept = get_or c.args.tables.now.staying.now k nothing_kept in
           let windows_by : (x : WindowKind) → in_class c.without.result x ≡ (not (is_window_kept kept.windows x) && in_class c.changed_windows-changed.result x) =
           by_classes (λ x. in_class c.without.result x ≡ (not (is_window_kept kept.windows x) && in_class c.changed_windows-changed.result x)) c.without.ensures.io c.without.ensures.memory c.without.ensures.prefetchable in
-          let After : List Way → Type 0 = λ ways. AreClosedTo q roots s keep (k + 1) ways c.push.new.self.items in
+          let After : Vec Way g.row.A.Denot → Type 0 = λ ways. AreClosedTo q roots s keep (k + 1) ways.items c.push.new.self.items in
           elim c.match-record.branch [
             | in-Some w ↦
                 subst After (sym w.ways-is)
                 (closed_more q roots s keep admitted.system admitted.nested k f r here.at here.is around is_around old plain new old_is plain_is new_is c.shut_itself-itself.result c.shut.result itself_by shut_by
                 c.changed_windows-changed.result c.without.result c.changed_windows-changed.ensures windows_by
-                c.loop-k.ways c.loop-k.closings.items c.push.new.self.items was closings w.in-Some.bridge w.in-Some.is w.from-in-Some.result w.from-in-Some.ensures w.and.result
+                c.loop-k.ways.items c.loop-k.each.items c.push.new.self.items was each w.in-Some.bridge w.in-Some.is w.from-in-Some.result w.from-in-Some.ensures w.and.result
                 (by_spaces (λ x. in_space w.and.result.on x ≡ (in_space way.on x && is_on r.command x)) w.and.ensures.io w.and.ensures.memory)
                 (by_spaces (λ x. in_space w.and.result.clear x ≡ (in_space way.clear x && not (in_space c.shut_itself-itself.result x))) w.and.ensures.clear_io w.and.ensures.clear_memory)
                 (by_classes (λ x. in_class w.and.result.same x ≡ (in_class way.same x && not (in_class c.changed_windows-changed.result x))) w.and.ensures.same_io w.and.ensures.same_memory w.and.ensures.same_prefetchable))
@@ -194,7 +208,7 @@ loop-k-preserved g c =
                 subst After (sym w.ways-is)
                 (closed_same q roots s keep admitted.system admitted.nested k f r here.at here.is around is_around old plain new old_is plain_is new_is c.shut_itself-itself.result c.shut.result itself_by shut_by
                 c.changed_windows-changed.result c.without.result c.changed_windows-changed.ensures windows_by
-                c.loop-k.ways c.loop-k.closings.items c.push.new.self.items was closings w.in_default.is)
+                c.loop-k.ways.items c.loop-k.each.items c.push.new.self.items was each w.in_default.is)
           ];
     }
 
@@ -212,5 +226,13 @@ returns-clause-closings g c =
     let first = (goal.at.returns-clause-closings g c).After-blocks-start in
     let n = count g first in
     let done = c.loop-k-test.false in
-    λ q keep asked told stay plainly to. all_closed q (a g first).roots (system_in (a g first)) keep (admitted_is g first).system (admitted_is g first).nested c.loop-k.k c.loop-k.ways c.loop-k.closings.items
-    (c.loop-k.invariant.closed q keep asked told stay plainly to) (omega (arith, n, done))
+    λ q keep by. all_closed q (a g first).roots (system_in (a g first)) keep (admitted_is g first).system (admitted_is g first).nested c.loop-k.k c.loop-k.ways.items c.loop-k.each.items
+    (c.loop-k.invariant.closed q keep by) (omega (arith, n, done))
+
+pub returns-clause-ways : goal.returns-clause-ways
+returns-clause-ways g c =
+    let first = (goal.at.returns-clause-ways g c).After-blocks-start in
+    let n = count g first in
+    let done = c.loop-k-test.false in
+    λ q keep by. all_clear q (a g first).roots (system_in (a g first)) keep (admitted_is g first).system (admitted_is g first).nested c.loop-k.k c.loop-k.ways.items c.loop-k.each.items
+    (c.loop-k.invariant.closed q keep by) (omega (arith, n, done)) by.asked.roots_are

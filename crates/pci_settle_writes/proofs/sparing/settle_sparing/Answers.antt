@@ -1,4 +1,4 @@
-use Rattle.std.proofs.Common.{◌≡◌, [], map, true, false, Option, Some, IfSome, refl, sym, subst}
+use Rattle.std.proofs.Common.{◌≡◌, ◌∙◌, [], length, map, true, false, Option, Some, IfSome, refl, sym, ap, subst}
 use Rattle.std.specs.Option.{is_some}
 use Rattle.settle_spec.specs.Growing.{finally_kept}
 use Rattle.settle_spec.specs.Sparing.{without_slots}
@@ -17,6 +17,30 @@ use Rattle.pci_settle_writes.proofs.sparing.settle_sparing.Goals as goal
 
 if_some : {T : Type 0} (P : T → Type 0) {o : Option T} {x : T} → o ≡ Some x → IfSome o P → P x
 if_some P is told = subst (λ y. IfSome y P) is told
+
+pub with_spares-requires-clause-staying : goal.with_spares-requires-clause-staying
+with_spares-requires-clause-staying g c = ap length c.as_slice.ensures.value ∙ c.in_ok-without.ensures.staying
+
+pub settle_wished-requires-clause-places : goal.settle_wished-requires-clause-places
+settle_wished-requires-clause-places g c = if_some (λ y. length y.places.items ≡ length (system_in c.args.admitted.now)) c.in-Some.is c.in_ok-spared.ensures.places
+
+pub settle_wished-requires-clause-staying : goal.settle_wished-requires-clause-staying
+settle_wished-requires-clause-staying g c = if_some (λ y. length y.staying.items ≡ length (system_in c.args.admitted.now)) c.in-Some.is c.in_ok-spared.ensures.staying
+
+pub settle_listed-requires-clause-anew : goal.settle_listed-requires-clause-anew
+settle_listed-requires-clause-anew g c = λ anew. ap (λ (x : Demand). x.told.ranges) c.without_slots-alone.ensures ∙ c.requires.anew anew
+
+pub settle_wished-requires-clause-told : goal.settle_wished-requires-clause-told
+settle_wished-requires-clause-told g c = if_some (λ y. length y.standing.items ≡ length c.args.lists.now.told.ranges.now) c.in-Some.is c.in_ok-spared.ensures.told
+
+pub settle_wished-requires-in-None-clause-told : goal.settle_wished-requires-in-None-clause-told
+settle_wished-requires-in-None-clause-told g c = c.in_ok-without.ensures.told
+
+pub settle_wished-requires-in-None-clause-places : goal.settle_wished-requires-in-None-clause-places
+settle_wished-requires-in-None-clause-places g c = c.in_ok-without.ensures.places
+
+pub settle_wished-requires-in-None-clause-staying : goal.settle_wished-requires-in-None-clause-staying
+settle_wished-requires-in-None-clause-staying g c = c.in_ok-without.ensures.staying
 
 pub returns-then-is_empty-clause-spared : goal.returns-then-is_empty-clause-spared
 returns-then-is_empty-clause-spared g c =

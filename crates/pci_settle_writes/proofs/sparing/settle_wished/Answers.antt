@@ -5,6 +5,7 @@ use Rattle.settle_spec.specs.Wishes.{granted}
 use Rattle.settle_laws.proofs.Wishing.Alike.{granted_alike}
 use Rattle.pci_place.specs.Above.{system_in}
 use Rattle.pci_settling.specs.Live.{HasAllPlaces}
+use Rattle.pci_settling.specs.Answers.{AreFlagsOfTold}
 use Rattle.pci_settle.specs.Over.{AreOpenOver}
 use Rattle.pci_settle_writes.specs.Told.{TellsKeeping}
 use Rattle.pci_settle_writes.specs.Wished.{TellsWishes}
@@ -17,6 +18,9 @@ use Rattle.pci_settle_writes.proofs.sparing.settle_wished.Goals as goal
 
 pub settled_wished-requires-clause-plain : goal.settled_wished-requires-clause-plain
 settled_wished-requires-clause-plain g c = ap length c.blocks-2.ensures.value ∙ same_titles c.args.ended.now.settled.dump c.args.admitted.now.dump c.requires.titles
+
+pub settled_wished-requires-clause-told : goal.settled_wished-requires-clause-told
+settled_wished-requires-clause-told g c = ap length c.tables-tables.ensures.standing ∙ c.requires.told
 
 pub returns-clause-wished : goal.returns-clause-wished
 returns-clause-wished g c = λ slots keep placed ends.
@@ -33,7 +37,7 @@ returns-clause-wished g c = λ slots keep placed ends.
     let overs = subst (AreOpenOver p s) (sym c.overs_of-overs.ensures)
     (overs_open a p refl c.outline.ensures.admitted c.records.result.now c.records.ensures.value c.outline.ensures.records c.open_windows-over.result (c.open_windows-over.ensures p s) p.anew refl) in
     record {
-      by = c.in_ok-settled.ensures.settled p j record { roots_are = refl; demands_are = sym placed } overs (places_then p s keep j alike c.tables-tables.result.places.now places)
+      by = c.in_ok-settled.ensures.settled p j record { roots_are = refl; demands_are = sym placed } (subst (AreFlagsOfTold p s) (sym c.tables-tables.ensures.standing) ends.stand) overs (places_then p s keep j alike c.tables-tables.result.places.now places)
           (tells_then p s keep j alike c.tables-tables.result.grown.now c.tables-tables.result.staying.now tells) (subst (TellsWishes s j) (sym c.as_slice.ensures.value) wishes.0)
           (subst (IsSettledDump p (unwished j) a) (sym c.blocks-2.ensures.value) (plain_then p s keep j alike a c.args.ended.now.settled.dump ends.unwished ends.by.settled));
       denied_are = wishes.1;

@@ -23,4 +23,4 @@ pub returns-in_ok-place_io_unfixed-in-Err-Fault-clause-fault : goal.returns-in_o
 returns-in_ok-place_io_unfixed-in-Err-Fault-clause-fault g c =
     let large = subst (IsTooLargeFor (asked c.args.admitted.now.roots (demand_value c.args.lists.now) c.args.fixed.now) (system_in c.args.admitted.now)) c.in-Err-Fault.field-0-is c.in-Err-Fault.ensures.fault in
     asked_too_large c.args.admitted.now (asked c.args.admitted.now.roots (demand_value c.args.lists.now) c.args.fixed.now) c.in-Err-Fault.window c.fault_of_window.result
-    large.0 large.1 c.fault_of_window.ensures c.in_ok-place_io_unfixed-in-Err-Fault.ensures.room
+    large.0 large.1 c.fault_of_window.ensures (λ free. c.in_ok-place_io_unfixed-in-Err-Fault.ensures.room free.0 free.1)

@@ -9,7 +9,7 @@ pub returns-clause-granted : goal.returns-clause-granted
 returns-clause-granted g c =
     IfOk-weaker c.grant_all.result _ _
     (λ w all p s keep spare asked windows own are.
-    all p s keep spare (board_asked p s c.args.roots.now c.args.lists.now _ c.args.basis.now.fixed.items asked refl refl c.as_slice.ensures.value c.bridges_over.ensures)
+    all p s keep spare (board_asked p s c.args.buses.now.roots.now c.args.lists.now _ c.args.basis.now.fixed.items asked refl refl c.as_slice.ensures.value c.requires.lines c.bridges_over.ensures)
     (subst (AreWindowsThen p s keep) (sym c.as_slice-2.ensures.value) windows)
     (subst (AreOwn p s keep) (sym c.as_slice-4.ensures.value) own)
     (subst (λ xs. AreSpares s xs c.args.basis.now.spares spare) (sym c.as_slice-3.ensures.value) are))

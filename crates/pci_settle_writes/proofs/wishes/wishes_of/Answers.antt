@@ -9,6 +9,8 @@ use Rattle.pci_function.specs.Values.{record_value}
 use Rattle.pci_tree.specs.Admission.{IsAdmitted}
 use Rattle.pci_place.specs.Above.{system_in}
 use Rattle.pci_place.proofs.Records.{same_count}
+use Rattle.pci_tree.specs.Roots.{buses_of}
+use Rattle.pci_settle.specs.Lines.{AreLineRows, AreLines}
 use Rattle.pci_settle.specs.Slots.{Demand}
 use Rattle.pci_spare.proofs.ToldSpares.{spares_are_told}
 use Rattle.pci_settle_writes.specs.Wishes.{behind_slots}
@@ -45,8 +47,14 @@ basis_of-requires-clause-registers g c =
     let start = (goal.at.basis_of-requires-clause-registers g c).After-records-records in
     all_registers (s g start) (records g start) (has g start)
 
-pub grant_by-requires : goal.grant_by-requires
-grant_by-requires g c = c.in_ok-basis.ensures.extents
+pub grant_by-requires-clause-spares : goal.grant_by-requires-clause-spares
+grant_by-requires-clause-spares g c = c.in_ok-basis.ensures.extents
+
+pub grant_by-requires-clause-rows : goal.grant_by-requires-clause-rows
+grant_by-requires-clause-rows g c = subst AreLineRows (sym c.as_slice.ensures.value) c.in_ok-lines.ensures.rows
+
+pub grant_by-requires-clause-lines : goal.grant_by-requires-clause-lines
+grant_by-requires-clause-lines g c = subst (AreLines (buses_of c.roots-roots.result) c.args.lists.now.told.ranges.now) (sym c.as_slice.ensures.value) c.in_ok-lines.ensures.lines
 
 pub returns-clause-count : goal.returns-clause-count
 returns-clause-count g c =
@@ -72,8 +80,9 @@ returns-clause-granted g c =
       has = has_them;
       system = (is_admitted g start).system;
       nested = subst (λ xs. IsNested xs sys) (sym asked.roots_are) (is_admitted g start).nested;
-      roots_are = asked.roots_are ∙ sym (c.roots.ensures ∙ c.outline-outline.ensures.roots);
+      roots_are = asked.roots_are ∙ sym (c.roots-roots.ensures ∙ c.outline-outline.ensures.roots);
       lists_are = ap (λ (d : Demand). d.lists) asked.demands_are;
+      told_are = ap (λ (d : Demand). d.told.ranges) asked.demands_are;
       fixed_are = told.fixed_are q.fixed flags;
     })
     (windows_then_are p sys keep (is_admitted g start).system (subst (λ xs. IsNested xs sys) (sym asked.roots_are) (is_admitted g start).nested) c.args.tables.now places tells none recs has_them places_count staying_count basis.windows.items told.windows_are)

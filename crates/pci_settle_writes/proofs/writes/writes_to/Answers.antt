@@ -2,28 +2,22 @@ use Rattle.std.proofs.Common.{◌≡◌, ◌∙◌, List, length, map, sym, ap, 
 use Rattle.std.proofs.lemmas.Result.{IfOk-weaker}
 use Rattle.pci_spec.specs.Text.{Block}
 use Rattle.settle_spec.specs.Lists.{Request}
-use Rattle.settle_spec.specs.Kept.{Kept, unwished}
+use Rattle.settle_spec.specs.Kept.{Kept}
 use Rattle.pci_tree.specs.Admission.{Admission, IsAdmitted}
 use Rattle.pci_place.specs.Above.{system_in}
-use Rattle.pci_settle.specs.Slots.{Demand, demand_value}
-use Rattle.pci_settle.specs.Over.{AreOpenOver}
 use Rattle.pci_settle_writes.specs.declared.writes.Stages.{Stages}
-use Rattle.pci_settle_writes.specs.Requests.{IsAskedOf}
+use Rattle.pci_settle_writes.specs.Shut.{AreClosings}
 use Rattle.pci_settle_writes.specs.Dumps.{IsSettledDump}
-use Rattle.pci_settle_writes.specs.Told.{IsTableOf}
 use Rattle.pci_settle_writes.specs.Stages.{AreOf, AreStages}
 use Rattle.pci_settle_writes.proofs.StagedWrites.{count_of}
 use Rattle.pci_settle_writes.proofs.States.{start_of, probe_count, probes_of, settled_of}
 use Rattle.pci_settle_writes.proofs.writes.writes_to.Goals as goal
-use Rattle.pci_settle_writes.proofs.writes.writes_to.Goals.{After-as_slice}
+use Rattle.pci_settle_writes.proofs.writes.writes_to.Goals.{After-blocks-3}
 use Rattle.pci_settle_writes.proofs.writes.writes_to.Given.{Over}
 
-module _ (g : Over) (c : After-as_slice g) where
+module _ (g : Over) (c : After-blocks-3 g) where
   abbrev a : Admission
   a = c.args.admitted.now
-
-  abbrev l : Demand
-  l = demand_value c.args.lists.now
 
   admitted_is : IsAdmitted a
   admitted_is = c.outline-outline.ensures.admitted
@@ -38,33 +32,32 @@ module _ (g : Over) (c : After-as_slice g) where
   start = subst (λ (bs : List Block). AreOf (system_in a) bs) (sym blocks_are) (start_of a admitted_is)
 
   abbrev stages : Stages
-  stages = record { start = c.blocks-2.result; probe = c.blocks-3.result; closings = c.as_slice.result; settled = c.args.images.now.settled }
+  stages = record { start = c.blocks-2.result; probe = c.blocks-3.result; closings = c.args.closings; settled = c.args.settled }
 
-  are : (q : Request) (keep : Kept) → IsAskedOf q a.roots l → AreOpenOver q (system_in a) c.args.overs.now → IsTableOf (system_in a) keep.stays c.args.staying.now
-      → IsSettledDump q (unwished keep) a c.args.images.now.plain.now → IsSettledDump q keep a c.args.images.now.settled.now → AreStages q (system_in a) keep stages
-  are q keep asked told stay plainly to = record {
+  are : (q : Request) (keep : Kept) → IsSettledDump q keep a c.args.settled.now → AreClosings q (system_in a) keep c.args.closings.now → AreStages q (system_in a) keep stages
+  are q keep to closings = record {
     system = admitted_is.system;
     start = start;
     probe = ap (map (λ (b : Block). b.image)) probes_are ∙ probes_of a admitted_is;
-    closings = c.as_slice.ensures.value ∙ c.in_ok-closings.ensures.closings q keep asked told stay plainly to;
-    settled = settled_of a admitted_is q keep c.args.images.now.settled.now to;
+    closings = closings;
+    settled = settled_of a admitted_is q keep c.args.settled.now to;
   }
 
 pub writes_by-requires : goal.writes_by-requires
 writes_by-requires g c =
-    let first = (goal.at.writes_by-requires g c).After-as_slice in
+    let first = (goal.at.writes_by-requires g c).After-blocks-3 in
     record {
       probe = ap length (probes_are g first) ∙ probe_count (a g first) (admitted_is g first) ∙ sym (ap length (blocks_are g first));
-      closings = ap length c.as_slice.ensures.value ∙ c.in_ok-closings.ensures.count ∙ count_of (system_in (a g first)) c.blocks-2.result.now (start g first);
+      closings = c.requires.closings ∙ count_of (system_in (a g first)) c.blocks-2.result.now (start g first);
       settled = c.requires.settled ∙ sym (ap length (blocks_are g first));
     }
 
 pub returns-clause-writes : goal.returns-clause-writes
 returns-clause-writes g c =
-    let first = (goal.at.returns-clause-writes g c).After-as_slice in
-    IfOk-weaker c.writes_by.result _ _ (λ w is q keep asked told stay plainly to. is q (system_in (a g first)) keep (are g first q keep asked told stay plainly to)) c.writes_by.ensures.writes
+    let first = (goal.at.returns-clause-writes g c).After-blocks-3 in
+    IfOk-weaker c.writes_by.result _ _ (λ w is q keep to closings. is q (system_in (a g first)) keep (are g first q keep to closings)) c.writes_by.ensures.writes
 
 pub returns-clause-closings : goal.returns-clause-closings
 returns-clause-closings g c =
-    let first = (goal.at.returns-clause-closings g c).After-as_slice in
-    IfOk-weaker c.writes_by.result _ _ (λ w is q keep asked told stay plainly to. is q (system_in (a g first)) keep (are g first q keep asked told stay plainly to)) c.writes_by.ensures.closings
+    let first = (goal.at.returns-clause-closings g c).After-blocks-3 in
+    IfOk-weaker c.writes_by.result _ _ (λ w is q keep to closings. is q (system_in (a g first)) keep (are g first q keep to closings)) c.writes_by.ensures.closings
