@@ -1,13 +1,22 @@
 -- A task with what is told.
 use Rattle.std.proofs.Common.{◌≡◌, Bool, refl}
 use Rattle.pci_dump.specs.declared.read_fault.ReadFault.TheVariants.{Io}
-use Rattle.pciplan_tasks.specs.Also.{IsAlsoUnread}
+use Rattle.pciplan_tasks.specs.Also.{IsAlsoUnread, also_around}
 use Rattle.pciplan_tasks.specs.declared.task.Also.{Also}
 use Rattle.pciplan_tasks.specs.declared.task.Also.TheVariants.{Refused}
 use Rattle.pciplan_tasks.specs.declared.task.Beside.{Beside}
+use Rattle.pciplan_tasks.specs.declared.task.Placing.{Placing}
+use Rattle.pciplan_tasks.specs.declared.task.Placing.TheVariants.{Anew, Around}
+use Rattle.pciplan_tasks.specs.declared.task.Printed.{Printed}
+use Rattle.pciplan_tasks.specs.declared.task.SettleRequest.{SettleRequest}
 use Rattle.pciplan_tasks.specs.declared.task.Task.{Task}
 use Rattle.pciplan_tasks.specs.declared.task.Task.TheVariants as task
-use Rattle.pciplan_cli.specs.AlsoTexts.{with_also}
+use Rattle.pciplan_cli.specs.AlsoTexts.{placing_with, with_also}
+
+-- all is placed anew without a third text
+unread_around : (placing : Placing) (also : Also) → also_around (placing_with placing also) ≡ Refused Io → also ≡ Refused Io
+unread_around Anew also unread = absurd (let no : ⊥ = cc unread in no)
+unread_around (Around untold) also unread = unread
 
 -- a third text that isn't read is that of the task
 pub unread_told : (t : Task) (also : Also) → IsAlsoUnread (with_also t also) → also ≡ Refused Io
@@ -17,17 +26,17 @@ unread_told task.Show also unread = absurd (let no : ⊥ = cc unread in no)
 unread_told (task.Check roots) also unread = absurd (let no : ⊥ = cc unread in no)
 unread_told task.Size also unread = absurd (let no : ⊥ = cc unread in no)
 unread_told (task.Plan pools writes why roots) also unread = absurd (let no : ⊥ = cc unread in no)
-unread_told (task.Settle request printed) also unread = absurd (let no : ⊥ = cc unread in no)
+unread_told (task.Settle request printed) also unread = unread_around request.placing also unread
 unread_told (task.Probe assuming) also unread = absurd (let no : ⊥ = cc unread in no)
 
 -- a task that has no third text takes nothing of it
 pub others_told : (t : Task) (also : Also) → ((beside : Beside) (why : Bool) → t ≡ task.Faults beside why → ⊥) → ((beside : Beside) → t ≡ task.Map beside → ⊥)
-    → t ≡ with_also t also
-others_told (task.Faults beside why) also no_faults no_map = absurd (no_faults beside why refl)
-others_told (task.Map beside) also no_faults no_map = absurd (no_map beside refl)
-others_told task.Show also no_faults no_map = refl
-others_told (task.Check roots) also no_faults no_map = refl
-others_told task.Size also no_faults no_map = refl
-others_told (task.Plan pools writes why roots) also no_faults no_map = refl
-others_told (task.Settle request printed) also no_faults no_map = refl
-others_told (task.Probe assuming) also no_faults no_map = refl
+    → ((request : SettleRequest) (printed : Printed) → t ≡ task.Settle request printed → ⊥) → t ≡ with_also t also
+others_told (task.Faults beside why) also no_faults no_map no_settle = absurd (no_faults beside why refl)
+others_told (task.Map beside) also no_faults no_map no_settle = absurd (no_map beside refl)
+others_told task.Show also no_faults no_map no_settle = refl
+others_told (task.Check roots) also no_faults no_map no_settle = refl
+others_told task.Size also no_faults no_map no_settle = refl
+others_told (task.Plan pools writes why roots) also no_faults no_map no_settle = refl
+others_told (task.Settle request printed) also no_faults no_map no_settle = absurd (no_settle request printed refl)
+others_told (task.Probe assuming) also no_faults no_map no_settle = refl

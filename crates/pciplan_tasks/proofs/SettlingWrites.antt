@@ -6,6 +6,7 @@ use Rattle.pci_spec.specs.Number.{number_at}
 use Rattle.pci_spec.specs.Machine.{Write}
 use Rattle.pci_spec.specs.System.{System, Function, is_bridge}
 use Rattle.plan_spec.specs.Planning.PlanWrites.{Change, register_write}
+use Rattle.given_spec.specs.ToldRegion.{ToldRegion}
 use Rattle.settle_spec.specs.Lists.{Request, are_bad_lists}
 use Rattle.settle_spec.specs.Parts.{FunctionPart}
 use Rattle.settle_spec.specs.Stands.{stands}
@@ -13,7 +14,7 @@ use Rattle.settle_spec.specs.Items.{Item}
 use Rattle.settle_spec.specs.Writes.{Settling, BadLists, Settled, or_fixed, or_lack, or_write, fixed_without, fixed_write, closing_registers, setting_registers}
 use Rattle.settle_spec.specs.Kept.{Kept}
 use Rattle.settle_spec.specs.Keeping.Places.{lacking}
-use Rattle.settle_spec.specs.Keeping.Writes.{closing_of, setting_of, closing_from, setting_from, opening_from, closings, settle_writes, settle_keeping}
+use Rattle.settle_spec.specs.Keeping.Writes.{closing_of, setting_of, closing_from, setting_from, opening_from, closings, settle_writes, settle_keeping, or_told, earliest, is_not_reached, does_not_stay, would_be_switched}
 use Rattle.pci_plan.specs.Writes.{is_two_or_four, write_value}
 use Rattle.pci_plan.specs.declared.write.Write.{Write as CodeWrite}
 use Rattle.pciplan_tasks.proofs.PlainWrites.{is_plain_value, plain_other, plain_both, plain_closing_by, plain_setting_by, plain_register, plain_of}
@@ -47,20 +48,47 @@ IsPlainEnd : Settling → Type 0
 IsPlainEnd (Settled writes) = list_all is_plain_value writes ≡ true
 IsPlainEnd refused = Unit {0}
 
-plain_end : (bad : Bool) (stand stay : Option FunctionPart) (lack : Option Item) (fixed : Option Write) (writes : List Write) → list_all is_plain_value writes ≡ true
-    → IsPlainEnd (if bad then BadLists else or_fixed stand (or_fixed stay (or_lack lack (or_write fixed (Settled writes)))))
+-- each of these ends is one of no writes, or the other's
+plain_told : (told : Option ToldRegion) (other : Settling) → IsPlainEnd other → IsPlainEnd (or_told told other)
 unfolding IsPlainEnd
-plain_end true stand stay lack fixed writes plain = tt
-plain_end false (Some r) stay lack fixed writes plain = tt
-plain_end false None (Some r) lack fixed writes plain = tt
-plain_end false None None (Some i) fixed writes plain = tt
-plain_end false None None None (Some w) writes plain = tt
-plain_end false None None None None writes plain = plain
+plain_told None other plain = plain
+plain_told (Some x) other plain = tt
+
+plain_fixed : (part : Option FunctionPart) (other : Settling) → IsPlainEnd other → IsPlainEnd (or_fixed part other)
+unfolding IsPlainEnd
+plain_fixed None other plain = plain
+plain_fixed (Some r) other plain = tt
+
+plain_lack : (lack : Option Item) (other : Settling) → IsPlainEnd other → IsPlainEnd (or_lack lack other)
+unfolding IsPlainEnd
+plain_lack None other plain = plain
+plain_lack (Some i) other plain = tt
+
+plain_write : (fixed : Option Write) (other : Settling) → IsPlainEnd other → IsPlainEnd (or_write fixed other)
+unfolding IsPlainEnd
+plain_write None other plain = plain
+plain_write (Some w) other plain = tt
+
+plain_settled : (writes : List Write) → list_all is_plain_value writes ≡ true → IsPlainEnd (Settled writes)
+unfolding IsPlainEnd
+plain_settled writes plain = plain
+
+plain_listed : (bad : Bool) (other : Settling) → IsPlainEnd other → IsPlainEnd (if bad then BadLists else other)
+unfolding IsPlainEnd
+plain_listed true other plain = tt
+plain_listed false other plain = plain
 
 plain_beside : (q : Request) (s : System) (keep : Kept) → IsPlainEnd (settle_keeping q s keep)
 plain_beside q s keep =
-    plain_end (are_bad_lists q.roots q.lists) (fixed_without (stands q s) q s) (fixed_without keep.stays q s) (lacking q s keep)
-    (fixed_write q (settle_writes q s keep)) (settle_writes q s keep) (plain_settling q s keep)
+    let writes = settle_writes q s keep in
+    plain_listed (are_bad_lists q.roots q.lists) _
+    (plain_told (earliest q (is_not_reached q s)) _
+    (plain_fixed (fixed_without (stands q s) q s) _
+    (plain_told (earliest q (does_not_stay q s keep)) _
+    (plain_fixed (fixed_without keep.stays q s) _
+    (plain_lack (lacking q s keep) _
+    (plain_write (fixed_write q writes) _
+    (plain_told (earliest q (would_be_switched q s keep)) _ (plain_settled writes (plain_settling q s keep)))))))))
 
 -- those of the code that are a settling's
 pub plain_writes : (q : Request) (s : System) (keep : Kept) (writes : List CodeWrite) → settle_keeping q s keep ≡ Settled (map write_value writes)

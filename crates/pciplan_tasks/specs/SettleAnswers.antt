@@ -8,11 +8,15 @@ use Rattle.pci_spec.specs.System.{system_of}
 use Rattle.pci_spec.specs.Sound.{IsSound}
 use Rattle.pci_spec.specs.Machine.{Write}
 use Rattle.pci_spec.specs.Line.{region_field, write_line}
+use Rattle.given_spec.specs.Given.{nothing_given}
+use Rattle.given_spec.specs.ToldClaims.{Told}
+use Rattle.given_spec.specs.ToldFault.{Fault}
 use Rattle.settle_spec.specs.Lists.{Lists, Request}
 use Rattle.settle_spec.specs.Sparing.{without_slots}
 use Rattle.pci_settle.specs.Lists.{root_range_value}
 use Rattle.pci_settle.specs.Slots.{Demand}
 use Rattle.pci_base.specs.declared.memory.Refused.TheVariants as refused
+use Rattle.pci_given.specs.Every.{AreBefore, AreReady}
 use Rattle.pci_script.specs.Scripts.{script}
 use Rattle.pci_settle_writes.specs.Requests.{request}
 use Rattle.pci_settle_writes.specs.Denied.{IsSpared}
@@ -21,8 +25,10 @@ use Rattle.pci_settle_writes.specs.FaultText.{settle_fault_text}
 use Rattle.pci_settle_writes.specs.declared.lack.SettleFault.{SettleFault}
 use Rattle.pci_tree.specs.Admission.{Admission, IsAdmitted}
 use Rattle.pci_tree.specs.Roots.{buses_of}
+use Rattle.pciplan_tasks.specs.Also.{also_around, is_anew, ranges_told}
 use Rattle.pciplan_tasks.specs.Answers.{Answer}
 use Rattle.pciplan_tasks.specs.Answers as told
+use Rattle.pciplan_tasks.specs.MapAnswers.{IsFirstLine}
 use Rattle.pciplan_tasks.specs.PlanAnswers.{IsRefusedText}
 use Rattle.pciplan_tasks.specs.Slots.{slots_for, spares_said}
 use Rattle.pciplan_tasks.specs.declared.task.Printed.{Printed}
@@ -38,17 +44,18 @@ lists_said l = record {
   prefetch = map root_range_value l.pref.items;
 }
 
--- the lists, and the room behind the slots of a dump
+-- the lists, the room behind the slots of a dump, and what is told: of nobody it is known that he is asleep
 abbrev pub demand_said : SettleRequest → List Block → Demand
 demand_said r dump = record {
   lists = lists_said r.lists;
   slots = slots_for r.spares (option_map (λ s. s.items) r.slots) dump;
   spares = spares_said r.spares;
+  told = record { ranges = ranges_told (also_around r.placing); asleep = [] };
 }
 
 -- what is asked of settling a dump
 abbrev pub request_said : SettleRequest → List Block → Request
-request_said r dump = request (buses_of r.roots) (demand_said r dump) r.fixed.items r.anew
+request_said r dump = request (buses_of r.roots) (demand_said r dump) r.fixed.items (is_anew r.placing)
 
 -- what is asked for: how two texts are settled, and what is printed
 pub record SettleAsked : Type 0 where
@@ -107,8 +114,28 @@ pub record IsNotSettledText (asked : SettleAsked) (dump probe : List Block) (ans
       (refused.Fault fault)
   pub line : answer ≡ told.refused (told.fault_answer_line (settle_fault_text fault))
 
--- `settle`: what settling comes to, or the line of a fault
-abbrev pub IsSettlingTold : SettleAsked → List Block → List Block → Answer → Type 0
-IsSettlingTold asked dump probe answer =
+-- what settling the two comes to, or the line of a fault
+abbrev pub IsSettlingOfPair : SettleAsked → List Block → List Block → Answer → Type 0
+IsSettlingOfPair asked dump probe answer =
     IsSettledText asked dump probe answer ⊎ IsRefusedText asked.request.roots dump probe answer
     ⊎ IsNotSettledText asked dump probe answer
+
+-- where something is told, no fault is there before judging with it: no 34, and no 58 of a held range
+abbrev pub IsReadyAsTold : Told → List ℕ → List Block → List Block → Type 0
+IsReadyAsTold said roots dump probe = (said.ranges ≡ []) ⊎ AreReady said roots dump probe
+
+-- the same of two that are ready
+pub record IsSettlingReady (asked : SettleAsked) (dump probe : List Block) (answer : Answer) : Type 0 where
+  pub ready : IsReadyAsTold asked.request.told asked.request.roots dump probe
+  pub is : IsSettlingOfPair asked dump probe answer
+
+-- the line of the first of all faults that are looked for before judging with what is told
+pub record IsNotReady (asked : SettleAsked) (dump probe : List Block) (answer : Answer) : Type 0 where
+  pub faults : List Fault
+  pub before : AreBefore asked.request.told nothing_given asked.request.roots dump probe faults
+  pub line : IsFirstLine faults answer
+
+-- `settle`: what settling comes to with what is told, or the line of a fault
+abbrev pub IsSettlingTold : SettleAsked → List Block → List Block → Answer → Type 0
+IsSettlingTold asked dump probe answer =
+    IsSettlingReady asked dump probe answer ⊎ IsNotReady asked dump probe answer

@@ -23,7 +23,10 @@ use pci_map::text::map_text;
 use std::alloc::Allocator;
 
 /// The line of the first of some faults.
-fn first_line<A: Allocator + Copy>(alloc: A, faults: &[AnyFault]) -> Result<Reply<A>, OutOfMemory>
+pub fn first_line<A: Allocator + Copy>(
+    alloc: A,
+    faults: &[AnyFault],
+) -> Result<Reply<A>, OutOfMemory>
     requires { map fault_of faults.now ≡ [] → ⊥ }
     ensures { IfOk result
         (λ reply. IsFirstLine (map fault_of faults.now) (answer_of reply)) }

@@ -7,17 +7,20 @@ ghost use Rattle.pci_tree.specs.Admission.{IsAdmitted};
 ghost use Rattle.pci_tree.specs.Roots.{buses_of};
 ghost use Rattle.pci_settle.specs.Slots.{demand_value};
 ghost use Rattle.pci_settle_writes.specs.Denied.{denied_value};
-ghost use Rattle.pci_settle_writes.specs.Requests.{request};
+ghost use Rattle.pci_settle_writes.specs.Requests.{request, MayAsk};
 ghost use Rattle.pciplan_tasks.specs.Answers.{answer_of, done_with, text_bytes};
-ghost use Rattle.pciplan_tasks.specs.SettleAnswers.{IsSettlingTold, demand_said, request_said, settled_text, spare_remark, spare_remarks};
+ghost use Rattle.pciplan_tasks.specs.SettleAnswers.{IsSettlingOfPair, IsSettlingTold, demand_said, request_said, settled_text, spare_remark, spare_remarks};
 
+use crate::mapping::first_line;
 use crate::planning::lines_of;
 use crate::reply::{Reply, Text, refused};
 use crate::slots::{slots_for, slots_of};
 use crate::task::{Printed, SettleRequest};
 use pci_base::memory::{OutOfMemory, Refused};
 use pci_base::slot::Slot;
+use pci_claims::told::Told;
 use pci_dump::dump::Dump;
+use pci_given::every::{BeforeJudging, before_judging};
 use pci_script::script::script;
 use pci_settle::list::Lists;
 use pci_settle_writes::settle::{Denied, Settled, settle};
@@ -127,8 +130,9 @@ fn settle_admitted<A: Allocator + Copy>(
     anew: bool,
     printed: Printed,
 ) -> Result<Reply<A>, OutOfMemory>
-    requires { IsAdmitted admitted.now }
-    ensures { IfOk result (λ reply. IsSettlingTold record {
+    requires admitted { IsAdmitted admitted.now }
+    requires anew { MayAsk anew lists.now }
+    ensures { IfOk result (λ reply. IsSettlingOfPair record {
       request = request admitted.now.roots (demand_value lists.now) fixed.now anew;
       printed = printed;
     } admitted.now.dump admitted.now.probe (answer_of reply)) }
@@ -151,7 +155,7 @@ fn settle_behind<'a, A: Allocator + Copy>(
     requires admitted { IsAdmitted admitted.now }
     requires roots { admitted.now.roots ≡ buses_of request.now.roots }
     requires bridges { bridges.now ≡ (demand_said request.now admitted.now.dump).slots }
-    ensures { IfOk result (λ reply. IsSettlingTold record {
+    ensures { IfOk result (λ reply. IsSettlingOfPair record {
       request = request_said request.now admitted.now.dump;
       printed = printed;
     } admitted.now.dump admitted.now.probe (answer_of reply)) }
@@ -165,9 +169,11 @@ fn settle_behind<'a, A: Allocator + Copy>(
         mem,
         pref,
         slots,
+        told: request.placing.told(),
     };
     let fixed = request.fixed.as_slice();
-    settle_admitted(alloc, admitted, &lists, fixed, request.anew, printed)
+    let anew = request.placing.is_anew();
+    settle_admitted(alloc, admitted, &lists, fixed, anew, printed)
 }
 
 /// Settles what was admitted as it is asked for.
@@ -179,7 +185,7 @@ fn settle_asked<A: Allocator + Copy>(
 ) -> Result<Reply<A>, OutOfMemory>
     requires admitted { IsAdmitted admitted.now }
     requires roots { admitted.now.roots ≡ buses_of request.now.roots }
-    ensures { IfOk result (λ reply. IsSettlingTold record {
+    ensures { IfOk result (λ reply. IsSettlingOfPair record {
       request = request_said request.now admitted.now.dump;
       printed = printed;
     } admitted.now.dump admitted.now.probe (answer_of reply)) }
@@ -189,7 +195,52 @@ fn settle_asked<A: Allocator + Copy>(
     settle_behind(alloc, admitted, request, bridges.as_slice(), printed)
 }
 
-/// Settles a dump and its probe as it is asked for, and answers what is to be printed of it.
+/// Settles a dump and its probe as it is asked for.
+fn settle_texts<A: Allocator + Copy>(
+    alloc: A,
+    dump: Dump<A>,
+    probe: Dump<A>,
+    request: &SettleRequest,
+    printed: Printed,
+) -> Result<Reply<A>, OutOfMemory>
+    ensures { IfOk result (λ reply. IsSettlingOfPair record {
+      request = request_said request.now dump;
+      printed = printed;
+    } dump probe (answer_of reply)) }
+{
+    match admit_with(alloc, dump, probe, request.roots) {
+        Ok(admitted) => settle_asked(alloc, &admitted, request, printed),
+        Err(Refused::Fault(fault)) => refused(alloc, &fault),
+        Err(Refused::Memory) => Err(OutOfMemory),
+    }
+}
+
+/// The same where ranges are told: the first fault that is there before judging with them is printed instead.
+fn settle_told<A: Allocator + Copy>(
+    alloc: A,
+    dump: Dump<A>,
+    probe: Dump<A>,
+    request: &SettleRequest,
+    printed: Printed,
+) -> Result<Reply<A>, OutOfMemory>
+    ensures { IfOk result (λ reply. IsSettlingTold record {
+      request = request_said request.now dump;
+      printed = printed;
+    } dump probe (answer_of reply)) }
+{
+    let told = Told {
+        ranges: request.placing.ranges(),
+        asleep: &[],
+    };
+    let found = before_judging(alloc, &dump, &probe, request.roots, &told)?;
+    match found {
+        BeforeJudging::Refused(faults) => first_line(alloc, faults.as_slice()),
+        BeforeJudging::Admitted(_outline) => settle_texts(alloc, dump, probe, request, printed),
+    }
+}
+
+/// Settles a dump and its probe as it is asked for, and answers what is to be printed of it. What is told is looked at before
+/// anything is judged: 34 behind 30, and 58 of held ranges with 50, 57 and 58.
 pub fn settle_pair<A: Allocator + Copy>(
     alloc: A,
     dump: Dump<A>,
@@ -202,9 +253,9 @@ pub fn settle_pair<A: Allocator + Copy>(
       printed = printed;
     } dump probe (answer_of reply)) }
 {
-    match admit_with(alloc, dump, probe, request.roots) {
-        Ok(admitted) => settle_asked(alloc, &admitted, request, printed),
-        Err(Refused::Fault(fault)) => refused(alloc, &fault),
-        Err(Refused::Memory) => Err(OutOfMemory),
+    if request.placing.ranges().is_empty() {
+        settle_texts(alloc, dump, probe, request, printed)
+    } else {
+        settle_told(alloc, dump, probe, request, printed)
     }
 }

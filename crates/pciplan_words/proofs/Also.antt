@@ -1,4 +1,4 @@
--- Command lines with a text of told ranges: `faults` and `map` take one, once, and the other tasks none.
+-- Command lines with a text of told ranges: `faults`, `map` and `settle` take one, once, and the other tasks none.
 use Rattle.std.proofs.Common.{◌≡◌, List, [], ◌∷◌, ◌==◌, Bool, true, false, codes, length, map, refl}
 use Rattle.clap.specs.Words.{Text, fault_of}
 use Rattle.clap.proofs.OnLiterals.{clap_on_literals}
@@ -34,6 +34,10 @@ pools_alone : map (λ task. is_taken task pools) (codes "plan" ∷ codes "settle
 unfolding clap_on_literals
 pools_alone = refl
 
-not_beside_pools : map (λ task. is_taken task (codes "--also" ∷ codes "told" ∷ pools)) (codes "plan" ∷ codes "settle" ∷ []) ≡ false ∷ false ∷ []
+beside_pools : map (λ task. is_taken task (codes "--also" ∷ codes "told" ∷ pools)) (codes "plan" ∷ codes "settle" ∷ []) ≡ false ∷ true ∷ []
 unfolding clap_on_literals
-not_beside_pools = refl
+beside_pools = refl
+
+settle_takes_one : is_taken (codes "settle") (codes "--also" ∷ codes "one" ∷ codes "--also" ∷ codes "two" ∷ pools) ≡ false
+unfolding clap_on_literals
+settle_takes_one = refl

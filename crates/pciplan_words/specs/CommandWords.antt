@@ -55,6 +55,7 @@ pub record HasSettleWords (rows : List Row) (words : SettleWords) : Type 0 where
   pub anew : IsFlag (one_of (codes "anew") rows) words.anew
   pub spare : first_of (codes "spare") rows ≡ word_of words.spare
   pub slots : first_of (codes "slots") rows ≡ word_of words.slots
+  pub also : first_of (codes "also") rows ≡ word_of words.also
   pub writes : IsFlag (one_of (codes "writes") rows) words.writes
 
 -- slots are said where spares are

@@ -32,6 +32,8 @@ pub struct SettleWords<'a> {
     pub spare: Option<&'a str>,
     /// The list of bridges with a hot-plug slot, where it is said. It is said beside `spare` alone.
     pub slots: Option<&'a str>,
+    /// The path of a text of told ranges, where there is one.
+    pub also: Option<&'a str>,
     /// Whether the writes are asked for, and not the settled dump.
     pub writes: bool,
 }

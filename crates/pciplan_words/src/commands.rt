@@ -166,6 +166,7 @@ const SUBCOMMANDS: [Subcommand<'static>; 8] = [
             Argument::Flag(ANEW),
             Argument::Word(SPARE),
             Argument::Word(SLOTS),
+            Argument::Word(ALSO),
             Argument::Flag(WRITES),
         ],
     },

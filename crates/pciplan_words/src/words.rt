@@ -100,6 +100,7 @@ fn settle_words<'a>(found: &ArgMatches<'a>) -> Option<SettleWords<'a>>
         anew: found.get_flag(ANEW),
         spare: found.get_str(SPARE),
         slots: found.get_str(SLOTS),
+        also: found.get_str(ALSO),
         writes: found.get_flag(WRITES),
     })
 }

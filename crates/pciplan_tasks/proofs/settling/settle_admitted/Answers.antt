@@ -21,9 +21,9 @@ returns-in-Ok g c =
     let settled = c.in-Ok.settled in
     settled_is_told c.args.admitted.now (demand_value c.args.lists.now) c.args.fixed.now c.args.anew c.args.printed settled.dump
     (map write_value settled.writes.all.items) settled.writes.closings (map denied_value settled.denied.items) c.settled_reply.result
-    c.requires c.in-Ok.ensures.sized c.in-Ok.ensures.titles c.in-Ok.ensures.sound c.in-Ok.ensures.spared c.settled_reply.ensures
+    c.requires.admitted c.in-Ok.ensures.sized c.in-Ok.ensures.titles c.in-Ok.ensures.sound c.in-Ok.ensures.spared c.settled_reply.ensures
 
 pub returns-in-Err-Fault : goal.returns-in-Err-Fault
 returns-in-Err-Fault g c =
-    refused_is_told c.args.admitted.now (demand_value c.args.lists.now) c.args.fixed.now c.args.anew c.args.printed c.in-Err-Fault.fault c.refused.result c.requires
+    refused_is_told c.args.admitted.now (demand_value c.args.lists.now) c.args.fixed.now c.args.anew c.args.printed c.in-Err-Fault.fault c.refused.result c.requires.admitted
     (rw c.in-Err-Fault.field-0-is at c.in-Err-Fault.ensures.refusal) (rw c.in-Err-Fault.field-0-is at c.refused.ensures)

@@ -15,5 +15,6 @@ returns c =
       anew = flag_there found (codes "anew") c.get_flag.result c.get_flag.ensures.none c.get_flag.ensures.value c.get_flag.ensures.other;
       spare = word_there found (codes "spare") c.get_str-6.result c.get_str-6.ensures;
       slots = word_there found (codes "slots") c.get_str-7.result c.get_str-7.ensures;
+      also = word_there found (codes "also") c.get_str-8.result c.get_str-8.ensures;
       writes = flag_there found (codes "writes") c.get_flag-2.result c.get_flag-2.ensures.none c.get_flag-2.ensures.value c.get_flag-2.ensures.other;
     }
