@@ -79,6 +79,8 @@ def named(number, rest):
         if found['size']:
             made.update(size=int(found['size'], 16), align=int(found['align'], 16))
         return made
+    if number == 75:
+        return place(whole(OF_RANGE, rest))
     found = whole(r'(?P<slot>\S+)( (?P<register>[0-9a-f]{2}))?', rest)
     return place(found) if found['register'] else {'slot': found['slot']}
 

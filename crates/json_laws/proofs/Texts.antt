@@ -24,6 +24,10 @@ behind_if : (told : Bool) (w : List ℕ) (more : List (List ℕ × Json))
 behind_if true w more = refl
 behind_if false w more = refl
 
+told_alone : (told : Bool) (w : List ℕ) → texts_in (if told then (codes "line", count (line_number w)) ∷ [] else (codes "register", hex w) ∷ []) ≡ []
+told_alone true w = refl
+told_alone false w = refl
+
 behind_register : (w : List ℕ) (more : List (List ℕ × Json)) → texts_in (register_or_line w ++ more) ≡ texts_in more
 behind_register w more = behind_if (is_line w) w more
 
@@ -43,24 +47,26 @@ register : (none : Bool) (line : List ℕ) → texts_in (if none then [] else (c
 register true line = refl
 register false line = refl
 
-named_by : (a b c d e f : Bool) (line : List ℕ)
+named_by : (a b c d e f g : Bool) (line : List ℕ)
     → texts_in (if a then unreached_members line
     else (if b then clash_members line
     else (if c then split_members line
     else (if d then outside_members line
     else (if e then []
     else (if f then no_room_members line
-    else slot_members line)))))) ≡ []
-named_by true b c d e f line = behind_register (word 3 line) (space_and_address 4 line ++ (codes "bridge", string (word 7 line)) ∷ [])
-named_by false true c d e f line = refl
-named_by false false true d e f line = refl
-named_by false false false true e f line = behind_register (word 3 line) (space_and_address 4 line)
-named_by false false false false true f line = refl
-named_by false false false false false true line = part (is_word 3 [] line) (is_word 5 [] line) line
-named_by false false false false false false line = register (is_word 3 [] line) line
+    else (if g then slot_and_register 2 line
+    else slot_members line))))))) ≡ []
+named_by true b c d e f g line = behind_register (word 3 line) (space_and_address 4 line ++ (codes "bridge", string (word 7 line)) ∷ [])
+named_by false true c d e f g line = refl
+named_by false false true d e f g line = refl
+named_by false false false true e f g line = behind_register (word 3 line) (space_and_address 4 line)
+named_by false false false false true f g line = refl
+named_by false false false false false true g line = part (is_word 3 [] line) (is_word 5 [] line) line
+named_by false false false false false false true line = told_alone (is_line (word 3 line)) (word 3 line)
+named_by false false false false false false false line = register (is_word 3 [] line) line
 
 named : (n : ℕ) (line : List ℕ) → texts_in (named_members n line) ≡ []
-named n line = named_by (n == 60) (n == 61) (n == 62) (n == 63) (n == 70) (n == 72) line
+named n line = named_by (n == 60) (n == 61) (n == 62) (n == 63) (n == 70) (n == 72) (n == 75) line
 
 -- ---- with what stands behind it, the one `text` is its line
 

@@ -47,7 +47,7 @@ register_members line = if is_word 3 [] line then [] else (codes "register", hex
 abbrev pub slot_members : List ℕ → List (List ℕ × Json)
 slot_members line = (codes "slot", string (word 2 line)) ∷ register_members line
 
--- what the line of the fault with this number names: 70 names nothing
+-- what the line of the fault with this number names: 70 names nothing, and 75 Told S +n a line
 abbrev pub named_members : ℕ → List ℕ → List (List ℕ × Json)
 named_members number line =
     if number == 60 then unreached_members line
@@ -56,7 +56,8 @@ named_members number line =
     else (if number == 63 then outside_members line
     else (if number == 70 then []
     else (if number == 72 then no_room_members line
-    else slot_members line)))))
+    else (if number == 75 then slot_and_register 2 line
+    else slot_members line))))))
 
 abbrev pub fault_number : List ℕ → ℕ
 fault_number line = value_of 10 (word 0 line)

@@ -55,6 +55,7 @@ numbers_name faults.NoWindow = refl
 numbers_name faults.NoRoom = refl
 numbers_name faults.NotAccepted = refl
 numbers_name faults.Fixed = refl
+numbers_name faults.Told = refl
 numbers_name faults.Assumed = refl
 numbers_name faults.Changed = refl
 numbers_name faults.Port = refl

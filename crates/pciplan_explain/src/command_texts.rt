@@ -85,11 +85,13 @@ pciplan faults DUMP PROBE [--root LIST] [--model WORDS] [--host-io LIST]
     digits. Of a space without a list all is sent to each.
   --also FILE
     faults judges, and map and picture show, what functions answer that no BAR
-    shows: of virtual functions, of Enhanced Allocation, or of a chipset. A line
-    of the file is S SPACE A-B MARK, and a name where one is wanted. SPACE is
-    io, mem or pref. MARK is command (while Command of the function enables the
-    space), always, or held (somebody there answers it). A range is named by its
-    slot and line, as in 01:00.0 +1.
+    shows: of virtual functions, of Enhanced Allocation, or of a chipset. settle
+    places nothing there, and keeps the windows over it, or lets them grow. It
+    doesn't take this option together with --anew. A line of the file is S SPACE
+    A-B MARK, and a name where one is wanted. SPACE is io, mem or pref. MARK is
+    command (while Command of the function enables the space), always, or held
+    (somebody there answers it). A range is named by its slot and line, as in
+    01:00.0 +1.
   --why
     faults tells with what ranges each fault 60 to 63 is there, and which BARs
     are off. Behind a fault 72 plan prints a second line: how many addresses the
@@ -139,11 +141,13 @@ pciplan map DUMP PROBE [--root LIST] [--model WORDS] [--host-io LIST]
     digits. Of a space without a list all is sent to each.
   --also FILE
     faults judges, and map and picture show, what functions answer that no BAR
-    shows: of virtual functions, of Enhanced Allocation, or of a chipset. A line
-    of the file is S SPACE A-B MARK, and a name where one is wanted. SPACE is
-    io, mem or pref. MARK is command (while Command of the function enables the
-    space), always, or held (somebody there answers it). A range is named by its
-    slot and line, as in 01:00.0 +1.
+    shows: of virtual functions, of Enhanced Allocation, or of a chipset. settle
+    places nothing there, and keeps the windows over it, or lets them grow. It
+    doesn't take this option together with --anew. A line of the file is S SPACE
+    A-B MARK, and a name where one is wanted. SPACE is io, mem or pref. MARK is
+    command (while Command of the function enables the space), always, or held
+    (somebody there answers it). A range is named by its slot and line, as in
+    01:00.0 +1.
 ";
 
 pub const SIZE: &str = "\
@@ -184,7 +188,8 @@ pciplan plan DUMP PROBE --io A-B --mem A-B --pref A-B [--root LIST] [--writes]
 
 pub const SETTLE: &str = "\
 pciplan settle DUMP PROBE --io LIST --mem LIST --pref LIST [--root LIST]
-    [--fixed SLOTS] [--anew] [--spare WORDS [--slots SLOTS]] [--writes[=FORM]]
+    [--fixed SLOTS] [--anew | --also FILE] [--spare WORDS [--slots SLOTS]]
+    [--writes[=FORM]]
   Leaves what works where it is, and places the rest in three lists of ranges,
   each of all root buses or of one, with windows that are as large as what is in
   them; prints the settled dump, the register writes that lead there, or a
@@ -196,12 +201,21 @@ pciplan settle DUMP PROBE --io LIST --mem LIST --pref LIST [--root LIST]
   moves; a bridge stays on, a window that moves is closed, and one that grows is
   open. A BAR, or a ROM whose bit 0 is set, that the titles of the probe name as
   assumed is refused: it may decode more addresses than the probe tells. Faults:
-  20 to 31, 50 to 58, 70, 72, 74 and 76.
+  20 to 31, 50 to 58, 70, 72, 74 and 76, and with --also 34 and 75.
   --root LIST
     The buses on which the host's accesses start: two lower-case hex digits
     each, rising, with commas between them. 00 if it isn't said. On Linux they
     are in the names of /sys/devices/pci0000:*: 00,40 for pci0000:00 and
     pci0000:40.
+  --also FILE
+    faults judges, and map and picture show, what functions answer that no BAR
+    shows: of virtual functions, of Enhanced Allocation, or of a chipset. settle
+    places nothing there, and keeps the windows over it, or lets them grow. It
+    doesn't take this option together with --anew. A line of the file is S SPACE
+    A-B MARK, and a name where one is wanted. SPACE is io, mem or pref. MARK is
+    command (while Command of the function enables the space), always, or held
+    (somebody there answers it). A range is named by its slot and line, as in
+    01:00.0 +1.
   --io A-B
   --mem A-B
   --pref A-B
@@ -216,7 +230,8 @@ pciplan settle DUMP PROBE --io LIST --mem LIST --pref LIST [--root LIST]
     bridge that is named don't grow. A slot that the dump doesn't have says
     nothing.
   --anew
-    settle leaves nothing where it stands.
+    settle leaves nothing where it stands. It doesn't take this option together
+    with --also.
   --spare WORDS
     settle keeps so many addresses free behind each bridge with a hot-plug slot,
     for a card that comes later: io:1000,mem:200000,pref:200000. Of the three
@@ -312,11 +327,13 @@ pciplan picture DUMP PROBE [--root LIST] [--model WORDS] [--host-io LIST]
     digits. Of a space without a list all is sent to each.
   --also FILE
     faults judges, and map and picture show, what functions answer that no BAR
-    shows: of virtual functions, of Enhanced Allocation, or of a chipset. A line
-    of the file is S SPACE A-B MARK, and a name where one is wanted. SPACE is
-    io, mem or pref. MARK is command (while Command of the function enables the
-    space), always, or held (somebody there answers it). A range is named by its
-    slot and line, as in 01:00.0 +1.
+    shows: of virtual functions, of Enhanced Allocation, or of a chipset. settle
+    places nothing there, and keeps the windows over it, or lets them grow. It
+    doesn't take this option together with --anew. A line of the file is S SPACE
+    A-B MARK, and a name where one is wanted. SPACE is io, mem or pref. MARK is
+    command (while Command of the function enables the space), always, or held
+    (somebody there answers it). A range is named by its slot and line, as in
+    01:00.0 +1.
 ";
 
 pub const EXPLAIN: &str = "\

@@ -53,6 +53,7 @@ pub enum Fault {
     NoRoom,
     NotAccepted,
     Fixed,
+    Told,
     Assumed,
     Changed,
     Port,
@@ -60,7 +61,7 @@ pub enum Fault {
 }
 
 /// All faults by rising number.
-pub const FAULTS: [Fault; 47] = [
+pub const FAULTS: [Fault; 48] = [
     Fault::ReadIo,
     Fault::Memory,
     Fault::BadSlot,
@@ -104,6 +105,7 @@ pub const FAULTS: [Fault; 47] = [
     Fault::NoRoom,
     Fault::NotAccepted,
     Fault::Fixed,
+    Fault::Told,
     Fault::Assumed,
     Fault::Changed,
     Fault::Port,
@@ -159,6 +161,7 @@ impl Fault {
             Fault::NoRoom => "72",
             Fault::NotAccepted => "73",
             Fault::Fixed => "74",
+            Fault::Told => "75",
             Fault::Assumed => "76",
             Fault::Changed => "80",
             Fault::Port => "81",
@@ -214,6 +217,7 @@ impl Fault {
             Fault::NoRoom => "NoRoom",
             Fault::NotAccepted => "NotAccepted",
             Fault::Fixed => "Fixed",
+            Fault::Told => "Told",
             Fault::Assumed => "Assumed",
             Fault::Changed => "Changed",
             Fault::Port => "Port",
@@ -270,6 +274,7 @@ impl Fault {
             Fault::NoRoom => texts::NO_ROOM,
             Fault::NotAccepted => texts::NOT_ACCEPTED,
             Fault::Fixed => texts::FIXED,
+            Fault::Told => texts::TOLD,
             Fault::Assumed => texts::ASSUMED,
             Fault::Changed => texts::CHANGED,
             Fault::Port => texts::PORT,

@@ -361,7 +361,8 @@ pub const NO_ROOM: &str = "\
   Mostly, of settle: What was placed before leaves no room for the part: each
     item has its first place, the most aligned first. Another order, by hand,
     may fit.
-  Do, of settle: A larger list; --anew, which also moves what stands.
+  Do, of settle: A larger list; --anew (without --also), which also moves what
+    stands.
 ";
 
 pub const NOT_ACCEPTED: &str = "\
@@ -380,6 +381,24 @@ pub const FIXED: &str = "\
     or the function, has to be switched.
   Do: Give the lists the range that it stands in, or leave the slot out of
     --fixed.
+";
+
+pub const TOLD: &str = "\
+75 Told S +n
+  settle, with a text of what no BAR shows: Line n, a command or always range of
+  the function, isn't reached as the board stands, or clashes with another line;
+  or settling would cut it off, or switch it on though that is so.
+  Mostly, of a range that faults --also names: The text is of another time, as
+    virtual functions were switched off since; or firmware left the range
+    unreached; or two lines tell of one address.
+  Do, of a range that faults --also names: Capture the text again; faults --also
+    --why names the bridge or both lines.
+  Mostly, of another range: The window over the range stands outside the lists,
+    or has no room for what is behind it; or a bridge above an always range
+    would be shut; or a function would be switched on whose range clashes.
+  Do, of another range: Lists with the ranges in which these windows stand, and
+    with room beside them; or switch the virtual functions off (sriov_numvfs 0),
+    settle, and switch them on again.
 ";
 
 pub const ASSUMED: &str = "\

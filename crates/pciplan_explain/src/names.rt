@@ -45,6 +45,7 @@ pub const NAMES: &str = "\
 72 NoRoom: What is of the class (or mem, or pref) doesn't fit its pool.
 73 NotAccepted: A plan isn't sound, by the fault that follows.
 74 Fixed: This part of the function can't be left where it is, or the function would be written.
+75 Told: Line n, a command or always range of the function, isn't reached as the board stands.
 76 Assumed: A title of the probe names this BAR, or this ROM whose bit 0 is set, as assumed.
 80 Changed: The register at offset oo isn't as the plan starts from.
 81 Port: An access failed, or a function of the plan isn't there.
