@@ -57,7 +57,8 @@ class _FaultsWords(ctypes.Structure):
 
 
 class _SettleWords(ctypes.Structure):
-    _fields_ = [(name, _Text) for name in ('io', 'mem', 'pref', 'fixed', 'spare', 'slots')] + [('anew', ctypes.c_uint8)]
+    _fields_ = [(name, _Text) for name in ('io', 'mem', 'pref', 'fixed', 'spare', 'slots', 'also')]
+    _fields_.append(('anew', ctypes.c_uint8))
 
 
 def _load():
@@ -158,7 +159,7 @@ def plan(dump, probe, io, mem, pref, roots=(0,)):
     return _written(_library.pciplan_plan, dump, probe, roots, _Pools(*io, *mem, *pref))
 
 
-def settle(dump, probe, io='none', mem='none', pref='none', fixed='', anew=False, roots=(0,), spare='', slots=''):
+def settle(dump, probe, io='none', mem='none', pref='none', fixed='', anew=False, roots=(0,), spare='', slots='', also=b''):
     """The plan that leaves what works and places the rest in lists, in words as on the command line.
 
     io, mem and pref are lists as '1000-ffff' or '00:e0000000-e7ffffff,e8000000-e8ffffff'. fixed lists the slots of which no
@@ -166,8 +167,11 @@ def settle(dump, probe, io='none', mem='none', pref='none', fixed='', anew=False
 
     spare says what is wanted behind each hot-plug slot, as 'io:1000,mem:200000'. slots lists the bridges that have one, as
     '00:1c.0'; where it is empty, they are those of the dump whose registers say so.
+
+    also is a text of ranges that functions answer beside their BARs and ROMs: the bytes of the file of `--also`. Nothing is
+    placed on these. It is empty where anew is true.
     """
-    words = _SettleWords(*_words(io, mem, pref, fixed, spare, slots), anew)
+    words = _SettleWords(*_words(io, mem, pref, fixed, spare, slots), _Text(also, len(also)), anew)
     room = _WINDOWS * (len(dump) // _FUNCTION + 1)
     denied, count = (_Denied * room)(), _size()
     plan = _written(_library.pciplan_settle, dump, probe, roots, words, denied, room, ctypes.byref(count))

@@ -8,6 +8,7 @@ import pathlib
 import subprocess
 import sys
 import unittest
+from functools import partial
 
 import pciplan
 
@@ -52,6 +53,12 @@ class Machines(unittest.TestCase):
         got = pciplan.settle(*PLUGGED, mem='e0000000-e02fffff', spare='mem:100000', slots='00:02.0')
         self.assertEqual([w[:4] for w in got.writes], [(2, 0, 0, 0x10), (2, 0, 0, 4)])
         self.assertEqual(got.denied, (pciplan.Denied(0, 2, 0, 0x20),))
+
+    def test_settle_off_told_ranges(self):
+        """Somebody whom the dump doesn't list answers the beginning of the card's window."""
+        also = b'02:01.0 mem 00000000e0100000-00000000e0103fff held\n'
+        got = pciplan.settle(*PLUGGED, mem='e0000000-e02fffff', also=also)
+        self.assertEqual(got.writes[0], pciplan.Write(2, 0, 0, 0x10, 4, 0xe0104000))
 
     def test_nothing_to_settle(self):
         dump, probe = (MACHINES / 'old.dump').read_bytes(), (MACHINES / 'old.probe').read_bytes()
@@ -112,6 +119,14 @@ class NoAnswer(unittest.TestCase):
             pciplan.plan(b'', b'', IO, IO, (1, 0))
         with self.assertRaisesRegex(pciplan.Fault, '^no 74 Fixed 02:00.0 10$'):
             pciplan.settle(*PLUGGED, mem='e0000000-e02fffff', fixed='02:00.0')
+        for line, slot, mark in (
+                ('no 75 Told 01:00.0 +1', '01:00.0', 'always'),
+                ('no 34 NotListed 03:00.0', '03:00.0', 'always'),
+                ('no 58 Orphan 03:00.0', '03:00.0', 'held')):
+            also = ('%s mem 00000000e0200000-00000000e0203fff %s\n' % (slot, mark)).encode()
+            with self.subTest(line), self.assertRaises(pciplan.Fault) as no:
+                pciplan.settle(*PLUGGED, mem='e0000000-e02fffff', also=also)
+            self.assertEqual(no.exception.line, line)
 
     def test_texts_and_words_that_are_none(self):
         for message, call, words in (
@@ -131,7 +146,11 @@ class NoAnswer(unittest.TestCase):
                 ('fixed', pciplan.settle, [b'', b'', 'none', 'none', 'none', '00:00.8']),
                 ('spare', pciplan.settle, [b'', b'', 'none', 'none', 'none', '', False, (0,), 'mem:0', '00:00.8']),
                 ('slots', pciplan.settle, [b'', b'', 'none', 'none', 'none', '', False, (0,), 'mem:1', '00:00.8']),
-                ('slots', pciplan.settle, [b'', b'', 'none', 'none', 'none', '', False, (0,), '', '00:00.0'])):
+                ('slots', pciplan.settle, [b'', b'', 'none', 'none', 'none', '', False, (0,), '', '00:00.0']),
+                ('also', partial(pciplan.settle, also=b'00:'), [b'', b'00:', 'none', 'none', 'none', '', True]),
+                ('dump: 9 Ended 1', partial(pciplan.settle, also=b'00:'), [b'00:', b'00:']),
+                ('probe: 9 Ended 1', partial(pciplan.settle, also=b'00:'), [b'', b'00:']),
+                ('also: 9 Ended 1', partial(pciplan.settle, also=b'00:'), [b'', b''])):
             with self.subTest(message), self.assertRaisesRegex(pciplan.Refused, '^%s$' % message):
                 call(*words)
 

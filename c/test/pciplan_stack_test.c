@@ -8,7 +8,7 @@
 
 #include "pciplan.h"
 
-enum { STACK = 256 * 1024, TEXT = 1 << 22, WRITES = 4096, PAINT = 0xa5 };
+enum { STACK = 512 * 1024, TEXT = 1 << 22, WRITES = 4096, PAINT = 0xa5 };
 
 /* What pciplan.h says that they need at most. */
 #define CHECK_NEEDS (32 * 1024)
@@ -19,7 +19,7 @@ enum { STACK = 256 * 1024, TEXT = 1 << 22, WRITES = 4096, PAINT = 0xa5 };
 #define FAULTS_NEEDS (64 * 1024)
 #endif
 #ifndef SETTLE_NEEDS
-#define SETTLE_NEEDS (224 * 1024)
+#define SETTLE_NEEDS (352 * 1024)
 #endif
 
 static _Alignas(16) uint8_t stack[STACK];
@@ -72,24 +72,33 @@ static void plan(void)
                           line, sizeof line, &used);
 }
 
-static void settle_as(uint8_t anew)
+static void settle_as(struct pciplan_text also, uint8_t anew)
 {
     const struct pciplan_settle_words asked = {TEXT_OF("1000-ffff"), TEXT_OF("80000000-febfffff"),
-                                               TEXT_OF("100000000-ffffffffff"), TEXT_OF("00:00.0"), TEXT_OF(""), TEXT_OF(""), anew};
+                                               TEXT_OF("100000000-ffffffffff"), TEXT_OF("00:00.0"), TEXT_OF(""), TEXT_OF(""),
+                                               also, anew};
     struct pciplan_denied denied[1];
     size_t count, safe_from, none, used;
     status = pciplan_settle(dump, dump_len, probe, probe_len, root, sizeof root, &asked, writes, WRITES, &count, &safe_from,
                             denied, 1, &none, line, sizeof line, &used);
 }
 
+static const struct pciplan_text untold = TEXT_OF("");
+
 static void settle(void)
 {
-    settle_as(0);
+    settle_as(untold, 0);
 }
 
 static void settle_anew(void)
 {
-    settle_as(1);
+    settle_as(untold, 1);
+}
+
+static void settle_told(void)
+{
+    const struct pciplan_text told = TEXT_OF("00:07.0 mem 00000000fea30000-00000000fea33fff always\n");
+    settle_as(told, 0);
 }
 
 static void start(void)
@@ -121,7 +130,7 @@ static size_t stack_of(void (*call)(void), uint8_t answer)
 
 int main(int count, char **words)
 {
-    size_t of_check, of_faults, of_plan, of_settle, of_anew, of_start;
+    size_t of_check, of_faults, of_plan, of_settle, of_anew, of_told, of_start;
 
     if (count != 3)
         stop("usage: pciplan_stack_test DUMP PROBE");
@@ -132,10 +141,11 @@ int main(int count, char **words)
     of_plan = stack_of(plan, PCIPLAN_YES);
     of_settle = stack_of(settle, PCIPLAN_YES);
     of_anew = stack_of(settle_anew, PCIPLAN_YES);
+    of_told = stack_of(settle_told, PCIPLAN_YES);
     of_start = stack_of(start, PCIPLAN_YES);
     printf("a check used %zu bytes of stack, a list of faults %zu, a plan %zu, a settling %zu, one of all anew %zu, ",
            of_check, of_faults, of_plan, of_settle, of_anew);
-    printf("a start %zu\n", of_start);
+    printf("one beside a told range %zu, a start %zu\n", of_told, of_start);
     return of_check > CHECK_NEEDS || of_faults > FAULTS_NEEDS || of_plan > PLAN_NEEDS || of_settle > SETTLE_NEEDS ||
-           of_anew > SETTLE_NEEDS || of_start > CHECK_NEEDS;
+           of_anew > SETTLE_NEEDS || of_told > SETTLE_NEEDS || of_start > CHECK_NEEDS;
 }

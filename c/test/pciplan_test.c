@@ -350,6 +350,39 @@ static const struct spare_call spare_calls[] = {
     {{"slots without spares", NO_WORD, "slots"}, "", "00:02.0", 0, NULL, 0},
 };
 
+/* A call with a text of told ranges. */
+struct told_call {
+    struct settle_call call;
+    const char *also;
+    uint8_t anew;
+};
+
+/* The card keeps off the beginning of its window. */
+static const struct pciplan_write off[] = {
+    {0x02, 0x00, 0, 0x10, 4, 0xe0104000}, {0x02, 0x00, 0, 0x04, 2, 0x0002},
+};
+
+#define SETTLED MEM, "", NULL, 1, ROOM, PCIPLAN_LINE
+#define BEHIND " mem 00000000e0100000-00000000e0103fff "
+#define OUTSIDE " mem 00000000e0200000-00000000e0203fff "
+
+static const struct told_call told_calls[] = {
+    {{"card off a told range", SETTLED, PCIPLAN_YES, off, COUNT(off), 0, ""}, "02:01.0" BEHIND "held\n", 0},
+    {{"card behind what is told", SETTLED, PCIPLAN_YES, card, COUNT(card), 0, ""},
+     "01:00.0 mem 00000000e0004000-00000000e000bfff always vf0\n", 0},
+    {{"told range that isn't reached", SETTLED, PCIPLAN_NO, NULL, 0, 0, "no 75 Told 01:00.0 +2\n"},
+     "00:1f.0 mem 00000000e0280000-00000000e0283fff always\n01:00.0" OUTSIDE "always\n", 0},
+    {{"told slot that isn't listed", SETTLED, PCIPLAN_NO, NULL, 0, 0, "no 34 NotListed 03:00.0\n"},
+     "03:00.0" OUTSIDE "command\n", 0},
+    {{"told bus to which nothing leads", SETTLED, PCIPLAN_NO, NULL, 0, 0, "no 58 Orphan 03:00.0\n"},
+     "03:00.0" OUTSIDE "held\n", 0},
+    {{"bad line of a told range", SETTLED, PCIPLAN_REFUSED, NULL, 0, 0, "also: 5 BadLine 1"}, "02:01.0 mem e0100000\n", 0},
+    {{"cut told range", SETTLED, PCIPLAN_REFUSED, NULL, 0, 0, "also: 9 Ended 1"}, "02:01.0" BEHIND, 0},
+    {{"line too short for a told range", MEM, "", NULL, 1, ROOM, 21, PCIPLAN_SHORT, NULL, 0, 0, "no 75 Told 01:00.0 +1\n"},
+     "01:00.0" OUTSIDE "always\n", 0},
+    {{"told range where all is placed anew", SETTLED, PCIPLAN_REFUSED, NULL, 0, 0, "also"}, "02:01.0" BEHIND "held\n", 1},
+};
+
 static struct pciplan_text word(const char *text)
 {
     struct pciplan_text t = {(const uint8_t *)text, strlen(text)};
@@ -376,12 +409,13 @@ static void are_denied(const struct spare_call *c, uint8_t status, const struct 
 }
 
 /* Makes a call, and sees to all that it leaves whatever the status. The answer is the status. */
-static uint8_t settled(const struct spare_call *s, struct text dump, struct text probe, size_t refused)
+static uint8_t settled(const struct spare_call *s, const char *also, uint8_t anew, struct text dump, struct text probe,
+                       size_t refused)
 {
     static const uint8_t host = 0;
     const struct settle_call *c = &s->call;
     struct pciplan_settle_words words = {word("none"), word(c->mem), word("none"), word(c->fixed), word(s->spare),
-                                         word(s->slots), 0};
+                                         word(s->slots), word(also), anew};
     struct left left = nothing_left();
     struct pciplan_denied denied[ROOM];
     size_t denied_used = UNTOLD;
@@ -398,17 +432,18 @@ static uint8_t settled(const struct spare_call *s, struct text dump, struct text
 }
 
 /* Makes a call with each growth refused in turn, too. The answer is how many were. */
-static size_t settled_or_refused(const struct spare_call *s, struct text dump, struct text probe)
+static size_t settled_or_refused(const struct spare_call *s, const char *also, uint8_t anew, struct text dump,
+                                 struct text probe)
 {
     const struct settle_call *c = &s->call;
     uint8_t *device = at_text(dump, DEVICE);
     if (c->device != NULL)
         memcpy(device, c->device, strlen(c->device));
-    if (settled(s, dump, probe, 0) != c->status)
+    if (settled(s, also, anew, dump, probe, 0) != c->status)
         fail("another status", c->name);
     size_t all = growths;
     for (size_t n = 1; n <= all; n++)
-        if (settled(s, dump, probe, n) != PCIPLAN_MEMORY)
+        if (settled(s, also, anew, dump, probe, n) != PCIPLAN_MEMORY)
             fail("a refused growth isn't told", c->name);
     memcpy(device, DEVICE, strlen(DEVICE));
     return all;
@@ -422,10 +457,14 @@ static size_t settlings(void)
     size_t refusals = 0;
     for (size_t i = 0; i < COUNT(settle_calls); i++) {
         struct spare_call plain = {settle_calls[i], "", "", 0, NULL, 0};
-        refusals += settled_or_refused(&plain, dump, probe);
+        refusals += settled_or_refused(&plain, "", 0, dump, probe);
     }
     for (size_t i = 0; i < COUNT(spare_calls); i++)
-        refusals += settled_or_refused(&spare_calls[i], dump, probe);
+        refusals += settled_or_refused(&spare_calls[i], "", 0, dump, probe);
+    for (size_t i = 0; i < COUNT(told_calls); i++) {
+        struct spare_call plain = {told_calls[i].call, "", "", 0, NULL, 0};
+        refusals += settled_or_refused(&plain, told_calls[i].also, told_calls[i].anew, dump, probe);
+    }
     free(dump.bytes);
     free(probe.bytes);
     return refusals;
@@ -435,6 +474,6 @@ int main(void)
 {
     size_t refusals = verdicts() + plans() + settlings();
     printf("%zu calls answered as they should be, %zu growths refused in turn\n",
-           COUNT(calls) + COUNT(plan_calls) + COUNT(settle_calls) + COUNT(spare_calls), refusals);
+           COUNT(calls) + COUNT(plan_calls) + COUNT(settle_calls) + COUNT(spare_calls) + COUNT(told_calls), refusals);
     return 0;
 }

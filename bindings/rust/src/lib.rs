@@ -95,13 +95,16 @@ pub struct Settle<'a> {
     pub spare: &'a str,
     /// The bridges that have such a slot, as `00:1c.0`; where it is empty, those of the dump whose registers say so.
     pub slots: &'a str,
+    /// A text of ranges that functions answer beside their BARs and ROMs, as the file of `--also`; nothing is told where it is
+    /// empty. It is empty where `anew` is true.
+    pub also: &'a [u8],
     /// Whether all is placed anew, and nothing stays where it is.
     pub anew: bool,
 }
 
 impl Default for Settle<'_> {
     fn default() -> Self {
-        Settle { io: "none", mem: "none", pref: "none", fixed: "", spare: "", slots: "", anew: false }
+        Settle { io: "none", mem: "none", pref: "none", fixed: "", spare: "", slots: "", also: b"", anew: false }
     }
 }
 
@@ -214,6 +217,7 @@ pub fn settle(dump: &[u8], probe: &[u8], roots: &[u8], asked: &Settle<'_>) -> Re
         fixed: word(asked.fixed),
         spare: word(asked.spare),
         slots: word(asked.slots),
+        also: bytes(asked.also),
         anew: asked.anew.into(),
     };
     written(dump.len(), |room| {
@@ -275,7 +279,12 @@ fn be_usable() -> Result<(), Refusal> {
 
 /// A word as C has it.
 fn word(word: &str) -> raw::Text {
-    raw::Text { at: word.as_ptr(), len: word.len() }
+    bytes(word.as_bytes())
+}
+
+/// Bytes as C has them.
+fn bytes(bytes: &[u8]) -> raw::Text {
+    raw::Text { at: bytes.as_ptr(), len: bytes.len() }
 }
 
 /// What a status other than 0 says. 4 doesn't come, as line, list and writes are long enough.

@@ -23,6 +23,7 @@ pub struct SettleWords {
     pub fixed: Text,
     pub spare: Text,
     pub slots: Text,
+    pub also: Text,
     pub anew: u8,
 }
 

@@ -104,6 +104,26 @@ fn settlings() {
 }
 
 #[test]
+fn settlings_off_told_ranges() {
+    let (dump, probe) = data("plugged");
+    let told = |also: &[u8]| {
+        settle(&dump, &probe, &[0], &Settle { mem: "e0000000-e02fffff", also, ..Settle::default() })
+    };
+    let off = told(b"02:01.0 mem 00000000e0100000-00000000e0103fff held\n").unwrap();
+    assert_eq!(off.writes[0], Write { bus: 2, device: 0, function: 0, offset: 0x10, width: 4, value: 0xe010_4000 });
+    for (also, why) in [
+        (&b"01:00.0 mem 00000000e0200000-00000000e0203fff always\n"[..], Refusal::No("no 75 Told 01:00.0 +1".into())),
+        (b"03:00.0 mem 00000000e0200000-00000000e0203fff always\n", Refusal::No("no 34 NotListed 03:00.0".into())),
+        (b"03:00.0 mem 00000000e0200000-00000000e0203fff held\n", Refusal::No("no 58 Orphan 03:00.0".into())),
+        (b"01:00.0 mem 0\n", Refusal::Refused("also: 5 BadLine 1".into())),
+    ] {
+        assert_eq!(told(also), Err(why));
+    }
+    let anew = Settle { also: b"\n", anew: true, ..Settle::default() };
+    assert_eq!(settle(b"", b"", &[0], &anew), Err(Refusal::Refused("also".into())));
+}
+
+#[test]
 fn texts_and_words_that_are_none() {
     let refused = |message: &str| Refusal::Refused(message.into());
     assert_eq!(check(b"00:00.0\nxx", b"", &[0]), Err(refused("dump: 5 BadLine 2")));

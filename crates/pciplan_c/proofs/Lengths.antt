@@ -1,7 +1,10 @@
 -- No line that says a verdict, or why there is none, no writes or no list, is longer than 96 bytes.
 use Rattle.std.proofs.Common.{◌≡◌, ℕ, ◌+◌, ◌-◌, ◌^◌, ◌≤◌, ◌<◌, ◌++◌, length, replicate, refl, ap, arith, Some, codes}
+use Rattle.std.specs.Fmt.{decimal}
+use Rattle.std.proofs.lemmas.Fmt.{length-decimal-le}
 use Rattle.std.proofs.lemmas.List.{length-append, length-replicate}
 use Rattle.pci_spec.specs.Slot.{Slot}
+use Rattle.pci_spec.specs.Text.{slot_text}
 use Rattle.pci_spec.specs.Line.{verdict_line, fault_text, field, hex_number}
 use Rattle.pci_spec.specs.Window as windows
 use Rattle.pci_spec.proofs.HexTexts.{padded_hex}
@@ -26,9 +29,13 @@ use Rattle.pciplan_c.specs.declared.faults_words.FaultsWord.TheVariants.{Model, 
 use Rattle.pciplan_c.specs.declared.no_list.NoList.{NoList}
 use Rattle.pciplan_c.specs.declared.no_list.NoList.TheVariants as no_list
 use Rattle.pciplan_c.specs.declared.no_writes.NoWrites.{NoWrites}
-use Rattle.pciplan_c.specs.declared.no_writes.NoWrites.TheVariants.{BadWord, Unread, NotPlanned, NotSettled}
+use Rattle.pciplan_c.specs.declared.no_writes.NoWrites.TheVariants.{BadWord, Unread, Also, NotReady, NotPlanned, NotSettled}
 use Rattle.pciplan_c.specs.declared.settle_words.SettleWord.{SettleWord}
 use Rattle.pciplan_c.specs.declared.settle_words.SettleWord.TheVariants as word
+use Rattle.pciplan_held.specs.declared.refusal.Refusal.TheVariants.{Dump}
+use Rattle.pciplan_c.specs.ToldTexts.{unready_text}
+use Rattle.pciplan_c.specs.declared.unready.Unready.{Unready}
+use Rattle.pciplan_c.specs.declared.unready.Unready.TheVariants as unready
 
 pub line_short : (outcome : Outcome) → length (outcome_line outcome) ≤ 96
 line_short Yes = let yes : length (outcome_line Yes) ≡ 4 = refl in omega (arith, yes)
@@ -87,6 +94,10 @@ settle_fault_short (settle.TooLarge class slot) few less =
     ended (codes "72 NoRoom") (field (class_part_text (kind_value class) slot (windows.window_register (kind_value class)))) 50 92
     (omega (arith, part)) (let head : length (codes "72 NoRoom") ≡ 9 = refl in omega (arith, head))
 settle_fault_short (settle.Fixed slot reg) few less = let bytes : length (settle_fault_text (settle.Fixed slot reg)) ≡ 19 = refl in omega (arith, bytes)
+settle_fault_short (settle.Told slot line) few less =
+    let number = length-decimal-le 20 line (omega arith) (omega (arith, few)) few in
+    ended (codes "75 Told" ++ field (slot_text slot) ++ codes " +") (decimal line) 20 92 number
+    (let head : length (codes "75 Told" ++ field (slot_text slot) ++ codes " +") ≡ 17 = refl in omega (arith, head))
 
 word_short : (bad : SettleWord) → length (settle_word_text bad) ≤ 96
 word_short word.Io = let bytes : length (settle_word_text word.Io) ≡ 7 = refl in omega (arith, bytes)
@@ -95,12 +106,23 @@ word_short word.Pref = let bytes : length (settle_word_text word.Pref) ≡ 9 = r
 word_short word.Fixed = let bytes : length (settle_word_text word.Fixed) ≡ 5 = refl in omega (arith, bytes)
 word_short word.Spare = let bytes : length (settle_word_text word.Spare) ≡ 5 = refl in omega (arith, bytes)
 word_short word.Slots = let bytes : length (settle_word_text word.Slots) ≡ 5 = refl in omega (arith, bytes)
+word_short word.Also = let bytes : length (settle_word_text word.Also) ≡ 4 = refl in omega (arith, bytes)
+
+unready_short : (why : Unready) → length (unready_text why) ≤ 60
+unready_short (unready.NotListed slot) = let bytes : length (unready_text (unready.NotListed slot)) ≡ 20 = refl in omega (arith, bytes)
+unready_short (unready.Early fault) = fault_short (fault_of fault)
 
 -- ---- why there are no writes
 
 pub no_writes_short : (why : NoWrites) → (no_writes_numbers why).0 < 2 ^ 64 → (no_writes_numbers why).1 < 2 ^ 64 → length (no_writes_text why) ≤ 96
 no_writes_short (BadWord bad) few less = word_short bad
 no_writes_short (Unread unread) few less = unread_short unread few
+-- in as many bytes as that of a dump
+no_writes_short (Also fault) few less = refusal_short (Dump fault) few
+no_writes_short (NotReady why) few less =
+    let short = unready_short why in
+    let bytes = line_length (unready_text why) in
+    omega (arith, short, bytes)
 no_writes_short (NotPlanned fault) few less =
     let short = plan_fault_short (plan_fault_of fault) in
     let bytes = line_length (plan_fault_text (plan_fault_of fault)) in

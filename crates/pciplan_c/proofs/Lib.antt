@@ -1,4 +1,5 @@
 pub mod Lengths
+pub mod ToldParts
 pub mod WordBytes
 pub mod Settlings
 pub mod Wants

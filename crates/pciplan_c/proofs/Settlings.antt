@@ -5,6 +5,7 @@ use Rattle.pci_spec.specs.Machine as spec
 use Rattle.pci_spec.specs.Sound.{IsSound}
 use Rattle.settle_spec.specs.Sparing.{without_slots}
 use Rattle.pci_base.specs.declared.memory.Refused.TheVariants as refused
+use Rattle.pci_given.specs.Every.{AreReady}
 use Rattle.pci_tree.specs.Admission.{Admission, IsAdmitted}
 use Rattle.pci_place.specs.Above.{system_in}
 use Rattle.pci_plan.specs.Writes.{write_value}
@@ -15,14 +16,15 @@ use Rattle.pci_settle_writes.specs.declared.lack.SettleFault.{SettleFault}
 use Rattle.pci_settle_writes.specs.declared.settle.Denied.{Denied}
 use Rattle.pci_settle_writes.specs.declared.settle.Settled.{Settled as SettledOfCode}
 use Rattle.pciplan_held.specs.RegisterWrites.{write_value_of}
+use Rattle.pciplan_tasks.specs.SettleAnswers.{IsReadyAsTold}
 use Rattle.pciplan_held.specs.Texts.{AreTexts, IsUnreadOf}
 use Rattle.pciplan_held.specs.declared.refusal.Refusal.TheVariants.{Root, Dump, Probe}
 use Rattle.pciplan_held.specs.declared.register_write.RegisterWrite.{RegisterWrite}
 use Rattle.pciplan_held.specs.declared.unread.Unread.{Unread}
 use Rattle.pciplan_held.specs.declared.unread.Unread.TheVariants as unread
 use Rattle.pciplan_c.specs.DeniedSpares.{denied_value_of}
-use Rattle.pciplan_c.specs.SettleWords.{HaveMeaning, IsAskedBy, IsRequestOf, said_demand, said_of}
-use Rattle.pciplan_c.specs.SettleAnswers.{asked_request, AreSettled, IsNotSettled, IsSettledBy, IsSettleSafeFrom, IsUnreadBehind}
+use Rattle.pciplan_c.specs.SettleWords.{HaveMeaning, IsAskedBy, IsRequestOf, said_demand, said_of, told_around}
+use Rattle.pciplan_c.specs.SettleAnswers.{asked_request, AreSettled, IsAskedWith, IsNotSettled, IsSettledBy, IsSettleSafeFrom, IsUnreadBehind}
 use Rattle.pciplan_c.specs.declared.denied_spare.DeniedSpare.{DeniedSpare}
 use Rattle.pciplan_c.specs.declared.ending.HeldBack.{HeldBack}
 use Rattle.pciplan_c.specs.declared.ending.HeldBack.TheVariants as held_back
@@ -30,6 +32,8 @@ use Rattle.pciplan_c.specs.declared.settling.SettleHeldBack.{SettleHeldBack}
 use Rattle.pciplan_c.specs.declared.settling.SettleHeldBack.TheVariants as withheld
 use Rattle.pciplan_c.specs.declared.settle_words.Asked.{Asked}
 use Rattle.pciplan_c.specs.declared.settle_words.SettleWords.{SettleWords}
+use Rattle.pciplan_c.specs.ToldTexts.{told_ranges}
+use Rattle.pciplan_c.proofs.ToldParts.{none_also, ready_with}
 use Rattle.pciplan_c.proofs.Wants.{said_meaning}
 
 -- ---- why the texts aren't admitted, where the words have a meaning
@@ -37,23 +41,35 @@ use Rattle.pciplan_c.proofs.Wants.{said_meaning}
 pub have_meaning : {A : Type 0} (words : SettleWords) (asked : Asked A) → IsAskedBy words asked → HaveMeaning words
 have_meaning words asked by = said_meaning words (said_of asked) by.said
 
-pub unread_behind : (roots dump probe : List ℕ) (words : SettleWords) (why : Unread)
-    → HaveMeaning words → IsUnreadOf roots dump probe why → IsUnreadBehind roots dump probe words why
-unread_behind roots dump probe words (unread.Refused Root) said is = is
-unread_behind roots dump probe words (unread.Refused (Dump fault)) said is = (said, is)
-unread_behind roots dump probe words (unread.Refused (Probe fault)) said is = (said, is)
-unread_behind roots dump probe words (unread.NotAdmitted fault) said is = (said, is)
+pub unread_behind : {A : Type 0} (roots dump probe : List ℕ) (words : SettleWords) (asked : Asked A) (why : Unread)
+    → IsAskedWith roots dump probe words asked → IsUnreadOf roots dump probe why → IsUnreadBehind roots dump probe words why
+unread_behind roots dump probe words asked (unread.Refused Root) asks is = is
+unread_behind roots dump probe words asked (unread.Refused (Dump fault)) asks is = (have_meaning words asked asks.by, is)
+unread_behind roots dump probe words asked (unread.Refused (Probe fault)) asks is = (have_meaning words asked asks.by, is)
+unread_behind roots dump probe words asked (unread.NotAdmitted fault) asks is =
+    (have_meaning words asked asks.by, is, none_also roots dump probe words.also.now (told_around asked.placing) fault asks.told is)
 
 -- ---- what is admitted
 
 -- words that were read ask for this
-request_of_words : {A : Type 0} (a : Admission) (words : SettleWords) (asked : Asked A) → IsAskedBy words asked
+request_of_words : {A : Type 0} (roots dump probe : List ℕ) (a : Admission) (words : SettleWords) (asked : Asked A) → IsAskedWith roots dump probe words asked
     → IsRequestOf a.roots a.dump words (asked_request a asked)
-request_of_words a words asked by = record {
+request_of_words roots dump probe a words asked asks = record {
   said = said_of asked;
-  are = by.said;
-  is = ap (λ anew. request a.roots (said_demand (said_of asked) a.dump) asked.fixed.items anew) by.anew;
+  are = asks.by.said;
+  told = told_around asked.placing;
+  told_text = asks.told.text;
+  is = ap (λ anew. request a.roots (said_demand (said_of asked) (told_around asked.placing) a.dump) asked.fixed.items anew) asks.by.anew;
 }
+
+-- the two are ready to be judged with what is told
+ready_as_told : {A : Type 0} (roots dump probe : List ℕ) (a : Admission) (words : SettleWords) (asked : Asked A) → AreTexts roots dump probe a
+    → IsAskedWith roots dump probe words asked → IsReadyAsTold (asked_request a asked).told a.roots a.dump a.probe
+ready_as_told roots dump probe a words asked texts asks = elim asks.told.ready [
+  | inl none ↦ inl none
+  | inr ready ↦ inr (subst (λ buses. AreReady (told_ranges (told_around asked.placing)) buses a.dump a.probe) (sym texts.buses)
+      (ready_with roots dump probe (told_around asked.placing) a.dump a.probe texts.dump_text texts.probe_text ready))
+]
 
 -- a stop is sound once all that close are made, and from a sound start at any time
 abbrev AreStops : Admission → ℕ → List spec.Write → Type 0
@@ -67,7 +83,7 @@ stops_from a closing safe_from made (inl sound) stops k past = stops k (inr soun
 stops_from a closing safe_from made (inr none) stops k past = let all = none.1 in stops k (inl (omega (arith, all, past)))
 
 module _ {A : Type 0} (roots dump probe : List ℕ) (words : SettleWords) (asked : Asked A) (a : Admission) (texts : AreTexts roots dump probe a)
-    (admitted : IsAdmitted a) (by : IsAskedBy words asked) where
+    (admitted : IsAdmitted a) (asks : IsAskedWith roots dump probe words asked) where
   pub are_settled : {B : Type 0} (settled : SettledOfCode B) → IsSettledBy a asked settled → (denied : List DeniedSpare) (items : List RegisterWrite) (safe_from : ℕ)
       → IsSettleSafeFrom a settled.writes.closings safe_from → map denied_value_of denied ≡ map denied_value settled.denied.items
       → map write_value_of items ≡ map write_value settled.writes.all.items → AreSettled roots dump probe words denied items safe_from
@@ -76,7 +92,8 @@ module _ {A : Type 0} (roots dump probe : List ℕ) (words : SettleWords) (asked
     texts = texts;
     admitted = admitted;
     request = asked_request a asked;
-    asked = request_of_words a words asked by;
+    asked = request_of_words roots dump probe a words asked asks;
+    ready = ready_as_told roots dump probe a words asked texts asks;
     are = record {
       sized = is.sized;
       after = settled.dump;
@@ -96,7 +113,8 @@ module _ {A : Type 0} (roots dump probe : List ℕ) (words : SettleWords) (asked
     texts = texts;
     admitted = admitted;
     request = asked_request a asked;
-    asked = request_of_words a words asked by;
+    asked = request_of_words roots dump probe a words asked asks;
+    ready = ready_as_told roots dump probe a words asked texts asks;
     stands = stands;
   }
 

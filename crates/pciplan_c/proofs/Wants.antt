@@ -13,7 +13,7 @@ use Rattle.pciplan_c.specs.SettleAnswers.{IsNoSettlingOf, MayWant}
 use Rattle.pciplan_c.specs.SettleWords.{AreSaid, HaveMeaning, Said}
 use Rattle.pciplan_c.specs.declared.answer.Answer.TheVariants.{Refused}
 use Rattle.pciplan_c.specs.declared.no_writes.NoWrites.{NoWrites}
-use Rattle.pciplan_c.specs.declared.no_writes.NoWrites.TheVariants.{BadWord, Unread, NotPlanned, NotSettled}
+use Rattle.pciplan_c.specs.declared.no_writes.NoWrites.TheVariants.{BadWord, Unread, Also, NotReady, NotPlanned, NotSettled}
 use Rattle.pciplan_c.specs.declared.settle_words.SettleWords.{SettleWords}
 
 -- ---- the message of a root list that is none
@@ -43,6 +43,8 @@ plan_wants roots dump probe pools (Unread (unread.Refused Root)) is made = absur
 plan_wants roots dump probe pools (Unread (unread.Refused (Dump fault))) is made = is.0
 plan_wants roots dump probe pools (Unread (unread.Refused (Probe fault))) is made = is.0
 plan_wants roots dump probe pools (Unread (unread.NotAdmitted fault)) is made = is.rising
+plan_wants roots dump probe pools (Also fault) is made = absurd is
+plan_wants roots dump probe pools (NotReady why) is made = absurd is
 plan_wants roots dump probe pools (NotPlanned fault) is made = is.texts.rising
 plan_wants roots dump probe pools (NotSettled fault) is made = absurd is
 
@@ -51,6 +53,7 @@ said_meaning words said are = (
   ((said.io, are.io_list), (said.mem, are.mem_list), (said.pref, are.pref_list), (said.fixed, are.fixed_slots)),
   (said.spares, are.spares),
   (said.slots, are.slots),
+  are.may_tell,
 )
 
 pub settle_wants : (roots dump probe : List ℕ) (words : SettleWords) (why : NoWrites)
@@ -60,6 +63,8 @@ settle_wants roots dump probe words (Unread (unread.Refused Root)) is made = abs
 settle_wants roots dump probe words (Unread (unread.Refused (Dump fault))) is made = (is.1.0, inr is.0)
 settle_wants roots dump probe words (Unread (unread.Refused (Probe fault))) is made = (is.1.0, inr is.0)
 settle_wants roots dump probe words (Unread (unread.NotAdmitted fault)) is made = (is.1.rising, inr is.0)
+settle_wants roots dump probe words (Also fault) is made = (is.1.rising, inr is.0)
+settle_wants roots dump probe words (NotReady why) is made = (is.1.rising, inr is.0)
 settle_wants roots dump probe words (NotPlanned fault) is made = absurd is
 settle_wants roots dump probe words (NotSettled fault) is made =
     (is.texts.rising, inr (said_meaning words is.asked.said is.asked.are))

@@ -1,4 +1,5 @@
 pub mod Answers
+pub mod ToldTexts
 pub mod NoWrites
 pub mod Endings
 pub mod PlanAnswers

@@ -10,7 +10,7 @@ use Rattle.pciplan_held.specs.RegisterWrites.{write_value_of}
 use Rattle.pciplan_held.specs.Texts.{AreTexts, IsUnreadOf}
 use Rattle.pciplan_held.specs.declared.register_write.RegisterWrite.{RegisterWrite}
 use Rattle.pciplan_c.specs.declared.no_writes.NoWrites.{NoWrites}
-use Rattle.pciplan_c.specs.declared.no_writes.NoWrites.TheVariants.{BadWord, Unread, NotPlanned, NotSettled}
+use Rattle.pciplan_c.specs.declared.no_writes.NoWrites.TheVariants.{BadWord, Unread, Also, NotReady, NotPlanned, NotSettled}
 use Rattle.pciplan_c.specs.declared.pools.PoolsOfC.{PoolsOfC}
 
 -- pools as C has them
@@ -33,6 +33,8 @@ pub record IsNotPlanned (roots dump probe : List ℕ) (pools : plan.Pools)
 abbrev pub IsNoPlanOf : List ℕ → List ℕ → List ℕ → plan.Pools → NoWrites → Type 0
 IsNoPlanOf roots dump probe pools (BadWord bad) = ⊥
 IsNoPlanOf roots dump probe pools (Unread unread) = IsUnreadOf roots dump probe unread
+IsNoPlanOf roots dump probe pools (Also fault) = ⊥
+IsNoPlanOf roots dump probe pools (NotReady why) = ⊥
 IsNoPlanOf roots dump probe pools (NotPlanned fault) = IsNotPlanned roots dump probe pools fault
 IsNoPlanOf roots dump probe pools (NotSettled fault) = ⊥
 

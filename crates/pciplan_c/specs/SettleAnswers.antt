@@ -1,10 +1,11 @@
 -- What is answered where two texts are to be settled.
-use Rattle.std.specs.Prelude.{◌≡◌, ◌≤◌, ◌<◌, ◌⊎◌, ℕ, List, length, map, take}
+use Rattle.std.specs.Prelude.{◌≡◌, ◌≤◌, ◌<◌, ◌⊎◌, ℕ, List, [], length, map, take}
 use Rattle.pci_spec.specs.Machine.{system_after}
 use Rattle.pci_spec.specs.Text.{Block}
 use Rattle.pci_spec.specs.Sound.{IsSound}
 use Rattle.settle_spec.specs.Lists.{Request}
 use Rattle.settle_spec.specs.Sparing.{without_slots}
+use Rattle.pci_base.specs.declared.memory.Refused.{Refused}
 use Rattle.pci_base.specs.declared.memory.Refused.TheVariants as refused
 use Rattle.pci_tree.specs.Admission.{Admission, IsAdmitted}
 use Rattle.pci_tree.specs.Roots.{IsRootList}
@@ -22,14 +23,16 @@ use Rattle.pciplan_held.specs.declared.register_write.RegisterWrite.{RegisterWri
 use Rattle.pciplan_held.specs.declared.unread.Unread.{Unread as UnreadOfCode}
 use Rattle.pciplan_held.specs.declared.unread.Unread.TheVariants as unread
 use Rattle.pciplan_held.specs.Puts.{IsPutInto}
+use Rattle.pciplan_tasks.specs.SettleAnswers.{IsReadyAsTold}
 use Rattle.pciplan_c.specs.DeniedSpares.{denied_value_of}
 use Rattle.pciplan_c.specs.Endings.{ArePut, IsHeldBack, IsNotPut}
-use Rattle.pciplan_c.specs.SettleWords.{said_demand, said_of, IsRequestOf, IsBadWord, IsWordWant, HaveMeaning}
+use Rattle.pciplan_c.specs.SettleWords.{leaves_nothing, said_demand, said_of, told_around, IsAskedBy, IsRequestOf, IsBadWord, IsWordWant, HaveMeaning}
+use Rattle.pciplan_c.specs.ToldTexts.{AreTold, IsAlsoFault, IsNotReady}
 use Rattle.pciplan_c.specs.declared.denied_spare.DeniedSpare.{DeniedSpare}
 use Rattle.pciplan_c.specs.declared.ending.Ending.{Ending}
 use Rattle.pciplan_c.specs.declared.ending.Ending.TheVariants as ends
 use Rattle.pciplan_c.specs.declared.no_writes.NoWrites.{NoWrites}
-use Rattle.pciplan_c.specs.declared.no_writes.NoWrites.TheVariants.{BadWord, Unread, NotPlanned, NotSettled}
+use Rattle.pciplan_c.specs.declared.no_writes.NoWrites.TheVariants.{BadWord, Unread, Also, NotReady, NotPlanned, NotSettled}
 use Rattle.pciplan_c.specs.declared.settle_words.Asked.{Asked}
 use Rattle.pciplan_c.specs.declared.settle_words.SettleWords.{SettleWords}
 use Rattle.pciplan_c.specs.declared.settling.Unput.{Unput}
@@ -59,7 +62,14 @@ pub record AreWritesFor (q : Request) (a : Admission) (denied : List DeniedSpare
 -- what is asked for, as it was read
 abbrev pub asked_request : {A : Type 0} → Admission → Asked A → Request
 asked_request a asked =
-    request a.roots (said_demand (said_of asked) a.dump) asked.fixed.items asked.anew
+    request a.roots (said_demand (said_of asked) (told_around asked.placing) a.dump) asked.fixed.items
+    (leaves_nothing asked.placing)
+
+-- the words ask for it, and the text of the ranges that are told was read beside the two
+pub record IsAskedWith {A : Type 0} (roots dump probe : List ℕ) (words : SettleWords)
+    (asked : Asked A) : Type 0 where
+  pub by : IsAskedBy words asked
+  pub told : AreTold roots dump probe words.also.now (told_around asked.placing)
 
 -- what settling what is admitted comes to, as this is asked for
 pub record IsSettledBy {A B : Type 0} (a : Admission) (asked : Asked A)
@@ -81,6 +91,7 @@ pub record AreSettled (roots dump probe : List ℕ) (words : SettleWords) (denie
   pub admitted : IsAdmitted start
   pub request : Request
   pub asked : IsRequestOf start.roots start.dump words request
+  pub ready : IsReadyAsTold request.told start.roots start.dump start.probe
   pub are : AreWritesFor request start denied writes safe_from
 
 -- there are such windows
@@ -97,12 +108,17 @@ pub record IsNotSettled (roots dump probe : List ℕ) (words : SettleWords)
   pub admitted : IsAdmitted start
   pub request : Request
   pub asked : IsRequestOf start.roots start.dump words request
+  pub ready : IsReadyAsTold request.told start.roots start.dump start.probe
   pub stands : IsRefusal start (without_slots request) (refused.Fault fault)
 
--- the list of root buses is looked at before the words, and these before the texts
+-- The list of root buses is looked at before the words, and these before the texts. Beside a text of ranges a fault of the two
+-- is looked for with what is told.
 abbrev pub IsUnreadBehind : List ℕ → List ℕ → List ℕ → SettleWords → UnreadOfCode → Type 0
 IsUnreadBehind roots dump probe words (unread.Refused Root) =
     IsUnreadOf roots dump probe (unread.Refused Root)
+IsUnreadBehind roots dump probe words (unread.NotAdmitted fault) =
+    HaveMeaning words × IsUnreadOf roots dump probe (unread.NotAdmitted fault)
+    × (words.also.now ≡ [])
 IsUnreadBehind roots dump probe words other = HaveMeaning words × IsUnreadOf roots dump probe other
 
 -- why nothing is settled
@@ -110,6 +126,10 @@ abbrev pub IsNoSettlingOf : List ℕ → List ℕ → List ℕ → SettleWords �
 IsNoSettlingOf roots dump probe words (BadWord bad) = IsRootList roots × IsBadWord words bad
 IsNoSettlingOf roots dump probe words (Unread unread) =
     IsUnreadBehind roots dump probe words unread
+IsNoSettlingOf roots dump probe words (Also fault) =
+    HaveMeaning words × IsAlsoFault roots dump probe words.also.now fault
+IsNoSettlingOf roots dump probe words (NotReady why) =
+    HaveMeaning words × IsNotReady roots dump probe words.also.now why
 IsNoSettlingOf roots dump probe words (NotPlanned fault) = ⊥
 IsNoSettlingOf roots dump probe words (NotSettled fault) =
     IsNotSettled roots dump probe words fault
@@ -117,6 +137,11 @@ IsNoSettlingOf roots dump probe words (NotSettled fault) =
 -- where memory may be wanted: the root list is one, and what a word spells takes memory or all words have a meaning
 abbrev pub MayWant : List ℕ → SettleWords → Type 0
 MayWant roots words = IsRootList roots × (IsWordWant words ⊎ HaveMeaning words)
+
+-- why it isn't known what is asked for
+abbrev pub IsNotAskedWith : List ℕ → List ℕ → List ℕ → SettleWords → Refused NoWrites → Type 0
+IsNotAskedWith roots dump probe words (refused.Fault why) = IsNoSettlingOf roots dump probe words why
+IsNotAskedWith roots dump probe words refused.Memory = MayWant roots words
 
 -- ---- what is put, and what isn't
 

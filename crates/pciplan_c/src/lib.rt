@@ -4,8 +4,9 @@
 //! `calls` has what C calls; what C has to uphold is said in c/include/pciplan.h. `verdict`, `listing`, `planning` and
 //! `settling` do the work over slices: they read the texts where they lie, and put what is answered into the caller's memory
 //! only once it is whole, by `pciplan_held`. `faults_words` reads what is given beside texts whose faults are listed, and
-//! `no_list` has why there is no list. `settle_words` reads what is asked of settling; `ending` has what planning and
-//! settling end with, and `no_writes` why there are no writes. As no hook of C can be called from here, a plan is put onto a machine by
+//! `no_list` has why there is no list. `settle_words` reads what is asked of settling, and `told` the ranges that are told
+//! beside it; `unready` has what stands in the way of judging with these. `ending` has what planning and settling end with, and
+//! `no_writes` why there are no writes. As no hook of C can be called from here, a plan is put onto a machine by
 //! accesses that C makes one after another: `starting` and `stepping` say which, and what follows from each.
 #![tactic(auto)]
 
@@ -35,4 +36,6 @@ pub mod stepping;
 mod tests;
 #[cfg(test)]
 mod texts;
+pub mod told;
+pub mod unready;
 pub mod verdict;

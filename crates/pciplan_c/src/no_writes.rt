@@ -4,6 +4,8 @@ ghost use Rattle.pciplan_c.specs.NoWrites.{settle_fault_numbers};
 
 use crate::answer::ROOT_MESSAGE;
 use crate::settle_words::SettleWord;
+use crate::unready::Unready;
+use pci_dump::read_fault::ReadFault;
 use pci_plan::plan_fault::PlanFault;
 use pci_settle_writes::lack::SettleFault;
 use pciplan_held::refusal::Refusal;
@@ -17,13 +19,17 @@ pub enum NoWrites {
     BadWord(SettleWord),
     /// The texts aren't admitted.
     Unread(Unread),
+    /// The text of ranges that are told beside them has this fault.
+    Also(ReadFault),
+    /// All three are texts, and with what is told this fault is there before judging.
+    NotReady(Unready),
     /// They are, and have this fault of planning.
     NotPlanned(PlanFault),
     /// They are, and have this fault of settling.
     NotSettled(SettleFault),
 }
 
-/// The size and the alignment of what has no room, 0 where a fault names none.
+/// The size and the alignment of what has no room, or the line of a told range; 0 where a fault names none.
 fn sizes_of(fault: SettleFault) -> (u64, u64)
     ensures { result ≡ settle_fault_numbers fault }
 {
@@ -33,6 +39,7 @@ fn sizes_of(fault: SettleFault) -> (u64, u64)
         SettleFault::NoRoom(lack) => (lack.size, lack.alignment),
         SettleFault::TooLarge { class: _, slot: _ } => (0, 0),
         SettleFault::Fixed { slot: _, reg: _ } => (0, 0),
+        SettleFault::Told { slot: _, line } => (u64::from(line), 0),
     }
 }
 
@@ -47,6 +54,8 @@ impl NoWrites {
         match self {
             NoWrites::BadWord(_) => 2,
             NoWrites::Unread(unread) => unread.status(),
+            NoWrites::Also(_) => 2,
+            NoWrites::NotReady(_) => 1,
             NoWrites::NotPlanned(_) => 1,
             NoWrites::NotSettled(_) => 1,
         }
@@ -59,6 +68,9 @@ impl NoWrites {
         match self {
             NoWrites::BadWord(_) => (0, 0),
             NoWrites::Unread(unread) => (unread.line(), 0),
+            // a text of ranges has the faults of a dump's
+            NoWrites::Also(fault) => (Refusal::Dump(fault).line(), 0),
+            NoWrites::NotReady(_) => (0, 0),
             NoWrites::NotPlanned(_) => (0, 0),
             NoWrites::NotSettled(fault) => sizes_of(fault),
         }
@@ -71,7 +83,11 @@ impl NoWrites {
         match self {
             NoWrites::BadWord(word) => Some(word.message()),
             NoWrites::Unread(Unread::Refused(Refusal::Root)) => Some(ROOT_MESSAGE),
-            NoWrites::Unread(_) | NoWrites::NotPlanned(_) | NoWrites::NotSettled(_) => None,
+            NoWrites::Unread(_)
+            | NoWrites::Also(_)
+            | NoWrites::NotReady(_)
+            | NoWrites::NotPlanned(_)
+            | NoWrites::NotSettled(_) => None,
         }
     }
 }
@@ -86,6 +102,8 @@ impl fmt::Display for NoWrites {
         match *self {
             NoWrites::BadWord(word) => write!(f, "{word}"),
             NoWrites::Unread(unread) => write!(f, "{unread}"),
+            NoWrites::Also(fault) => write!(f, "also: {fault}"),
+            NoWrites::NotReady(why) => write!(f, "no {why}\n"),
             NoWrites::NotPlanned(fault) => write!(f, "no {fault}\n"),
             NoWrites::NotSettled(fault) => write!(f, "no {fault}\n"),
         }

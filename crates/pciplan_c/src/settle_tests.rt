@@ -89,8 +89,8 @@ const NO_SPARE: DeniedSpare = DeniedSpare {
     offset: 99,
 };
 
-/// What is asked for: the ranges of memory, what may not be written, and whether all is placed anew.
-fn asked<'a>(mem: &'a [u8], fixed: &'a [u8], anew: u8) -> SettleWords<'a> {
+/// What is asked for: the ranges of memory, what may not be written, what is told, and whether all is placed anew.
+fn asked<'a>(mem: &'a [u8], fixed: &'a [u8], also: &'a [u8], anew: u8) -> SettleWords<'a> {
     SettleWords {
         io: b"none",
         mem,
@@ -98,17 +98,28 @@ fn asked<'a>(mem: &'a [u8], fixed: &'a [u8], anew: u8) -> SettleWords<'a> {
         fixed,
         spare: b"",
         slots: b"",
+        also,
         anew,
     }
 }
 
-/// A call: the ranges of memory, what is fixed, room for writes and bytes; the status, the counts of writes and bytes, and
-/// what is put into the line.
-type Call<'a> = (&'a [u8], &'a [u8], usize, usize, u8, usize, usize, &'a str);
+/// A call: the ranges of memory, what is fixed, what is told, room for writes and bytes; the status, the counts of writes and
+/// bytes, and what is put into the line.
+type Call<'a> = (
+    &'a [u8],
+    &'a [u8],
+    &'a [u8],
+    usize,
+    usize,
+    u8,
+    usize,
+    usize,
+    &'a str,
+);
 
 /// Whether a call answers this status and these counts, and puts exactly the card's writes and this line.
 fn is_as_said(alloc: Global, texts: &Pair, call: &Call) -> bool {
-    let (mem, fixed, few, bytes, status, count, used, text) = *call;
+    let (mem, fixed, also, few, bytes, status, count, used, text) = *call;
     let mut put = [NONE; 4];
     let mut line = [b'.'; 64];
     let (mut writes_used, mut safe_from, mut line_used) = (99, 99, 99);
@@ -122,7 +133,7 @@ fn is_as_said(alloc: Global, texts: &Pair, call: &Call) -> bool {
         texts.dump.as_bytes(),
         texts.probe.as_bytes(),
         &[0],
-        &asked(mem, fixed, 0),
+        &asked(mem, fixed, also, 0),
         &mut put[..few],
         &mut writes_used,
         &mut safe_from,
@@ -151,15 +162,65 @@ fn a_settling_is_put_as_a_whole_or_not_at_all(rt: HostRuntime) -> Result<(), Fai
     let fixed = "no 74 Fixed 02:00.0 10\n";
     let no_room = "no 72 NoRoom mem 00:01.0 20 100000 100000\n";
     let cases: [Call; 9] = [
-        (b"e0000000-e02fffff", b"", 4, 64, 0, 2, 0, ""),
-        (b"e0000000-e02fffff", b"00:01.0,01:00.0", 2, 0, 0, 2, 0, ""),
-        (b"e0000000-e02fffff", b"", 1, 64, 4, 2, 0, ""),
-        (b"e0000000-e02fffff", b"02:00.0", 4, 64, 1, 0, 23, fixed),
-        (b"e0000000-e02fffff", b"02:00.0", 4, 22, 4, 0, 23, ""),
-        (b"none", b"", 4, 64, 1, 0, 42, no_room),
-        (b"0-", b"02:00", 4, 64, 2, 0, 8, "pool mem"),
-        (b"none", b"\xff", 4, 64, 2, 0, 5, "fixed"),
-        (b"\xff", b"", 4, 64, 2, 0, 8, "pool mem"),
+        (b"e0000000-e02fffff", b"", b"", 4, 64, 0, 2, 0, ""),
+        (
+            b"e0000000-e02fffff",
+            b"00:01.0,01:00.0",
+            b"",
+            2,
+            0,
+            0,
+            2,
+            0,
+            "",
+        ),
+        (b"e0000000-e02fffff", b"", b"", 1, 64, 4, 2, 0, ""),
+        (
+            b"e0000000-e02fffff",
+            b"02:00.0",
+            b"",
+            4,
+            64,
+            1,
+            0,
+            23,
+            fixed,
+        ),
+        (b"e0000000-e02fffff", b"02:00.0", b"", 4, 22, 4, 0, 23, ""),
+        (b"none", b"", b"", 4, 64, 1, 0, 42, no_room),
+        (b"0-", b"02:00", b"", 4, 64, 2, 0, 8, "pool mem"),
+        (b"none", b"\xff", b"", 4, 64, 2, 0, 5, "fixed"),
+        (b"\xff", b"", b"", 4, 64, 2, 0, 8, "pool mem"),
+    ];
+    for call in cases {
+        assert!(rt; is_as_said(rt.alloc(), &texts, &call), "{call:?}");
+    }
+    Ok(())
+}
+
+#[test]
+fn a_settling_is_told_of_ranges(rt: HostRuntime) -> Result<(), Fail> {
+    let texts = plugged_pair(rt.alloc())?;
+    let mem = b"e0000000-e02fffff";
+    let inside = b"01:00.0 mem 00000000e0004000-00000000e000bfff always vf0\n";
+    let outside = b"01:00.0 mem 00000000e0200000-00000000e0203fff always\n";
+    let unlisted = b"03:00.0 mem 00000000e0200000-00000000e0203fff command\n";
+    let (told, not_listed) = ("no 75 Told 01:00.0 +1\n", "no 34 NotListed 03:00.0\n");
+    let cases: [Call; 4] = [
+        (mem, b"", inside, 4, 64, 0, 2, 0, ""),
+        (mem, b"", outside, 4, 64, 1, 0, 22, told),
+        (mem, b"", unlisted, 4, 64, 1, 0, 24, not_listed),
+        (
+            mem,
+            b"",
+            b"01:00.0 mem 0\n",
+            4,
+            64,
+            2,
+            0,
+            17,
+            "also: 5 BadLine 1",
+        ),
     ];
     for call in cases {
         assert!(rt; is_as_said(rt.alloc(), &texts, &call), "{call:?}");
@@ -174,7 +235,7 @@ fn a_settling_by_an_assumed_size_is_refused(rt: HostRuntime) -> Result<(), Fail>
         probe: whole(rt.alloc(), ASSUMED_PROBE)?,
     };
     let assumed = "no 76 Assumed 02:00.0 10\n";
-    let call: Call = (b"e0000000-e02fffff", b"", 4, 64, 1, 0, 25, assumed);
+    let call: Call = (b"e0000000-e02fffff", b"", b"", 4, 64, 1, 0, 25, assumed);
     assert!(rt; is_as_said(rt.alloc(), &texts, &call));
     Ok(())
 }
@@ -189,7 +250,7 @@ fn a_settling_that_is_refused_a_growth_says_just_that(rt: HostRuntime) -> Result
             heap.refuse(n);
             let mut put = [NONE; 16];
             let mut line = [b'.'; 64];
-            let words = asked(b"e0000000-e02fffff", b"01:00.0", anew);
+            let words = asked(b"e0000000-e02fffff", b"01:00.0", b"", anew);
             let mut denied = [NO_SPARE; 2];
             let answered = settle_into(
                 &heap,

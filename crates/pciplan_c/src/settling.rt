@@ -1,8 +1,9 @@
 //! The settling of two texts that lie in memory.
 ghost use Rattle.std.specs.Prelude.{◌≡◌, ◌≤◌, ℕ, List, IfOk, IfErr};
+ghost use Rattle.pci_tree.specs.Roots.{IsRootList, buses_of};
 ghost use Rattle.pciplan_held.specs.Texts.{AreTexts};
-ghost use Rattle.pciplan_c.specs.SettleWords.{IsAskedBy, said_demand, said_of};
-ghost use Rattle.pciplan_c.specs.SettleAnswers.{AreAllPut, AreSettledSome, IsNoSettlingOf, IsSettleEnding, IsSettleHeldBack, IsSettleSafeFrom, IsSettledBy, IsUnput, MayWant, arrays, asked_request};
+ghost use Rattle.pciplan_c.specs.SettleWords.{said_demand, said_of, told_around};
+ghost use Rattle.pciplan_c.specs.SettleAnswers.{AreAllPut, AreSettledSome, IsAskedWith, IsNoSettlingOf, IsNotAskedWith, IsSettleEnding, IsSettleHeldBack, IsSettleSafeFrom, IsSettledBy, IsUnput, MayWant, arrays, asked_request};
 ghost use Rattle.pciplan_c.specs.Endings.{IsEnding, lent};
 ghost use Rattle.pciplan_c.specs.declared.ending.HeldBack.TheVariants as held_back;
 ghost use Rattle.pciplan_c.specs.declared.ending.NotPut.TheVariants as not_put;
@@ -14,6 +15,7 @@ use crate::denied_spare::{DeniedSpare, put_denied};
 use crate::ending::{Ending, HeldBack, NotPut, Steps, tell};
 use crate::no_writes::NoWrites;
 use crate::settle_words::{Asked, SettleWords, asked_of};
+use crate::told::told_of;
 use pci_base::memory::{OutOfMemory, Refused};
 use pci_base::slot::Slot;
 use pci_check::check::check;
@@ -86,7 +88,8 @@ fn settled_behind<'a, A: Allocator + Copy>(
     asked: &'a Asked<A>,
     bridges: &'a [Slot],
 ) -> Result<Settled<A>, Refused<SettleFault>>
-    requires { bridges.now ≡ (said_demand (said_of asked.now) admitted.now.dump).slots }
+    requires { bridges.now
+        ≡ (said_demand (said_of asked.now) (told_around asked.now.placing) admitted.now.dump).slots }
     ensures settled { IfOk result (IsSettledBy admitted.now asked.now) }
     ensures refusal { IfErr result
         (IsRefusal admitted.now (without_slots (asked_request admitted.now asked.now))) }
@@ -100,9 +103,10 @@ fn settled_behind<'a, A: Allocator + Copy>(
         mem,
         pref,
         slots,
+        told: asked.placing.told(),
     };
     let fixed = asked.fixed.as_slice();
-    settle(alloc, admitted, &lists, fixed, asked.anew)
+    settle(alloc, admitted, &lists, fixed, asked.placing.is_anew())
 }
 
 /// Settles what is admitted.
@@ -131,12 +135,12 @@ fn put_settled<A: Allocator + Copy>(
 ) -> Result<Puts, Unput>
     // of all texts that these dumps are of, and all words that ask for it
     ensures put { IfOk result (λ p. (roots dump probe : List ℕ) (words : WordsValue)
-        → AreTexts roots dump probe admitted.now → IsAskedBy words asked.now
+        → AreTexts roots dump probe admitted.now → IsAskedWith roots dump probe words asked.now
         → AreAllPut roots dump probe words (arrays writes.old denied.old) (arrays writes.new denied.new)
         p.steps.count p.steps.safe_from p.denied) }
     ensures quiet { IfErr result (λ _. (writes.new ≡ writes.old) × (denied.new ≡ denied.old)) }
     ensures why { IfErr result (λ why. (roots dump probe : List ℕ) (words : WordsValue)
-        → AreTexts roots dump probe admitted.now → IsAskedBy words asked.now
+        → AreTexts roots dump probe admitted.now → IsAskedWith roots dump probe words asked.now
         → IsUnput roots dump probe words (arrays writes.old denied.old) why) }
 {
     // Read for what it says of what was admitted.
@@ -171,6 +175,34 @@ fn put_settled<A: Allocator + Copy>(
     }
 }
 
+/// What the words ask for, with the ranges that are told beside the two texts.
+#[tactic(auto, using(crate::proofs::ToldParts::asked_with, crate::proofs::ToldParts::untold_settling, crate::proofs::Settlings::have_meaning))]
+fn asked_with<A: Allocator + Copy>(
+    alloc: A,
+    dump: &[u8],
+    probe: &[u8],
+    roots: Roots,
+    words: &SettleWords<'_>,
+) -> Result<Asked<A>, Refused<NoWrites>>
+    // of the list of which the roots were made
+    ensures asked { IfOk result (λ asked. (buses : List ℕ) → buses_of roots ≡ buses
+        → IsAskedWith buses dump.now probe.now words.now asked) }
+    ensures why { IfErr result (λ why. (buses : List ℕ) → buses_of roots ≡ buses
+        → IsRootList buses → IsNotAskedWith buses dump.now probe.now words.now why) }
+{
+    let asked = match asked_of(alloc, words) {
+        Ok(asked) => asked,
+        Err(Refused::Fault(bad)) => return Err(Refused::Fault(NoWrites::BadWord(bad))),
+        Err(Refused::Memory) => return Err(Refused::Memory),
+    };
+    let told = match told_of(alloc, dump, probe, roots, words.also) {
+        Ok(told) => told,
+        Err(Refused::Fault(why)) => return Err(Refused::Fault(why)),
+        Err(Refused::Memory) => return Err(Refused::Memory),
+    };
+    Ok(asked.with_told(told))
+}
+
 /// Settles two texts and puts the writes and the windows whose spares have no room, in a frame that is let go before it is told
 /// what came of it.
 #[inline(never)]
@@ -197,11 +229,9 @@ fn settle_texts<A: Allocator + Copy>(
             Refusal::Root,
         )))));
     };
-    let asked = match asked_of(alloc, words) {
+    let asked = match asked_with(alloc, dump, probe, roots, words) {
         Ok(asked) => asked,
-        Err(Refused::Fault(bad)) => return Err(Unput::NotPut(NotPut::NoWrites(NoWrites::BadWord(
-            bad,
-        )))),
+        Err(Refused::Fault(why)) => return Err(Unput::NotPut(NotPut::NoWrites(why))),
         Err(Refused::Memory) => return Err(Unput::NotPut(NotPut::Memory)),
     };
     let Ok(mut place) = empty_place(alloc) else {
