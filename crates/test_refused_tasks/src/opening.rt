@@ -192,3 +192,35 @@ fn a_third_text_is_opened_by_its_path(rt: HostRuntime) -> Result<(), Fail> {
     assert!(rt; got.err.is_empty());
     Ok(())
 }
+
+/// The words of a settling beside what a third text tells.
+const SETTLE: &[&str] = &[
+    "settle", "d", "p", "--io", "none", "--mem", "none", "--pref", "none", "--also", "t",
+];
+
+#[test]
+fn a_third_text_of_a_settling_is_refused_like_that(rt: HostRuntime) -> Result<(), Fail> {
+    let texts = [("d", DUMP), ("p", PROBE), ("t", "00:01.0")];
+    let got = answer(&rt, Ok(words_of(&rt, SETTLE)?), &texts);
+    assert!(rt; is_left(&got, "", "pciplan: also: 9 Ended 1\n", 2));
+    let got = answer(&rt, Ok(words_of(&rt, SETTLE)?), &texts[..2]);
+    assert!(rt; is_left(&got, "", "pciplan: also: 1 Io\n", 4));
+    Ok(())
+}
+
+#[test]
+fn nothing_is_placed_anew_beside_a_third_text(rt: HostRuntime) -> Result<(), Fail> {
+    // no text can be opened, and a list of root buses that is none goes behind
+    for more in [
+        &["--anew"].as_slice(),
+        &["--root", "0", "--anew"].as_slice(),
+    ] {
+        let mut words = words_of(&rt, SETTLE)?;
+        for word in *more {
+            words.push(String::from_str(rt.alloc(), word)?)?;
+        }
+        let got = answer(&rt, Ok(words), &[]);
+        assert!(rt; is_left(&got, "", "pciplan: usage\n", 2));
+    }
+    Ok(())
+}

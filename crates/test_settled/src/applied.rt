@@ -1,4 +1,6 @@
 //! Settled boards that are put onto machines in memory, where each access fails once.
+ghost use Rattle.std.specs.Prelude.{◌≡◌, []};
+
 use crate::boards::{Listed, admitted, in_memory, list_of};
 use pci_base::slot::Slot;
 use pci_check::check::check;
@@ -181,7 +183,9 @@ fn settles_onto(
     lists: &Lists,
     anew: bool,
     wanted: (usize, usize),
-) -> bool {
+) -> bool
+    requires { lists.now.told.ranges.now ≡ [] }
+{
     let (writes, closings) = wanted;
     match settle(alloc, start, lists, &[], anew) {
         Ok(settled) => may_stop(alloc, &settled.as_move(start), writes, closings),

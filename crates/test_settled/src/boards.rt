@@ -1,9 +1,12 @@
 //! Boards, and the places that their parts get where nothing stands.
+ghost use Rattle.std.specs.Prelude.{◌≡◌, []};
+
 use pci_base::memory::Refused;
 use pci_base::range::{Range, RootRange};
 use pci_base::window_kind::WindowKind;
 use pci_settle::list::Lists;
 use pci_settle::slots::Slots;
+use pci_settle::told::ToldRanges;
 use pci_settled::anew::{Unplaced, place_anew};
 use pci_settled::places::Places;
 use pci_tree::admit_with;
@@ -51,13 +54,16 @@ pub(crate) fn list_of(alloc: Global, ranges: &[Listed]) -> Option<Vec<RootRange>
     Some(list)
 }
 
-/// Lists of memory alone, with no room behind slots.
-pub(crate) fn in_memory(mem: &[RootRange]) -> Lists<'_> {
+/// Lists of memory alone, with no room behind slots and nothing told.
+pub(crate) fn in_memory(mem: &[RootRange]) -> Lists<'_>
+    ensures { result.told.ranges.now ≡ [] }
+{
     Lists {
         io: &[],
         mem,
         pref: &[],
         slots: Slots::none(),
+        told: ToldRanges::none(),
     }
 }
 
@@ -116,6 +122,7 @@ fn get(alloc: Global, admitted: &Admitted, mem: &[RootRange], wanted: &[Wanted])
         mem,
         pref: &PREFETCH,
         slots,
+        told: ToldRanges::none(),
     };
     match place_anew(alloc, admitted, &lists) {
         Ok(table) => are_placed(table.as_slice(), wanted),

@@ -1,5 +1,5 @@
 //! Tests of the places that all parts get where nothing stands, of the writes that lead there, of what stays, of
-//! spare room behind slots, and of settled boards that are put onto machines.
+//! spare room behind slots, of boards beside which ranges are told, and of settled boards that are put onto machines.
 #![tactic(auto)]
 
 #[cfg(test)]
@@ -12,3 +12,5 @@ mod settles;
 mod spares;
 #[cfg(test)]
 mod stays;
+#[cfg(test)]
+mod told;

@@ -15,7 +15,7 @@ use test_support::row::Row;
 use test_support::row::Row::{Bridge, Device};
 
 /// A write to a function by its bus and device: offset, width and value.
-type Wanted = (u8, u8, u8, u8, u32);
+pub(crate) type Wanted = (u8, u8, u8, u8, u32);
 
 /// Whether a write is just that.
 fn is_write(write: &Write, wanted: &Wanted) -> bool {
@@ -25,7 +25,7 @@ fn is_write(write: &Write, wanted: &Wanted) -> bool {
 }
 
 /// Whether writes are just these, so many of which close.
-fn are_writes(writes: &Writes, closings: usize, wanted: &[Wanted]) -> bool {
+pub(crate) fn are_writes(writes: &Writes, closings: usize, wanted: &[Wanted]) -> bool {
     writes.closings == closings
         && writes.all.len() == wanted.len()
         && writes

@@ -4,6 +4,7 @@ use pci_base::range::RootRange;
 use pci_base::slot::Slot;
 use pci_settle::list::Lists;
 use pci_settle::slots::Slots;
+use pci_settle::told::ToldRanges;
 use pci_settle_writes::settle::{Denied, Settled, settle};
 use std::alloc::Global;
 use std::test::Fail;
@@ -39,6 +40,7 @@ fn lists_of<'a>(mem: &'a [RootRange], bridges: &'a [Slot]) -> Lists<'a> {
         mem,
         pref: &[],
         slots,
+        told: ToldRanges::none(),
     }
 }
 

@@ -5,6 +5,7 @@ use pci_base::window_kind::WindowKind;
 use pci_settle::kept::Kept;
 use pci_settle::list::Lists;
 use pci_settle::slots::Slots;
+use pci_settle::told::ToldRanges;
 use pci_stay::staying::staying;
 use pci_tree::admitted::Admitted;
 use std::alloc::Global;
@@ -36,6 +37,7 @@ fn stay_in(alloc: Global, admitted: &Admitted, mem: &[RootRange], wanted: &[Stay
         mem,
         pref: &[],
         slots: Slots::none(),
+        told: ToldRanges::none(),
     };
     match staying(alloc, admitted, &lists, &[]) {
         Ok(table) => are_kept(table.as_slice(), wanted),
