@@ -4,10 +4,10 @@
 Usage: slow.py KIND COUNT [FIRST [PROGRAM]]
        slow.py KIND show SEED
 
-KIND is `judge`, `plan`, `settle`, `growth`, `spare`, `also`, or `all`, which is each of them. COUNT seeds are taken from
-FIRST on (0 if not said). Of `all` a quarter of these are for `plan` and `settle`, of which a seed has several boards, and
-an eighth for `growth`, `spare` and `also`. PROGRAM is the built program, by default crates/pciplan/out/pciplan. What is
-printed:
+KIND is `judge`, `plan`, `settle`, `growth`, `spare`, `also`, `told`, or `all`, which is each of them. COUNT seeds are taken
+from FIRST on (0 if not said). Of `all` a quarter of these are for `plan` and `settle`, of which a seed has several boards,
+and an eighth for `growth`, `spare`, `also` and `told`. PROGRAM is the built program, by default
+crates/pciplan/out/pciplan. What is printed:
 
 - a line for each board on which program and model differ, and below it what differs;
 - for each kind of how many seeds boards were of each sort, and of 1,000 seeds or more a line for each sort that lacks;
@@ -17,8 +17,11 @@ Boards of `growth` have tight windows, of which some grow. Laws are tried of wha
 settles the boards of growth_rows.py. Boards of `spare` have slots behind which room is wanted. The same is done there, with
 those of spare_rows.py. The program is asked for the same writes and denied spares. Beside boards of `also` ranges are told
 that no register shows. Laws are tried of what the slow judge and the slow map say there, and of the boards of also_rows.py
-they say what stands there. The program is asked for the same. Of one of these three kinds no program is asked without a
-PROGRAM.
+they say what stands there. The program is asked for the same. Boards of `told` are settled with ranges that are told
+beside them. Laws are tried of what the slow settler does there, and it settles the boards of told_settling_rows.py. The
+program is asked for the same writes and denied spares. Where all is placed anew, the slow settler settles what the
+definitions say beside told ranges, and the program has to refuse the words. Of one of these four kinds no program is asked
+without a PROGRAM.
 
 The status is 1 where boards disagree or a sort is lacking. `show` prints the board of a seed. RT_JOBS sets how many
 processes run at a time (as many as there are cores if not said).
@@ -42,6 +45,8 @@ import judged  # noqa: E402
 import moving  # noqa: E402
 import spare_laws  # noqa: E402
 import spare_rows  # noqa: E402
+import told_settling_laws  # noqa: E402
+import told_settling_rows  # noqa: E402
 
 # of each kind what compares the board of a seed, what prints it, and which sorts of boards there have to be among many
 KINDS = {
@@ -51,12 +56,13 @@ KINDS = {
     'growth': (growth_laws.compare, growth_laws.show, growth_laws.SORTS),
     'spare': (spare_laws.compare, spare_laws.show, spare_laws.SORTS),
     'also': (also_laws.compare, also_laws.show, also_laws.SORTS),
+    'told': (told_settling_laws.compare, told_settling_laws.show, told_settling_laws.SORTS),
 }
 MANY = 1000
 # boards that were worked out by hand
-ROWS = {'growth': growth_rows, 'spare': spare_rows, 'also': also_rows}
+ROWS = {'growth': growth_rows, 'spare': spare_rows, 'also': also_rows, 'told': told_settling_rows}
 # of how many seeds for `all` each kind takes one, by what its boards cost
-SHARES = {'judge': 1, 'plan': 4, 'settle': 4, 'growth': 8, 'spare': 8, 'also': 8}
+SHARES = {'judge': 1, 'plan': 4, 'settle': 4, 'growth': 8, 'spare': 8, 'also': 8, 'told': 8}
 
 
 class Task:
@@ -104,7 +110,7 @@ def rows_disagree(kind):
     """Prints what is wrong on the boards of a kind that were worked out by hand; how many that are."""
     faults = ROWS[kind].row_faults() if kind in ROWS else []
     for fault in faults:
-        print('%s_rows.py, %s' % (kind, fault))
+        print('%s.py, %s' % (ROWS[kind].__name__, fault))
     return len(faults)
 
 

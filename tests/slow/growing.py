@@ -9,7 +9,7 @@ It is read off crates/settle_spec/specs (`Reach`, `Growth`, `Growing`), one brid
 
 from model import page_size, put_window
 from planner import Fault, raised
-from settler import Settler, TooLarge, first_place, highest_in, place_all, settled
+from settler import Settler, TooLarge, first_place, highest_in, settled
 
 # so many addresses of a kind of window have one upper half
 HALF = {'io': 1 << 16, 'mem': 1 << 32, 'pref': 1 << 32}
@@ -63,13 +63,17 @@ class Grower(Settler):
         page = page_size(kind)
         first, last = self.room_around(window, kind)
         last = min(last, highest_in(window.function, kind))
-        for other in self.beside(window.bus, window.space):
-            if other is not window and self.stands(other):
-                if other.first > window.last:
-                    last = min(last, other.first - 1)
-                else:
-                    first = max(first, other.last + 1)
+        for start, end in self.around_window(window):
+            if start > window.last:
+                last = min(last, start - 1)
+            else:
+                first = max(first, end + 1)
         return cut_to_halves(window, raised(page, first), (last + 1) // page * page - 1, HALF[kind])
+
+    def around_window(self, window):
+        """The ranges on the bus above a window that bound its reach: those of the other parts that stand."""
+        return [(other.first, other.last) for other in self.beside(window.bus, window.space)
+                if other is not window and self.stands(other)]
 
     def room_around(self, window, kind):
         """What a window is in: the first range of its root that holds it, or the reach of the window above it."""
@@ -128,9 +132,9 @@ class Grower(Settler):
         """The same, found anew."""
         kind, bus = window.part.window, window.function.secondary
         behind = [r for r in self.beside(bus, window.space) if self.is_there(r)]
-        places, lack = place_all(self.items(bus, kind, self.is_there),
-                                 lambda item, taken: self.place_around(window, item, taken),
-                                 [self.there(r) for r in behind])
+        places, lack = self.placed(self.items(bus, kind, self.is_there), bus, window.space,
+                                   lambda item, taken: self.place_around(window, item, taken),
+                                   [self.there(r) for r in behind])
         if lack:
             return None
         spans = [(window.first, window.last)] + [self.there(r) for r in behind if self.class_of(r) == kind]
@@ -199,6 +203,9 @@ def settled_growing(functions, request):
     if grower.is_past_all():
         return settled(functions, request)
     plan = grower.answer()
-    if isinstance(plan, Fault) and plan.text[:2] in ('72', '74'):
-        return settled(functions, request)
-    return plan
+    return settled(functions, request) if ends_without(plan) else plan
+
+
+def ends_without(plan):
+    """Whether all is as without growth: there is a fault that growth may have brought."""
+    return isinstance(plan, Fault) and plan.text[:2] in ('72', '74', '75')

@@ -202,9 +202,8 @@ def growth_sorts(grower, window, grown):
 
 # ---- laws
 
-def kept_fault(board, request, plan):
+def kept_fault(plain, grower, plan):
     """What stays without growth and doesn't with it, or none."""
-    plain, grower = Settler(board.functions, request), Grower(board.functions, request)
     news = {f.slot: f for f in plan.functions}
     for r in [r for r in plain.regions if plain.stays(r)]:
         own = [part for part in news[r.function.slot].parts() if part.register == r.part.register][0]
@@ -252,13 +251,13 @@ def left_on_fault(board, grower, plan):
     return None
 
 
-def all_on(board, request, functions):
-    """The result with everything on that has a place: each Command bit, but for an I/O BAR that is left."""
+def all_on(board, request, functions, told=()):
+    """Whether the result is sound with all on that has a place: each Command bit, but for an I/O BAR that is left."""
     settler = Settler(functions, request)
     found = [f.copy() for f in functions]
     for f, old in zip(found, functions):
         put_number(f.image, COMMAND, 2, f.command | (2 if settler.has_left(old) else 3))
-    return is_sound(found, board.roots)
+    return is_sound(found, board.roots, told)
 
 
 def outside_fault(functions, request):
@@ -286,7 +285,8 @@ def law_fault(board, request, plan):
 def growth_fault(board, request, plan):
     """Which law of growth doesn't hold of a plan of growth, or none."""
     grower = Grower(board.functions, request)
-    return (kept_fault(board, request, plan) or beside_fault(grower) or left_on_fault(board, grower, plan))
+    plain = Settler(board.functions, request)
+    return (kept_fault(plain, grower, plan) or beside_fault(grower) or left_on_fault(board, grower, plan))
 
 
 def settle_both(board, request):

@@ -1,6 +1,6 @@
 """What `settle` answers, slowly.
 
-It is read off docs/FORMATS.md ("Settling") and crates/settle_spec/specs, one part, one item and one bus at a time.
+What is told beside the two texts is in told_settling.py. All else is read off docs/FORMATS.md ("Settling") and crates/settle_spec/specs, one part, one item and one bus at a time.
 
 - `Request(roots, lists, fixed, anew)`: lists has `io`, `mem` and `pref`, each a list of (root or None, first, last).
 - `settled(functions, request)`: a `Plan` (planner.py), whose writes are those of ordering.py, of functions that have
@@ -272,10 +272,23 @@ class Settler:
     def has_room(self, window):
         """Whether each item behind a window has a place in it."""
         bus, kind = window.function.secondary, window.part.window
-        _, lack = place_all(self.items(bus, kind, self.holds),
-                            lambda item, taken: first_place([(window.first, window.last)], taken, item.extent),
-                            self.taken(bus, window.space, self.holds))
+        _, lack = self.placed(self.items(bus, kind, self.holds), bus, window.space,
+                              lambda item, taken: first_place([(window.first, window.last)], taken, item.extent),
+                              self.taken(bus, window.space, self.holds))
         return lack is None
+
+    def placed(self, items, bus, space, place_of, taken):
+        """The places of items of a bus, and the first item that has none, off what is taken and what is told."""
+        return place_all(items, lambda item, there: place_of(item, there + self.told_behind(item)),
+                         taken + self.told_on(bus, space))
+
+    def told_on(self, bus, space):
+        """The addresses on a bus at which nothing is placed, whatever is there: none are told."""
+        return []
+
+    def told_behind(self, item):
+        """The addresses at which a new window isn't placed for what is behind it: none are told."""
+        return []
 
     def stays(self, region):
         """Whether a part holds, and so does each window of its class above it."""
@@ -311,8 +324,8 @@ class Settler:
     def places(self, bus, space):
         """The places of all items of a space on a bus, and the first item without one."""
         kinds = ['io'] if space == IO else ['mem', 'pref']
-        return self.remembered(('places', bus, space), lambda: place_all(
-            [item for kind in kinds for item in self.items(bus, kind, self.stays)],
+        return self.remembered(('places', bus, space), lambda: self.placed(
+            [item for kind in kinds for item in self.items(bus, kind, self.stays)], bus, space,
             self.place_of, [self.new_range(r) for r in self.beside(bus, space) if self.stays(r)]))
 
     def new_place(self, f, register, space):
@@ -396,21 +409,40 @@ class Settler:
                 return '%s %s %x %x' % (item.kind, named(*item.rank), item.extent.size, item.extent.alignment)
         return None
 
-    def answer(self):
-        """The plan, or the first fault."""
+    def fault(self):
+        """The first fault that is looked for before the writes are known, or none."""
         if self.are_bad():
             return Fault('70 BadPools', None, '70')
         if self.assumed_part():
             return Fault('76 Assumed ' + self.assumed_part(), None, '76')
-        for test, sort in ((self.stands, '74 does not stand'), (self.stays, '74 does not stay')):
+        for test, sort in ((self.stands, 'does not stand'), (self.stays, 'does not stay')):
+            if self.told_without(test):
+                return Fault('75 Told ' + self.told_without(test), None, '75 ' + sort)
             if self.fixed_without(test):
-                return Fault('74 Fixed ' + self.fixed_without(test), None, sort)
+                return Fault('74 Fixed ' + self.fixed_without(test), None, '74 ' + sort)
         if self.lack():
             return Fault('72 NoRoom ' + self.lack(), None, '72 ' + self.lack().split()[0])
-        plan = Order(self, {f.slot: self.moved(f) for f in self.functions}).plan()
+        return None
+
+    def told_without(self, test):
+        """The first line of a told range that fails a test of `fault`, as `S +n`: none is told."""
+        return None
+
+    def told_switched(self, order):
+        """The first line of a told range that the writes of an order would switch, as `S +n`: none is told."""
+        return None
+
+    def answer(self):
+        """The plan, or the first fault."""
+        if self.fault():
+            return self.fault()
+        order = Order(self, {f.slot: self.moved(f) for f in self.functions})
+        plan = order.plan()
         for slot, offset, _, _ in plan.writes:
             if slot in self.request.fixed:
                 return Fault('74 Fixed ' + named(slot, offset), None, '74 would be written')
+        if self.told_switched(order):
+            return Fault('75 Told ' + self.told_switched(order), None, '75 would be switched')
         return plan
 
 

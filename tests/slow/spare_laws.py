@@ -16,7 +16,7 @@ from model import COMMAND, WINDOWS, close_window, dump_text, number_at, probe_te
 from moving import Asker, answer, first_early, request_words, roots_words
 from planner import Fault, has_window
 from settler import WINDOW_REGISTER, Settler, TooLarge, first_place
-from spares import Wanted, has_slot, settle_as, settle_sparing, settled_with_spares, spare_of
+from spares import PLAIN, Wanted, has_slot, settle_as, settle_sparing, settled_with_spares, spare_of
 from stops import is_sound, stop_fault
 
 SORTS = ('all spares fit', 'some spares are denied', 'nothing is written', 'a window ends later',
@@ -141,7 +141,7 @@ def window_sorts(before, after, is_slot):
 def settler_with(board, request, wanted):
     """The settler with spares in new windows, or none."""
     try:
-        return settle_as(board.functions, request, wanted)[0]
+        return settle_as(board.functions, request, wanted, PLAIN)[0]
     except TooLarge:
         return None
 
@@ -157,16 +157,16 @@ def has_larger_window(board, spared, plain):
 
 # ---- laws
 
-def place_fault(request, wanted, plan, denied):
+def place_fault(now, wanted, denied):
     """A spare that isn't denied and has no first place in its window of the result, or none."""
-    now = Settler(plan.functions, request)
-    for f in [f for f in plan.functions if has_slot(f, wanted)]:
+    for f in [f for f in now.functions if has_slot(f, wanted)]:
         for kind in WINDOWS:
             spare = spare_of(f, kind, wanted)
             if not spare or not has_window(f, kind) or (f.slot, WINDOW_REGISTER[kind]) in denied:
                 continue
             window = now.window_of(f, kind)
-            taken = [(r.first, r.last) for r in now.beside(f.secondary, window.space)] if window else []
+            taken = now.taken(f.secondary, window.space, lambda region: True) if window else []
+            taken += now.told_on(f.secondary, window.space) if window else []
             if not window or first_place([(window.first, window.last)], taken, spare) is None:
                 return 'the spare of %s %s has no place' % (slot_text(f.slot), kind)
     return None
@@ -187,7 +187,8 @@ def without_fault(sparing):
 
 def wish_fault(base, plan):
     """What wishes change that they must not: where something begins, a window ends, or what is switched; or none."""
-    if commands_of(base) != commands_of(plan):
+    # a new window that would be smaller than it was may be as it was for a spare, and then less is shut
+    if not set(commands_of(plan)) <= set(commands_of(base)):
         return 'a wish switches something on or off'
     for old, new in zip(base.functions, plan.functions):
         for before, after in zip(old.parts(), new.parts()):
@@ -229,7 +230,7 @@ def law_fault(board, request, wanted, sparing):
     if not all_on(board, request, plan.functions):
         return 'the result is not sound once all is on'
     return (without_fault(sparing)
-            or place_fault(request, wanted, plan, denied)
+            or place_fault(Settler(plan.functions, request), wanted, denied)
             or wish_fault(sparing.base, plan) or fixed_fault(request, plan)
             or again_fault(request, wanted, plan, denied)
             or outside_fault(plan.functions, request)

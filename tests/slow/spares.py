@@ -3,7 +3,8 @@
 - `settled_with_spares(functions, request, spare, slots)`: the plan, and the spares that are denied as (slot, register)
   by falling slot. `spare` has the wanted size of each kind of window, `slots` the bridges with a slot. Where there are
   no `slots` the registers say which bridges have one. A fault comes without denied spares.
-- `settle_sparing(functions, request, wanted)`: the same with what comes before, as a `Sparing`.
+- `settle_sparing(functions, request, wanted, makers)`: the same with what comes before, as a `Sparing`. By default the
+  `Makers` of settlers to which nothing is told.
 
 What is refused without slots is refused with them. A new window over a slot has the spare behind its items. Where other
 parts stay for that, or nothing is settled so, no new window has one. Then each slot gets its spares, from the highest slot
@@ -12,7 +13,7 @@ down: its window ends later, or is opened.
 
 from collections import namedtuple
 
-from growing import HALF, Grower, with_halves
+from growing import HALF, Grower, ends_without, with_halves
 from model import IO, WINDOWS, capabilities, page_size, put_window
 from ordering import Order
 from planner import Fault, has_window, raised
@@ -84,15 +85,19 @@ class SpareGrower(WithSpares, Grower):
     """The same, where windows grow."""
 
 
-def settle_as(functions, request, wanted):
+# what makes a settler where windows grow, one where none does, and who grants spares
+Makers = namedtuple('Makers', 'grower settler wisher')
+
+
+def settle_as(functions, request, wanted, makers):
     """The settler that answers, one that grows or else one that doesn't, and its plan."""
-    grower = SpareGrower(functions, request)
+    grower = makers.grower(functions, request)
     grower.wanted = wanted
     if not grower.is_past_all():
         plan = grower.answer()
-        if not isinstance(plan, Fault) or plan.text[:2] not in ('72', '74'):
+        if not ends_without(plan):
             return grower, plan
-    settler = SpareSettler(functions, request)
+    settler = makers.settler(functions, request)
     settler.wanted = wanted
     return settler, settler.answer()
 
@@ -102,10 +107,10 @@ def keep_alike(plain, spared):
     return all(plain.stays(r) == spared.stays(same) for r, same in zip(plain.regions, spared.regions))
 
 
-def with_new_windows(functions, request, wanted):
+def with_new_windows(functions, request, wanted, makers):
     """The settler and the plan with spares in new windows, or none where there is a fault."""
     try:
-        spared, plan = settle_as(functions, request, wanted)
+        spared, plan = settle_as(functions, request, wanted, makers)
     except TooLarge:
         return None
     return None if isinstance(plan, Fault) else (spared, plan)
@@ -146,6 +151,8 @@ class Wisher:
             return None
         if any(r is not window and r.first <= end and window.last < r.last for r in now.beside(slot[0], window.space)):
             return None
+        if self.is_kept_off(window, end):
+            return None
         if slot[0] in self.request.roots:
             if not is_listed(now, slot[0], window, end):
                 return None
@@ -153,12 +160,23 @@ class Wisher:
             functions = self.ending(functions, self.over(functions, bridge), kind, end)
         return functions and self.shown(functions, slot, kind, window.first, end)
 
-    def with_room(self, functions, slot, kind, spare):
-        """The functions where the window of a bridge has room for a spare, and the spare's first address; or none."""
+    def is_kept_off(self, window, end):
+        """Whether a line keeps a window off one of the addresses from its end up to another one: none is told."""
+        return False
+
+    def there(self, now, bus, kind, opened):
+        """What is there on a bus, also for a bridge that is opened by its slot, or none."""
+        return [(r.first, r.last) for r in now.beside(bus, window_space(kind))]
+
+    def with_room(self, functions, slot, kind, spare, opened=None):
+        """The functions where the window of a bridge has room for a spare, and the spare's first address; or none.
+
+        The spare is the window of a bridge behind it that is opened, by its slot, or it is room.
+        """
         now, bridge, window = self.window(functions, slot, kind)
         if window is None:
             return self.opened(functions, slot, kind, spare)
-        there = [(r.first, r.last) for r in now.beside(bridge.secondary, window.space)]
+        there = self.there(now, bridge.secondary, kind, opened)
         at = first_spot(window.first, there, spare)
         if at + spare.size - 1 > spare.highest:
             return None
@@ -172,11 +190,10 @@ class Wisher:
             return None
         spare = spare._replace(highest=min(spare.highest, highest_in(bridge, kind)))
         if slot[0] in self.request.roots:
-            there = [(r.first, r.last) for r in now.beside(slot[0], window_space(kind))]
-            at = first_place(now.ranges(kind, slot[0]), there, spare)
+            at = first_place(now.ranges(kind, slot[0]), self.there(now, slot[0], kind, slot), spare)
             found = (functions, at) if at is not None else None
         else:
-            found = self.with_room(functions, self.over(functions, bridge), kind, spare)
+            found = self.with_room(functions, self.over(functions, bridge), kind, spare, slot)
         if not found:
             return None
         return self.shown(found[0], slot, kind, found[1], found[1] + spare.size - 1), found[1]
@@ -216,14 +233,17 @@ def is_listed(now, bus, window, end):
     return any(first <= window.first and end <= last for kind in kinds for first, last in now.ranges(kind, bus))
 
 
-def settle_sparing(functions, request, wanted):
+PLAIN = Makers(SpareGrower, SpareSettler, Wisher)
+
+
+def settle_sparing(functions, request, wanted, makers=PLAIN):
     """How it is settled with spares: in new windows where the same parts stay, and then by wishes."""
-    plain, without = settle_as(functions, request, NOTHING)
+    plain, without = settle_as(functions, request, NOTHING, makers)
     if isinstance(without, Fault):
         return Sparing(plain, without, plain, without, without, [])
-    found = with_new_windows(functions, request, wanted)
+    found = with_new_windows(functions, request, wanted, makers)
     spared, base = found if found and keep_alike(plain, found[0]) else (plain, without)
-    wisher = Wisher(base.functions, request)
+    wisher = makers.wisher(base.functions, request)
     denied = wisher.grant_all(wanted)
     news, olds = ({f.slot: f for f in functions} for functions in (wisher.functions, base.functions))
     return Sparing(plain, without, spared, base, WishedOrder(spared, olds, news).plan(), denied)

@@ -1,11 +1,13 @@
 """Writes that stop: what stands after each beginning of them is judged.
 
 From `safe from` on each beginning leaves a sound board, and all of them leave the answer. `safe from` is 0 where the
-board is sound at the start, else the number of writes that close.
+board is sound at the start, else the number of writes that close. Where ranges are told, a board is sound where no fault
+is found with them.
 """
 
-from judge import verdict
+from judge import faults, verdict
 from model import dump_text, write, write_text
+from regions import Given
 
 
 def after(functions, made):
@@ -28,22 +30,24 @@ def beginnings(functions, writes):
     return states
 
 
-def is_sound(functions, roots):
+def is_sound(functions, roots, told=()):
     """Whether the slow judge says yes."""
+    if told:
+        return faults(functions, None, Given(roots, told=told)) == 'yes\n'
     return verdict(functions, None, roots) == 'yes\n'
 
 
-def safe_from(functions, roots, plan):
+def safe_from(functions, roots, plan, told=()):
     """From how many writes on a stop is sound."""
-    return 0 if is_sound(functions, roots) else plan.closings
+    return 0 if is_sound(functions, roots, told) else plan.closings
 
 
-def stop_fault(functions, roots, plan, accepts):
+def stop_fault(functions, roots, plan, accepts, told=()):
     """What is wrong with a stop of a plan's writes, or none; `accepts` asks the program about a board and a place."""
     states = beginnings(functions, plan.writes)
-    first = safe_from(functions, roots, plan)
+    first = safe_from(functions, roots, plan, told)
     for done, state in enumerate(states):
-        sound = is_sound(state, roots)
+        sound = is_sound(state, roots, told)
         if first <= done and not sound:
             return 'after %d writes the board is not sound, safe from %d' % (done, first)
         if accepts(state, done) not in (None, sound):
