@@ -307,7 +307,7 @@ done
 echo 2 >virtual/bus/pci/devices/0000:01:03.0/sriov_numvfs
 echo 0 >virtual/bus/pci/devices/0000:02:01.0/sriov_numvfs
 left='capture.sh: left out 0000:00:1e.0, a virtual function'
-text='capture.sh: no text tells pciplan of virtual functions: settle may put a BAR onto their addresses'
+text='capture.sh: without --also and what told.sh prints, settle may put a BAR onto these addresses'
 captured 'virtual functions: what one physical function has' virtual "$left
 capture.sh: virtual functions of 0000:01:03.0 decode mem 00000000fe604000-00000000fe607fff
 capture.sh: virtual functions of 0000:01:03.0 decode mem 0000000800000000-00000008000fffff

@@ -1,7 +1,7 @@
 #!/bin/sh
 # Tests machines/told.sh over files that stand for sysfs and proc, and machines/told_lspci.sh over texts of lspci. Each text
-# that they print has to be one by tests/slow/told.py, and `faults --also` is asked about some of them. A line is printed
-# for each case; the status is 1 where one differs.
+# that they print has to be one by tests/slow/told.py. `faults` and `settle` are asked about some of them, by `--also`. A
+# line is printed for each case; the status is 1 where one differs.
 #
 # Usage: told_test.sh [PROGRAM], by default out/pciplan beside this file, which `rt ci` and `rt run` make.
 set -u
@@ -764,6 +764,14 @@ faults() {
     told "$name" $?
 }
 
+# settled NAME WORD..: `settle --writes` of these words has nothing to write.
+settled() {
+    name=$1
+    shift
+    "$program" settle "$@" --io 700-ffff --mem 80000000-febfffff --pref none --writes >out 2>err && ! [ -s out ] && ! [ -s err ]
+    told "$name" $?
+}
+
 : >empty
 if ! [ -x "$program" ]; then
     echo "skipped: faults --also, as $program can't be run"
@@ -795,6 +803,7 @@ END
     told 'what is told of a stored machine' $?
     faults 'faults with what told.sh tells' 0 'yes
 ' "$machines/old.dump" "$machines/old.probe" --also whole
+    settled 'settle with what told.sh tells' "$machines/old.dump" "$machines/old.probe" --also whole
     "$machines/told_lspci.sh" "$machines/old.dump" >whole
     faults 'faults with what told_lspci.sh tells' 0 'yes
 ' "$machines/old.dump" "$machines/old.probe" --also whole
