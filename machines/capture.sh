@@ -159,5 +159,5 @@ if ! { opened && capture "$@" 3>dump.txt 4>sizes.txt; }; then
     exit 1
 fi
 [ -z "$virtual" ] ||
-    echo 'capture.sh: no text tells pciplan of virtual functions: settle may put a BAR onto their addresses' >&2
+    echo 'capture.sh: without --also and what told.sh prints, settle may put a BAR onto these addresses' >&2
 echo "--root $roots"

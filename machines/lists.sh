@@ -7,7 +7,8 @@
 # - what another line gives to the board or the chipset, or to a function in which no BAR or ROM that is on shows it
 # - ports below 1000h and memory below 1 MB, but for BARs, ROMs and bridge windows that stand there
 # Memory below 4 GB is in --mem, memory above it in --pref. What a function behind a bridge answers and no BAR shows, as a
-# virtual function (SR-IOV) does, is named on standard error: no list can keep `settle` from its addresses.
+# virtual function (SR-IOV) does, is named on standard error: no list can keep `settle` from its addresses, but what
+# told.sh prints can, as `--also`.
 #
 # Usage: lists.sh [DOMAIN], as root; domain 0000 if none is said. SYSFS and PROC say where sysfs and proc are, if not in
 # /sys and /proc.

@@ -1,6 +1,6 @@
 #!/bin/sh
-# Prints what the functions of a PCI domain of this machine answer though no BAR shows it: the text that
-# `pciplan faults --also FILE` and `map --also FILE` take. It is made from what Linux tells in sysfs and proc. Nothing is
+# Prints what the functions of a PCI domain of this machine answer though no BAR shows it: the text that `faults`, `map`,
+# `picture` and `settle` of pciplan take as `--also FILE`. It is made from what Linux tells in sysfs and proc. Nothing is
 # written to any device. docs/FORMATS.md has the form of the text.
 #
 #   command  ports of an IDE channel in compatibility mode, Enhanced Allocation, and the legacy addresses of the display

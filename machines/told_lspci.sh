@@ -1,7 +1,7 @@
 #!/bin/sh
-# Prints what functions answer though no BAR shows it: the text that `pciplan faults --also FILE` and `map --also FILE`
-# take. It is made from what root's lspci printed with -xxxx, where nobody has the machine's sysfs. machines/convert.sh
-# makes the dump of the same text. docs/FORMATS.md has the form of both.
+# Prints what functions answer though no BAR shows it: the text that `faults`, `map`, `picture` and `settle` of pciplan
+# take as `--also FILE`. It is made from what root's lspci printed with -xxxx, where nobody has the machine's sysfs.
+# machines/convert.sh makes the dump of the same text. docs/FORMATS.md has the form of both.
 #
 #   command  ports of an IDE channel in compatibility mode, and Enhanced Allocation
 #   always   the BARs of virtual functions (SR-IOV) that are on

@@ -73,7 +73,7 @@ complete -c pciplan -n '__pciplan_takes root check faults map plan settle pictur
 complete -c pciplan -n '__pciplan_takes model faults map picture' -l model -x -a '(__fish_append , all cardbus ide isa power reset snoop subtractive unclaimed unnumbered vga vga16 windows)' -d 'Words by which functions are taken'
 complete -c pciplan -n '__pciplan_takes host-io faults map picture' -l host-io -x -d 'I/O addresses that the host sends'
 complete -c pciplan -n '__pciplan_takes host-mem faults map picture' -l host-mem -x -d 'Memory addresses that the host sends'
-complete -c pciplan -n '__pciplan_takes also faults map picture' -l also -r -F -d 'File that tells what no BAR shows'
+complete -c pciplan -n '__pciplan_takes also faults map settle picture' -l also -r -F -d 'File that tells what no BAR shows'
 complete -c pciplan -n '__pciplan_takes io plan settle' -l io -x -d 'Pool or ranges of I/O addresses'
 complete -c pciplan -n '__pciplan_takes mem plan settle' -l mem -x -d 'Pool or ranges of memory addresses'
 complete -c pciplan -n '__pciplan_takes pref plan settle' -l pref -x -d 'Pool or ranges of prefetchable memory addresses'
