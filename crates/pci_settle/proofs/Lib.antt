@@ -4,6 +4,7 @@ pub mod FirstPlaces
 pub mod Starts
 pub mod Inserted
 pub mod AllPlaced
+pub mod NearRanges
 pub mod Behind
 pub mod Cursors
 pub mod LaidOut

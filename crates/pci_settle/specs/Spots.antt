@@ -1,8 +1,8 @@
 -- Free places, by the list of what is taken.
-use Rattle.std.specs.Prelude.{ℕ, ◌≡◌, ◌<◌, ◌≤◌, ◌^◌, Bool, true, false, if◌then◌else◌, IsTrue, List, length, map, slice_index_or, Option, None, Some}
-use Rattle.std.specs.List.{insert}
+use Rattle.std.specs.Prelude.{ℕ, ◌≡◌, ◌<◌, ◌≤◌, ◌^◌, Bool, true, false, not, if◌then◌else◌, IsTrue, List, length, map, slice_index_or, Option, None, Some}
+use Rattle.std.specs.List.{insert, list_any}
 use Rattle.plan_spec.specs.Place.{range_from}
-use Rattle.settle_spec.specs.FirstPlace.{Extent as ExtentValue, is_spot, first_place_in, IsLeastSpot}
+use Rattle.settle_spec.specs.FirstPlace.{Extent as ExtentValue, ranges_are_apart, is_spot, first_place_in, IsLeastSpot}
 use Rattle.pci_base.specs.declared.range.Range.{Range}
 use Rattle.pci_base.specs.Ranges.{decoded_range_of}
 use Rattle.pci_settle.specs.declared.extent.Extent.{Extent}
@@ -44,6 +44,11 @@ spot_place (Some s) = Some s.at
 
 abbrev pub place_if : Bool → ℕ → Option ℕ
 place_if found a = if found then Some a else None
+
+-- whether a range shares an address with one of others
+abbrev pub is_near : List Range → Range → Bool
+is_near ranges t =
+    list_any (λ r. not (ranges_are_apart (decoded_range_of t) (decoded_range_of r))) ranges
 
 -- ---- how far a search has come
 

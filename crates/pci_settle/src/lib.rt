@@ -13,6 +13,7 @@ pub mod kept;
 pub mod lines;
 pub mod list;
 pub mod listing;
+pub mod near;
 pub mod new_window;
 pub mod over;
 pub mod own;

@@ -7,7 +7,6 @@ ghost use Rattle.pci_spec.specs.Bus.{secondary, subordinate};
 ghost use Rattle.pci_spec.specs.Window.{WindowKind};
 ghost use Rattle.settle_spec.specs.Lists.{Request};
 ghost use Rattle.given_spec.specs.ToldRegion.{told_regions};
-ghost use Rattle.settle_spec.specs.FirstPlace.{ranges_are_apart};
 ghost use Rattle.settle_spec.specs.Lines.{keeps_off, lines_on, lines_behind};
 ghost use Rattle.settle_spec.specs.Stands.{window_part};
 ghost use Rattle.settle_spec.specs.Parts.{are_same_space};
@@ -16,7 +15,7 @@ ghost use Rattle.pci_base.specs.Space.{space_of};
 ghost use Rattle.pci_tree.specs.Roots.{buses_of};
 ghost use Rattle.pci_settle.specs.Lines.{level_of, row_of, told_row, line_level, line_range, is_on_levels, is_root_line, line_keeps_off, AreForwardRanges, AreLineRows, AreLines, AreAdded};
 
-use crate::list::is_root;
+use crate::list::{are_apart, is_root};
 use crate::told::ToldRanges;
 use pci_base::memory::OutOfMemory;
 use pci_base::range::Range;
@@ -121,13 +120,6 @@ fn rows_between(lines: &[Line], low: u16, high: u16) -> &[Line]
         return &[];
     }
     &lines[first..end]
-}
-
-/// Whether two ranges share no address.
-fn are_apart(one: Range, other: Range) -> bool
-    ensures { result ≡ ranges_are_apart (decoded_range_of one) (decoded_range_of other) }
-{
-    one.last < other.first || other.last < one.first
 }
 
 /// Whether a row is of a space.

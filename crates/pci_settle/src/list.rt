@@ -126,7 +126,7 @@ fn has_bad_range(roots: &Roots, list: &[RootRange]) -> bool
 }
 
 /// Whether two ranges share no address.
-fn are_apart(one: Range, other: Range) -> bool
+pub fn are_apart(one: Range, other: Range) -> bool
     ensures { result ≡ are_ranges_apart (decoded_range_of one) (decoded_range_of other) }
 {
     one.last < other.first || other.last < one.first

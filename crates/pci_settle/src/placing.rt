@@ -14,10 +14,14 @@ ghost use Rattle.pci_settle.specs.Spots.{extent_value, IsExtent, FirstsRise, Are
 ghost use Rattle.pci_settle.specs.Placings.{HasListAt, place_by_list, wanted_place, AreWanted, AreEnding, IsCursor, AreCursors, IsReady, placing_of};
 
 use crate::extent::Extent;
+use crate::near::add_near;
 use crate::spot::{Start, first_place, sort_by_first};
 use pci_base::memory::OutOfMemory;
 use pci_base::range::Range;
 use std::alloc::Allocator;
+
+/// With up to so many ranges of a list each line is compared, before what is left is sorted with what is taken.
+const FEW_RANGES: usize = 4;
 
 /// An extent that is to be placed.
 #[derive(Clone, Copy, Debug, PartialEq, Eq)]
@@ -248,7 +252,7 @@ fn behind_at<C: Allocator>(behind: &[Vec<Range, C>], index: usize) -> &[Range]
 
 /// What is wanted for an extent that has something behind it: the place that is told, or the first one that is off that and
 /// off what is taken. None where it has none.
-fn wanted_off<A: Allocator, B: Allocator>(
+fn wanted_beside<A: Allocator, B: Allocator>(
     alloc: A,
     lists: &[Vec<Range, B>],
     behind: &[Range],
@@ -271,6 +275,59 @@ fn wanted_off<A: Allocator, B: Allocator>(
             at: Some(at),
         })),
         None => Ok(None),
+    }
+}
+
+/// The same, where a list has few ranges: what is behind it and shares no address with one of them is left out.
+fn wanted_near<A: Allocator + Copy, B: Allocator>(
+    alloc: A,
+    lists: &[Vec<Range, B>],
+    behind: &[Range],
+    taken: &[Range],
+    wanted: &Wanted,
+) -> Result<Option<Wanted>, OutOfMemory>
+    requires { HasListAt (length lists.now) wanted.now }
+    ensures { IfOk result (IsReady (length lists.now) (map (λ list. list.items) lists.now)
+        (map decoded_range_of behind.now) (map decoded_range_of taken.now) wanted.now) }
+{
+    let extent = wanted.extent;
+    let list = wanted.list;
+    if behind.is_empty() || wanted.at.is_some() {
+        return Ok(Some(*wanted));
+    }
+    let ranges = lists[list].as_slice();
+    // the rest keeps no place in these ranges from being free
+    let mut near = Vec::new(alloc);
+    add_near(&mut near, ranges, behind)?;
+    if near.is_empty() {
+        return Ok(Some(*wanted));
+    }
+    match first_off(alloc, ranges, near.as_slice(), taken, extent)? {
+        Some(at) => Ok(Some(Wanted {
+            extent,
+            list,
+            at: Some(at),
+        })),
+        None => Ok(None),
+    }
+}
+
+/// The same, in the less expensive of two ways.
+fn wanted_off<A: Allocator + Copy, B: Allocator>(
+    alloc: A,
+    lists: &[Vec<Range, B>],
+    behind: &[Range],
+    taken: &[Range],
+    wanted: &Wanted,
+) -> Result<Option<Wanted>, OutOfMemory>
+    requires { HasListAt (length lists.now) wanted.now }
+    ensures { IfOk result (IsReady (length lists.now) (map (λ list. list.items) lists.now)
+        (map decoded_range_of behind.now) (map decoded_range_of taken.now) wanted.now) }
+{
+    if lists[wanted.list].len() <= FEW_RANGES {
+        wanted_near(alloc, lists, behind, taken, wanted)
+    } else {
+        wanted_beside(alloc, lists, behind, taken, wanted)
     }
 }
 
