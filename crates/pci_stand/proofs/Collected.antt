@@ -34,8 +34,11 @@ use Rattle.pci_place.specs.Above.{IsAbove, AreAboves}
 use Rattle.pci_place.specs.Items.{no_function, function_in}
 use Rattle.pci_place.specs.Records.{IsRecordOf}
 use Rattle.pci_place.proofs.Records.{FunctionAt, same_count, function_at}
+use Rattle.pci_settle.specs.declared.over.OpenWindows.{OpenWindows}
+use Rattle.pci_settle.specs.declared.over.Over.{Over}
 use Rattle.pci_settle.specs.declared.own.Terms.{Terms}
 use Rattle.pci_settle.specs.Slots.{demand_of}
+use Rattle.pci_settle.specs.Over.{no_windows, AreClassWindows, AreOpenOver, IsOverBus}
 use Rattle.pci_settle.specs.Own.{AreTerms, is_left_bar}
 use Rattle.pci_stand.specs.declared.region.Owner.{Owner}
 use Rattle.pci_settle.specs.declared.kept.Part.TheVariants as parts
@@ -50,10 +53,10 @@ pub record IsOf (o : Owner) (x : CodeRegion) : Type 0 where
   pub function : x.function ≡ o.function
   pub forward : HasAddress x
 
-module _ (o : Owner) (above : Above) (t : Terms) (r : Record) (lawful : IsLawful r) where
+module _ (o : Owner) (over : Over) (t : Terms) (r : Record) (lawful : IsLawful r) where
   in_window : (kind : CodeKind) (space : CodeSpace) (w : Option decoded.Range) (z : system.Space) → IfSome w (λ v. IsSpanIn z v.first v.last) → (x : CodeRegion) → Contains (owned_window_regions o kind space w) x → IsOf o x
   in_window kind space None z span x listed = absurd (in_nil x listed)
-  in_window kind space (Some v) z span x listed = elim (in_cons_cases (owned_region o (parts.Window kind) space false (range_of_decoded v)) [] x listed) [
+  in_window kind space (Some v) z span x listed = elim (in_cons_cases (owned_region o (parts.Window kind) space kind (range_of_decoded v)) [] x listed) [
     | inl same ↦ subst (IsOf o) same record { function = refl; forward = span.0 }
     | inr none ↦ absurd (in_nil x none)
   ]
@@ -79,16 +82,16 @@ module _ (o : Owner) (above : Above) (t : Terms) (r : Record) (lawful : IsLawful
   in_rom None span x listed = absurd (in_nil x listed)
   in_rom (Some rom) span x listed = in_rom_if rom.on rom span.0 x listed
 
-  in_bars : (x : CodeRegion) → Contains (owned_bar_regions o above t r.bars.items) x → IsOf o x
+  in_bars : (x : CodeRegion) → Contains (owned_bar_regions o over t r.bars.items) x → IsOf o x
   in_bars x listed =
-      let kept = filter (λ bar. not (is_left_bar bar above t.has_io)) r.bars.items in
-      let made : IsMade (owned_bar_region o above) kept x = in_map_to (owned_bar_region o above) kept x listed in
-      let has = (in_filter_to (λ bar. not (is_left_bar bar above t.has_io)) r.bars.items made.from made.has).0 in
+      let kept = filter (λ bar. not (is_left_bar bar over.above t.has_io)) r.bars.items in
+      let made : IsMade (owned_bar_region o over t) kept x = in_map_to (owned_bar_region o over t) kept x listed in
+      let has = (in_filter_to (λ bar. not (is_left_bar bar over.above t.has_io)) r.bars.items made.from made.has).0 in
       let span = All-contains (λ (b : CodeBar). IsSpanIn (space_in b.kind) b.first b.last) r.bars.items made.from lawful.bars has in
       subst (IsOf o) made.is record { function = refl; forward = span.0 }
 
-  pub in_record : (x : CodeRegion) → Contains (record_regions o above t r) x → IsOf o x
-  in_record x listed = elim (Contains-append_cases (owned_bar_regions o above t r.bars.items) (owned_bridge_regions o r.bridge ++ owned_rom_regions o r.rom) x listed) [
+  pub in_record : (x : CodeRegion) → Contains (record_regions o over t r) x → IsOf o x
+  in_record x listed = elim (Contains-append_cases (owned_bar_regions o over t r.bars.items) (owned_bridge_regions o r.bridge ++ owned_rom_regions o r.rom) x listed) [
     | inl bar ↦ in_bars x bar
     | inr more ↦ elim (Contains-append_cases (owned_bridge_regions o r.bridge) (owned_rom_regions o r.rom) x more) [
       | inl window ↦ in_bridge r.bridge lawful.windows x window
@@ -128,14 +131,14 @@ module _ (q : Request) (s : System) (records : List Record) (has : HasRecords s 
     pub record_is : IsRecordOf s found.f r
     record_is = found.is
 
-    pub parts_more : (o : Owner) (aboves : List Above) (d : Above) (t : Terms) (lawful : All IsLawful records) → AreAboves s aboves → AreTerms (demand_of q) t → o.function ≡ k → o.bus ≡ r.slot.bus
+    pub parts_more : (o : Owner) (aboves : List Above) (d : Above) (overs : List OpenWindows) (windows : OpenWindows) (t : Terms) (lawful : All IsLawful records) → AreAboves s aboves → AreOpenOver q s overs → windows ≡ get_or overs o.bus no_windows → AreTerms (demand_of q) t → o.function ≡ k → o.bus ≡ r.slot.bus
         → o.level ≡ level q o.bus → o.fixed ≡ list_any (same_slot r.slot) q.fixed → o.command ≡ r.command
-        → (old new : List CodeRegion) → new ≡ old ++ record_regions o (get_or aboves o.bus d) t r → ArePartsTo q s k old → ArePartsTo q s (k + 1) new
-    parts_more o aboves d t lawful are_above terms at bus high fixed on old new put before =
+        → (old new : List CodeRegion) → new ≡ old ++ record_regions o (record { above = get_or aboves o.bus d; windows = windows }) t r → ArePartsTo q s k old → ArePartsTo q s (k + 1) new
+    parts_more o aboves d overs windows t lawful are_above are_open windows_is terms at bus high fixed on old new put before =
         let f = found.f in
         let slot : r.slot ≡ f.slot = same_slot_of r f found.is.value in
         let on_bus : o.bus ≡ f.slot.bus = bus ∙ ap (λ (x : Slot). x.bus) slot in
-        let above = get_or aboves o.bus d in
+        let over : Over = record { above = get_or aboves o.bus d; windows = windows } in
         let owner : IsOwner q s f o r = record {
           is = found.is;
           here = ap (function_in s) at ∙ get_or_from_slice_get s k f no_function found.at;
@@ -144,14 +147,17 @@ module _ (q : Request) (s : System) (records : List Record) (has : HasRecords s 
           fixed = fixed ∙ ap (λ x. list_any (same_slot x) q.fixed) slot;
           command = on ∙ ap (λ (x : decoded.Record). x.command) found.is.value;
         } in
-        let over : IsAbove s f.slot.bus above = subst (λ n. IsAbove s f.slot.bus (get_or aboves n d)) (sym on_bus) (are_above f d found.is.listed) in
-        let new_ones = record_regions o above t r in
-        let of = in_record o above t r (subst IsLawful (sym is_at) (lawful k r inside)) in
+        let over_is : IsOverBus q s f.slot.bus over = record {
+          above = subst (λ n. IsAbove s f.slot.bus (get_or aboves n d)) (sym on_bus) (are_above f d found.is.listed);
+          windows_are = subst (AreClassWindows q s f.slot.bus) (sym windows_is) (subst (λ n. AreClassWindows q s f.slot.bus (get_or overs n no_windows)) (sym on_bus) (are_open f found.is.listed));
+        } in
+        let new_ones = record_regions o over t r in
+        let of = in_record o over t r (subst IsLawful (sym is_at) (lawful k r inside)) in
         record {
           same = ap (map (known s)) put
               ∙ map-append (known s) old new_ones
               ∙ ap (λ xs. xs ++ map (known s) new_ones) before.same
-              ∙ ap (λ xs. map (known_of q s) (flat_map (function_parts q s) (take k s)) ++ xs) (record_parts q s f o above t r owner over terms)
+              ∙ ap (λ xs. map (known_of q s) (flat_map (function_parts q s) (take k s)) ++ xs) (record_parts q s f o over t r owner over_is terms)
               ∙ sym (map-append (known_of q s) (flat_map (function_parts q s) (take k s)) (function_parts q s f))
               ∙ ap (map (known_of q s)) (sym (one_more (function_parts q s) s k f found.at));
           within = subst (All (λ (x : CodeRegion). x.function < length s)) (sym put) (All-append (λ (x : CodeRegion). x.function < length s) old new_ones before.within

@@ -10,8 +10,8 @@ use Rattle.std.proofs.lemmas.List.{length-take, get_or-take, length-drop, get_or
 use Rattle.std.proofs.lemmas.List.Edits.{split_between}
 use Rattle.std.proofs.lemmas.List.Elements.{filter-append, All-contains, Contains-get_or}
 use Rattle.std.proofs.lemmas.List.Sorted.{IsPermutation-sym, Contains-permutation}
-use Rattle.pci_spec.specs.Window.{WindowKind, has_window, is_closed}
-use Rattle.pci_spec.specs.System.{System, Function, Space, Io, Memory, Part, Bar, Rom, Window, is_bridge, has_part}
+use Rattle.pci_spec.specs.Window.{has_window, is_closed}
+use Rattle.pci_spec.specs.System.{System, Function, Space, Part, Bar, Rom, Window, is_bridge, has_part}
 use Rattle.pci_spec.specs.Bus.{is_root, are_siblings}
 use Rattle.pci_spec.proofs.Members.{in_nil, in_head, in_tail, in_flat_map_to, IsInPiece, in_map_to, in_map_from, IsMade, in_filter_to, in_filter_from}
 use Rattle.settle_spec.specs.Lists.{Lists, Request}
@@ -33,7 +33,7 @@ use Rattle.pci_settle.specs.declared.kept.Part.{Part as CodePart}
 use Rattle.pci_settle.specs.declared.kept.Part.TheVariants as parts
 use Rattle.pci_settle.specs.Slots.{Demand}
 use Rattle.pci_settle.specs.Kept.{spec_part, AreKeptParts}
-use Rattle.pci_settle.specs.Tables.{told, AreForward}
+use Rattle.pci_settle.specs.Tables.{AreForward}
 use Rattle.pci_settle.specs.Keeping.{grown_of, AreKeptRanges}
 use Rattle.pci_settle.specs.Spots.{FirstsRise, AreRisingRanges}
 use Rattle.pci_settle.proofs.Headers.{header_has}
@@ -159,9 +159,9 @@ part_forward grown forward k (parts.Window class) = forward k class
 range_forward : (grown : List (ByKind (Option Range))) → AreForward grown → (x : CodeRegion) → x.range.first ≤ x.range.last → (kept_range grown x).first ≤ (kept_range grown x).last
 range_forward grown forward x own = or_forward (told_part grown x.function x.part) x.range (part_forward grown forward x.function x.part) own
 
-module _ (roots : List ℕ) (d : Demand) (s : System) (rs : List CodeRegion) (parts : AreParts (asked roots d []) s rs) (kept : List Kept) (grown : List (ByKind (Option Range))) where
+module _ (roots : List ℕ) (d : Demand) (s : System) (rs : List CodeRegion) (parts : AreParts (asked roots d [] false) s rs) (kept : List Kept) (grown : List (ByKind (Option Range))) where
   abbrev q0 : Request
-  q0 = asked roots d []
+  q0 = asked roots d [] false
 
   abbrev chosen : List Held
   chosen = map (held_of grown) (filter (is_kept kept) rs)

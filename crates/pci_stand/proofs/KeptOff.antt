@@ -132,7 +132,7 @@ module _ (q : Request) (s : System) (told : IsTold q.told.ranges) (r : Region) (
   v = region_value s r
 
   before_off : (r.leads || r.fixed || r.on) ≡ precedes_off q s v
-  before_off = ap (λ b. b || r.fixed || r.on) is.leads ∙ ap (λ (k : Known). leads_to_one_on q s v || k.fixed || k.on) is.is.all
+  before_off = ap (λ b. b || r.fixed || r.on) is.leads.leads ∙ ap (λ (k : Known). leads_to_one_on q s v || k.fixed || k.on) is.is.all
 
   abbrev row_there : ℕ
   row_there = row_key r.level (code.space_of r.space)

@@ -1,12 +1,12 @@
--- Which parts lead to told ranges that are on, as lines tell them.
-use Rattle.std.proofs.Common.{◌≡◌, ℕ, ◌+◌, ◌<◌, ◌≤◌, inl, inr, List, length, get_or, Bool, true, false, cond, ◌&&◌, not, arith, sym, ◌∙◌, ap, subst, refl, Some, None}
+-- Which parts lead to told ranges, as lines tell them.
+use Rattle.std.proofs.Common.{◌≡◌, ℕ, ◌+◌, ◌<◌, ◌≤◌, inl, inr, List, length, get_or, Bool, true, false, ◌&&◌, ◌||◌, not, arith, sym, ◌∙◌, ap, subst, refl, Some, None}
 use Rattle.std.specs.Option.{is_some}
 use Rattle.std.specs.List.{AllWithin}
 use Rattle.std.proofs.lemmas.Bool.{cases_Bool, cases_lt, and_parts, and_from, both_ways, false_from_ne_true}
 use Rattle.std.proofs.lemmas.List.{get_or_default}
 use Rattle.std.proofs.lemmas.Option.{slice_get-get_or, get_or_from_slice_get}
-use Rattle.pci_spec.specs.Decoded.{Bridge as DecodedBridge, bridge_of}
-use Rattle.pci_spec.specs.System.{System, Function, Space, Part, Bar, Rom, Window, is_bridge, space_of}
+use Rattle.pci_spec.specs.Decoded.{Bridge as DecodedBridge}
+use Rattle.pci_spec.specs.System.{System, Function, Window, is_bridge, space_of}
 use Rattle.pci_spec.specs.Bus.{secondary, subordinate, is_behind}
 use Rattle.pci_spec.proofs.BusRanges.{any_gives, any_from, within_of_behind, behind_of_within}
 use Rattle.plan_spec.specs.Plan.{is_open, same_class}
@@ -17,7 +17,7 @@ use Rattle.given_spec.specs.ToldRegion.{ToldRegion, told_regions}
 use Rattle.settle_spec.specs.Lists.{Request}
 use Rattle.settle_spec.specs.Parts.{FunctionPart, addresses, is_part, lies_within, are_same_space}
 use Rattle.settle_spec.specs.Lines.{line_bus, line_range, is_held_line, is_always_line}
-use Rattle.settle_spec.specs.Stands.{part_space, is_line_on, range_class, leads_by, leads_to_range, leads_to_one_on}
+use Rattle.settle_spec.specs.Stands.{part_space, is_line_on, range_class, leads_by, leads_to_range}
 use Rattle.stand_laws.proofs.Standing.{part_of}
 use Rattle.pci_base.specs.Ranges.{decoded_range_of}
 use Rattle.pci_base.specs.Space as code
@@ -36,6 +36,7 @@ use Rattle.pci_stand.specs.declared.told_line.ToldLine.{ToldLine}
 use Rattle.pci_stand.specs.Known.{Known, region_value}
 use Rattle.pci_stand.specs.Boards.{IsTree, IsKnown}
 use Rattle.pci_stand.specs.ToldLines.{IsToldLine, AreToldLines, part_leads_to, leads_to_line}
+use Rattle.pci_stand.specs.Leads.{leads_to_lines}
 use Rattle.pci_stand.specs.RangePass.{no_range, no_line}
 use Rattle.pci_stand.proofs.ToldIndexes.{told_at, told_by}
 
@@ -52,7 +53,7 @@ module _ (ranges : List ToldRange) (low high first end : ℕ)
   pub between_to : (k : ℕ) (t : ToldRange) → k < length ranges → first ≤ k → k < end → (low ≤ (get_or ranges k t).slot.bus) × ((get_or ranges k t).slot.bus ≤ high)
   between_to k t within from up = (first_after k t from within, let b = end_before k t (omega arith) up in omega (arith, b))
 
-module _ (q : Request) (s : System) (r : Region) (is : IsKnown q s r) where
+module _ (any : Bool) (q : Request) (s : System) (r : Region) (is : IsKnown q s r) where
   abbrev v : FunctionPart
   v = region_value s r
 
@@ -83,11 +84,11 @@ module _ (q : Request) (s : System) (r : Region) (is : IsKnown q s r) where
   by_part x line class parts.Rom e = ap (λ z. is_always_line x && are_same_space z x.told.space) (space_is ∙ ap (λ p. space_of f (spec_part p)) e)
 
   -- of a line behind its bridge
-  pub line_is : (x : ToldRegion) (line : ToldLine) → IsToldLine q s x.told line → leads_to_line r x.told line ≡ (is_line_on q s x && (not (is_held_line x) && leads_by q s f v.part x))
+  pub line_is : (x : ToldRegion) (line : ToldLine) → IsToldLine q s x.told line → leads_to_line any r x.told line ≡ ((any || is_line_on q s x) && (not (is_held_line x) && leads_by q s f v.part x))
   line_is x line known =
-      ap (λ b. b && not (is_marked_held x.told.mark) && part_leads_to r.part (code.space_of r.space) (decoded_range_of r.range) x.told line) known.on
-      ∙ ap (λ b. is_line_on q s x && not (is_held_line x) && b) (by_part x line known.class r.part refl)
-      ∙ grouped (is_line_on q s x) (not (is_held_line x)) (leads_by q s f v.part x)
+      ap (λ b. (any || b) && not (is_marked_held x.told.mark) && part_leads_to r.part (code.space_of r.space) (decoded_range_of r.range) x.told line) known.on
+      ∙ ap (λ b. (any || is_line_on q s x) && not (is_held_line x) && b) (by_part x line known.class r.part refl)
+      ∙ grouped (any || is_line_on q s x) (not (is_held_line x)) (leads_by q s f v.part x)
     where
       grouped : (a b c : Bool) → (a && b && c) ≡ (a && (b && c))
       grouped true b c = refl
@@ -107,10 +108,10 @@ module _ (q : Request) (s : System) (r : Region) (is : IsKnown q s r) where
     same = sym (get_or_from_slice_get s r.function found.f no_function found.at)
 
     -- what isn't of a bridge leads nowhere
-    pub no_bridge_leads : x.bridge ≡ None → false ≡ leads_to_one_on q s v
-    no_bridge_leads none = sym (false_from_ne_true (leads_to_one_on q s v) (λ is.
-        let of = any_gives (λ y. is_line_on q s y && leads_to_range q s v y) (told_regions q.told) is in
-        let leads = (and_parts (is_line_on q s of.0) (leads_to_range q s v of.0) of.2).1 in
+    pub no_bridge_leads : x.bridge ≡ None → false ≡ leads_to_lines any q s v
+    no_bridge_leads none = sym (false_from_ne_true (leads_to_lines any q s v) (λ is.
+        let of = any_gives (λ y. (any || is_line_on q s y) && leads_to_range q s v y) (told_regions q.told) is in
+        let leads = (and_parts (any || is_line_on q s of.0) (leads_to_range q s v of.0) of.2).1 in
         let two = (and_parts (not (is_held_line of.0) && is_bridge f && is_behind f (line_bus of.0)) (leads_by q s f v.part of.0) leads).0 in
         let bridge = (and_parts (not (is_held_line of.0)) (is_bridge f) (and_parts (not (is_held_line of.0) && is_bridge f) (is_behind f (line_bus of.0)) two).0).1 in
         both_ways (is_bridge f) (ap is_bridge (sym same) ∙ sym (same_bridge x found.f found.is.value) ∙ ap is_some none) bridge))
@@ -127,17 +128,17 @@ module _ (q : Request) (s : System) (r : Region) (is : IsKnown q s r) where
       high_is : b.subordinate ≡ subordinate f
       high_is = ap (λ (y : DecodedBridge). y.subordinate) (same_bridge_of x found.f b found.is.value b_is) ∙ ap subordinate same
 
-      line_at : (k : ℕ) (d : ToldLine) (t : ToldRange) → k < length q.told.ranges → (y : ToldRegion) → get_or q.told.ranges k t ≡ y.told → leads_to_line r (get_or q.told.ranges k t) (get_or lines k d) ≡ (is_line_on q s y && (not (is_held_line y) && leads_by q s f v.part y))
+      line_at : (k : ℕ) (d : ToldLine) (t : ToldRange) → k < length q.told.ranges → (y : ToldRegion) → get_or q.told.ranges k t ≡ y.told → leads_to_line any r (get_or q.told.ranges k t) (get_or lines k d) ≡ ((any || is_line_on q s y) && (not (is_held_line y) && leads_by q s f v.part y))
       line_at k d t low y e =
-          ap (λ (z : ToldRange). leads_to_line r z (get_or lines k d)) e
+          ap (λ (z : ToldRange). leads_to_line any r z (get_or lines k d)) e
           ∙ line_is y (get_or lines k d) (subst (λ (z : ToldRange). IsToldLine q s z (get_or lines k d)) e (are.each k d t low))
 
-      pub leads_where : (k : ℕ) → first ≤ k → k < end → ((t : ToldRange) (d : ToldLine) → leads_to_line r (get_or q.told.ranges k t) (get_or lines k d) ≡ true) → (t : ToldRange) (d : ToldLine) → leads_to_one_on q s v ≡ true
+      pub leads_where : (k : ℕ) → first ≤ k → k < end → ((t : ToldRange) (d : ToldLine) → leads_to_line any r (get_or q.told.ranges k t) (get_or lines k d) ≡ true) → (t : ToldRange) (d : ToldLine) → leads_to_lines any q s v ≡ true
       leads_where k from up leads t d =
           let low : k < length q.told.ranges = omega (arith, up, end_bound) in
           let by = told_by 256 q.told.ranges k t low in
           let y = by.x in
-          let both = and_parts (is_line_on q s y) (not (is_held_line y) && leads_by q s f v.part y) (sym (line_at k d t low y (sym by.is)) ∙ leads t d) in
+          let both = and_parts (any || is_line_on q s y) (not (is_held_line y) && leads_by q s f v.part y) (sym (line_at k d t low y (sym by.is)) ∙ leads t d) in
           let other = and_parts (not (is_held_line y)) (leads_by q s f v.part y) both.1 in
           let between = between_to q.told.ranges b.secondary b.subordinate first end first_before first_after end_before end_after k t low from up in
           let b0 = between.0 in
@@ -146,16 +147,16 @@ module _ (q : Request) (s : System) (r : Region) (is : IsKnown q s r) where
           let h = high_is in
           let bus_is : (get_or q.told.ranges k t).slot.bus ≡ line_bus y = ap (λ (z : ToldRange). z.slot.bus) (sym by.is) in
           let behind : is_behind f (line_bus y) ≡ true = behind_of_within f (line_bus y) record { low = omega (arith, b0, l, bus_is); high = omega (arith, b1, h, bus_is) } in
-          any_from (λ z. is_line_on q s z && leads_to_range q s v z) (told_regions q.told) y by.has
-          (and_from (is_line_on q s y) (leads_to_range q s v y) both.0
+          any_from (λ z. (any || is_line_on q s z) && leads_to_range q s v z) (told_regions q.told) y by.has
+          (and_from (any || is_line_on q s y) (leads_to_range q s v y) both.0
           (and_from (not (is_held_line y) && is_bridge f && is_behind f (line_bus y)) (leads_by q s f v.part y)
           (and_from (not (is_held_line y) && is_bridge f) (is_behind f (line_bus y)) (and_from (not (is_held_line y)) (is_bridge f) other.0 bridge_is) behind) other.1))
 
-      pub leads_nowhere : ((k : ℕ) (t : ToldRange) (d : ToldLine) → first ≤ k → k < end → leads_to_line r (get_or q.told.ranges k t) (get_or lines k d) ≡ false) → (d : ToldLine) → leads_to_one_on q s v ≡ false
-      leads_nowhere none d = false_from_ne_true (leads_to_one_on q s v) (λ is.
-          let of = any_gives (λ y. is_line_on q s y && leads_to_range q s v y) (told_regions q.told) is in
+      pub leads_nowhere : ((k : ℕ) (t : ToldRange) (d : ToldLine) → first ≤ k → k < end → leads_to_line any r (get_or q.told.ranges k t) (get_or lines k d) ≡ false) → (d : ToldLine) → leads_to_lines any q s v ≡ false
+      leads_nowhere none d = false_from_ne_true (leads_to_lines any q s v) (λ is.
+          let of = any_gives (λ y. (any || is_line_on q s y) && leads_to_range q s v y) (told_regions q.told) is in
           let y = of.0 in
-          let both = and_parts (is_line_on q s y) (leads_to_range q s v y) of.2 in
+          let both = and_parts (any || is_line_on q s y) (leads_to_range q s v y) of.2 in
           let three = and_parts (not (is_held_line y) && is_bridge f && is_behind f (line_bus y)) (leads_by q s f v.part y) both.1 in
           let two = and_parts (not (is_held_line y) && is_bridge f) (is_behind f (line_bus y)) three.0 in
           let one = and_parts (not (is_held_line y)) (is_bridge f) two.0 in
@@ -167,17 +168,17 @@ module _ (q : Request) (s : System) (r : Region) (is : IsKnown q s r) where
           let wh = within_it.high in
           let bus_is : (get_or q.told.ranges at.k y.told).slot.bus ≡ line_bus y = ap (λ (z : ToldRange). z.slot.bus) at.is in
           let between = between_from q.told.ranges b.secondary b.subordinate first end first_before first_after end_before end_after at.k y.told at.within (omega (arith, l, wl, bus_is)) (omega (arith, h, wh, bus_is)) in
-          both_ways (leads_to_line r (get_or q.told.ranges at.k y.told) (get_or lines at.k d)) (none at.k y.told d between.0 between.1)
-          (line_at at.k d y.told at.within y at.is ∙ and_from (is_line_on q s y) (not (is_held_line y) && leads_by q s f v.part y) both.0 (and_from (not (is_held_line y)) (leads_by q s f v.part y) one.0 three.1)))
+          both_ways (leads_to_line any r (get_or q.told.ranges at.k y.told) (get_or lines at.k d)) (none at.k y.told d between.0 between.1)
+          (line_at at.k d y.told at.within y at.is ∙ and_from (any || is_line_on q s y) (not (is_held_line y) && leads_by q s f v.part y) both.0 (and_from (not (is_held_line y)) (leads_by q s f v.part y) one.0 three.1)))
 
     -- so it is told by what leads to some line between
     pub by_lines : (b : Bridge) → x.bridge ≡ Some b → (ranges : List ToldRange) → q.told.ranges ≡ ranges → (first end : ℕ) → end ≤ length ranges
         → AllWithin (λ (t : ToldRange). t.slot.bus < b.secondary) ranges 0 first → AllWithin (λ (t : ToldRange). b.secondary ≤ t.slot.bus) ranges first (length ranges)
         → AllWithin (λ (t : ToldRange). t.slot.bus < b.subordinate + 1) ranges 0 end → AllWithin (λ (t : ToldRange). b.subordinate + 1 ≤ t.slot.bus) ranges end (length ranges)
         → (result : Bool)
-        → (result ≡ true → (k : ℕ) × (first ≤ k) × (k < end) × ((t : ToldRange) (l : ToldLine) → leads_to_line r (get_or ranges k t) (get_or lines k l) ≡ true))
-        → (result ≡ false → (k : ℕ) (t : ToldRange) (l : ToldLine) → first ≤ k → k < end → leads_to_line r (get_or ranges k t) (get_or lines k l) ≡ false)
-        → result ≡ leads_to_one_on q s v
+        → (result ≡ true → (k : ℕ) × (first ≤ k) × (k < end) × ((t : ToldRange) (l : ToldLine) → leads_to_line any r (get_or ranges k t) (get_or lines k l) ≡ true))
+        → (result ≡ false → (k : ℕ) (t : ToldRange) (l : ToldLine) → first ≤ k → k < end → leads_to_line any r (get_or ranges k t) (get_or lines k l) ≡ false)
+        → result ≡ leads_to_lines any q s v
     by_lines b b_is ranges same_ranges first end bound before after end_before end_after result some none = elim (cases_Bool result) [
       | inl on ↦
           let there = some on in
@@ -186,12 +187,12 @@ module _ (q : Request) (s : System) (r : Region) (is : IsKnown q s r) where
           (subst (λ xs. AllWithin (λ (t : ToldRange). b.secondary ≤ t.slot.bus) xs first (length xs)) (sym same_ranges) after)
           (subst (λ xs. AllWithin (λ (t : ToldRange). t.slot.bus < b.subordinate + 1) xs 0 end) (sym same_ranges) end_before)
           (subst (λ xs. AllWithin (λ (t : ToldRange). b.subordinate + 1 ≤ t.slot.bus) xs end (length xs)) (sym same_ranges) end_after)
-          there.0 there.1 there.2 (λ t l. subst (λ (xs : List ToldRange). leads_to_line r (get_or xs there.0 t) (get_or lines there.0 l) ≡ true) (sym same_ranges) (there.3 t l)) no_range no_line)
+          there.0 there.1 there.2 (λ t l. subst (λ (xs : List ToldRange). leads_to_line any r (get_or xs there.0 t) (get_or lines there.0 l) ≡ true) (sym same_ranges) (there.3 t l)) no_range no_line)
       | inr off ↦
           off ∙ sym (leads_nowhere b b_is first end (subst (λ xs. end ≤ length xs) (sym same_ranges) bound)
           (subst (λ xs. AllWithin (λ (t : ToldRange). t.slot.bus < b.secondary) xs 0 first) (sym same_ranges) before)
           (subst (λ xs. AllWithin (λ (t : ToldRange). b.secondary ≤ t.slot.bus) xs first (length xs)) (sym same_ranges) after)
           (subst (λ xs. AllWithin (λ (t : ToldRange). t.slot.bus < b.subordinate + 1) xs 0 end) (sym same_ranges) end_before)
           (subst (λ xs. AllWithin (λ (t : ToldRange). b.subordinate + 1 ≤ t.slot.bus) xs end (length xs)) (sym same_ranges) end_after)
-          (λ k t l from up. subst (λ (xs : List ToldRange). leads_to_line r (get_or xs k t) (get_or lines k l) ≡ false) (sym same_ranges) (none off k t l from up)) no_line)
+          (λ k t l from up. subst (λ (xs : List ToldRange). leads_to_line any r (get_or xs k t) (get_or lines k l) ≡ false) (sym same_ranges) (none off k t l from up)) no_line)
     ]

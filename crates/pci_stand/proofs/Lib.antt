@@ -12,6 +12,7 @@ pub mod Leading
 pub mod LeadsNoted
 pub mod LineRowing
 pub mod OfRecord
+pub mod Opened
 pub mod OverBus
 pub mod PartRows
 pub mod Passing

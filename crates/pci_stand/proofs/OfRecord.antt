@@ -7,7 +7,7 @@ use Rattle.std.proofs.lemmas.List.{map-append}
 use Rattle.std.proofs.lemmas.List.Elements.{filter-append}
 use Rattle.pci_spec.specs.Slot.{same_slot}
 use Rattle.pci_spec.specs.Header.{layout, bar_count, bar_register, command}
-use Rattle.pci_spec.specs.Bar.{bar_at, has_bar, is_io, is_prefetchable}
+use Rattle.pci_spec.specs.Bar.{bar_at, has_bar, is_io}
 use Rattle.pci_spec.specs.Rom.{has_rom, rom_is_on}
 use Rattle.pci_spec.specs.Window.{WindowKind, IoWindow, MemoryWindow, PrefetchWindow, has_window, is_closed}
 use Rattle.pci_spec.specs.System.{System, Function, Part, Space, Io, Memory, Bar, Rom, Window, is_bridge, is_space_on, is_enabled, window_space, space_of}
@@ -37,8 +37,6 @@ use Rattle.pci_function.specs.declared.record.Record.{Record}
 use Rattle.pci_tree.specs.Passes.{range_in}
 use Rattle.pci_tree.proofs.Lifting.{same_bridge}
 use Rattle.pci_tree.proofs.RegionParts.{same_bridge_of}
-use Rattle.pci_place.specs.declared.above.Above.{Above}
-use Rattle.pci_place.specs.Above.{IsAbove}
 use Rattle.pci_place.specs.Classes.{is_io_kind}
 use Rattle.pci_place.specs.Items.{function_in}
 use Rattle.pci_place.specs.Records.{IsRecordOf}
@@ -47,14 +45,17 @@ use Rattle.pci_place.proofs.Mapped.{filter-map, kept_same}
 use Rattle.pci_place.proofs.Parts.{bars_in, bars_of, rom_of, rom_there}
 use Rattle.pci_place.proofs.ClassOf.{kind_io}
 use Rattle.pci_place.proofs.Owned.{map_twice, no_rom, lacking_above}
+use Rattle.pci_settle.specs.declared.over.Over.{Over}
 use Rattle.pci_settle.specs.declared.own.Terms.{Terms}
 use Rattle.pci_settle.specs.Slots.{demand_of}
-use Rattle.pci_settle.specs.Own.{AreTerms, is_left_bar}
+use Rattle.pci_settle.specs.Own.{AreTerms, is_left_bar, bar_class_of}
+use Rattle.pci_settle.specs.Over.{IsOverBus}
+use Rattle.pci_settle.proofs.OwnItems.{class_by}
 use Rattle.pci_stand.specs.declared.region.Owner.{Owner}
 use Rattle.pci_settle.specs.declared.kept.Part.{Part as CodePart}
 use Rattle.pci_settle.specs.declared.kept.Part.TheVariants as parts
 use Rattle.pci_settle.specs.Kept.{spec_part}
-use Rattle.pci_stand.specs.Regions.{owned_region, bar_space, owned_bar_region, owned_bar_regions, owned_window_regions, owned_bridge_regions, owned_rom_region, owned_rom_regions, record_regions}
+use Rattle.pci_stand.specs.Regions.{owned_region, kind_of, bar_space, owned_bar_region, owned_bar_regions, owned_window_regions, owned_bridge_regions, owned_rom_region, owned_rom_regions, record_regions}
 use Rattle.pci_stand.specs.Known.{Known, known, known_of}
 
 filter_twice : {X : Type 0} (has kept : X → Bool) (xs : List X) → filter (λ x. has x && kept x) xs ≡ filter kept (filter has xs)
@@ -65,9 +66,9 @@ filter_twice has kept (x ∷ xs) =
       | false ↦ filter_twice has kept xs
     ]
 
-known_same : (f g : Function) (p o : Part) (b c l m : ℕ) (x y on off : Bool) (a z : Space) (v w : Bool) (r t : Range) → f ≡ g → p ≡ o → b ≡ c → l ≡ m → x ≡ y → on ≡ off → a ≡ z → v ≡ w → r ≡ t
-    → ◌≡◌ {A = Known} record { region = record { function = f; part = p }; bus = b; level = l; fixed = x; on = on; space = a; prefetch = v; range = r }
-    record { region = record { function = g; part = o }; bus = c; level = m; fixed = y; on = off; space = z; prefetch = w; range = t }
+known_same : (f g : Function) (p o : Part) (b c l m : ℕ) (x y on off : Bool) (a z : Space) (v w : WindowKind) (r t : Range) → f ≡ g → p ≡ o → b ≡ c → l ≡ m → x ≡ y → on ≡ off → a ≡ z → v ≡ w → r ≡ t
+    → ◌≡◌ {A = Known} record { region = record { function = f; part = p }; bus = b; level = l; fixed = x; on = on; space = a; class = v; range = r }
+    record { region = record { function = g; part = o }; bus = c; level = m; fixed = y; on = off; space = z; class = w; range = t }
 known_same f g p o b c l m x y on off a z v w r t e1 e2 e3 e4 e5 e6 e7 e8 e9 = cc
 
 register_place : (register n : ℕ) → register ≡ bar_register n → (register - 0x10) / 4 ≡ n
@@ -85,6 +86,11 @@ bar_space_is bar_kinds.Mem64 = refl
 pub on_is : (n : ℕ) (f : Function) (space : Space) → n ≡ command f.image → code.is_on n space ≡ is_space_on f space
 on_is n f Io same = ap (λ m. code.is_on m Io) same
 on_is n f Memory same = ap (λ m. code.is_on m Memory) same
+
+kind_there : (c : WindowKind) → kind_value (kind_of c) ≡ c
+kind_there IoWindow = refl
+kind_there MemoryWindow = refl
+kind_there PrefetchWindow = refl
 
 with_true : (b : Bool) → (b && true) ≡ b
 with_true true = refl
@@ -152,7 +158,7 @@ pub record IsOwner (q : Request) (s : System) (f : Function) (o : Owner) (r : Re
   pub fixed : o.fixed ≡ list_any (same_slot f.slot) q.fixed
   pub command : o.command ≡ command f.image
 
-module _ (q : Request) (s : System) (f : Function) (o : Owner) (above : Above) (t : Terms) (r : Record) (owner : IsOwner q s f o r) (over : IsAbove s f.slot.bus above) (terms : AreTerms (demand_of q) t) where
+module _ (q : Request) (s : System) (f : Function) (o : Owner) (over : Over) (t : Terms) (r : Record) (owner : IsOwner q s f o r) (over_is : IsOverBus q s f.slot.bus over) (terms : AreTerms (demand_of q) t) where
   abbrev region : Part → FunctionPart
   region p = record { function = f; part = p }
 
@@ -160,38 +166,38 @@ module _ (q : Request) (s : System) (f : Function) (o : Owner) (above : Above) (
   value p = known_of q s (region p)
 
   -- a part of the code is one of the function where it has its space, and so on
-  owned_is : (part : CodePart) (p : Part) (space : CodeSpace) (z : Space) (prefetch : Bool) (w : Range) → spec_part part ≡ p → code.space_of space ≡ z → space_of f p ≡ z → is_enabled f p ≡ is_space_on f z
-      → prefetch ≡ (known_of q s (region p)).prefetch → w ≡ range_of f p → known s (owned_region o part space prefetch (range_of_decoded w)) ≡ value p
-  owned_is part p space z prefetch w is_part_value in_space of_space enabled led range =
+  owned_is : (part : CodePart) (p : Part) (space : CodeSpace) (z : Space) (class : CodeKind) (w : Range) → spec_part part ≡ p → code.space_of space ≡ z → space_of f p ≡ z → is_enabled f p ≡ is_space_on f z
+      → kind_value class ≡ (known_of q s (region p)).class → w ≡ range_of f p → known s (owned_region o part space class (range_of_decoded w)) ≡ value p
+  owned_is part p space z class w is_part_value in_space of_space enabled class_is range =
       known_same (function_in s o.function) f (spec_part part) p o.bus f.slot.bus o.level (value p).level o.fixed (value p).fixed
-      (code.is_on o.command (code.space_of space)) (is_enabled f p) (code.space_of space) (space_of f p) prefetch (value p).prefetch w (range_of f p)
+      (code.is_on o.command (code.space_of space)) (is_enabled f p) (code.space_of space) (space_of f p) (kind_value class) (value p).class w (range_of f p)
       owner.here is_part_value owner.bus owner.level owner.fixed
       (ap (code.is_on o.command) in_space ∙ on_is o.command f z owner.command ∙ sym enabled)
-      (in_space ∙ sym of_space) led range
+      (in_space ∙ sym of_space) class_is range
 
   -- ---- BARs
 
-  left_is : (bar : CodeBar) (n : ℕ) → decoded_bar_of bar ≡ decoded_bar f.image f.probe n → not (is_left_bar bar above t.has_io) ≡ not (is_left q s f (Bar n))
+  left_is : (bar : CodeBar) (n : ℕ) → decoded_bar_of bar ≡ decoded_bar f.image f.probe n → not (is_left_bar bar over.above t.has_io) ≡ not (is_left q s f (Bar n))
   left_is bar n e =
-      ap not (ap (λ b. b && not (t.has_io && above.io)) (kind_io f bar n e)
-      ∙ ap (λ b. is_io (bar_at f.probe n) && not (b && above.io)) terms.io
-      ∙ ap (λ b. is_io (bar_at f.probe n) && b) (not_and (is_empty q.lists.io) above.io)
-      ∙ ap (λ b. is_io (bar_at f.probe n) && (is_empty q.lists.io || b)) (lacking_above s f r owner.is above over))
+      ap not (ap (λ b. b && not (t.has_io && over.above.io)) (kind_io f bar n e)
+      ∙ ap (λ b. is_io (bar_at f.probe n) && not (b && over.above.io)) terms.io
+      ∙ ap (λ b. is_io (bar_at f.probe n) && b) (not_and (is_empty q.lists.io) over.above.io)
+      ∙ ap (λ b. is_io (bar_at f.probe n) && (is_empty q.lists.io || b)) (lacking_above s f r owner.is over.above over_is.above))
 
-  bar_value : (bar : CodeBar) (n : ℕ) → decoded_bar_of bar ≡ decoded_bar f.image f.probe n → known s (owned_bar_region o above bar) ≡ value (Bar n)
+  bar_value : (bar : CodeBar) (n : ℕ) → decoded_bar_of bar ≡ decoded_bar f.image f.probe n → known s (owned_bar_region o over t bar) ≡ value (Bar n)
   bar_value bar n e =
-      owned_is (parts.Bar ((bar.reg - 0x10) / 4)) (Bar n) (bar_space bar.kind) (space_of f (Bar n)) (bar.prefetch && above.pref) (record { first = bar.first; last = bar.last })
+      owned_is (parts.Bar ((bar.reg - 0x10) / 4)) (Bar n) (bar_space bar.kind) (space_of f (Bar n)) (kind_of (bar_class_of bar over t.prefetch_last)) (record { first = bar.first; last = bar.last })
       (ap Bar (register_place bar.reg n (ap (λ (x : DecodedBar). x.register) e)))
       (bar_space_is bar.kind ∙ ap (λ b. cond b Io Memory) (kind_io f bar n e))
       refl refl
-      (ap (λ b. b && above.pref) (ap (λ (x : DecodedBar). x.prefetchable) e) ∙ ap (λ b. is_prefetchable (bar_at f.probe n) && b) over.pref)
+      (kind_there (bar_class_of bar over t.prefetch_last) ∙ class_by q s f r over t owner.is terms over_is bar n e)
       (ap (λ (x : DecodedBar). x.range) e)
 
-  bars_are : map (known s) (owned_bar_regions o above t r.bars.items) ≡ map value (filter (is_part q s f) (header_bars f))
+  bars_are : map (known s) (owned_bar_regions o over t r.bars.items) ≡ map value (filter (is_part q s f) (header_bars f))
   bars_are =
       let all = range_with_len 0 (bar_count (layout f.image)) in
-      map_twice (known s) (owned_bar_region o above) (filter (λ bar. not (is_left_bar bar above t.has_io)) r.bars.items)
-      ∙ kept_same decoded_bar_of (decoded_bar f.image f.probe) (λ bar. not (is_left_bar bar above t.has_io)) (λ n. not (is_left q s f (Bar n))) left_is (λ bar. known s (owned_bar_region o above bar)) (λ n. value (Bar n)) bar_value
+      map_twice (known s) (owned_bar_region o over t) (filter (λ bar. not (is_left_bar bar over.above t.has_io)) r.bars.items)
+      ∙ kept_same decoded_bar_of (decoded_bar f.image f.probe) (λ bar. not (is_left_bar bar over.above t.has_io)) (λ n. not (is_left q s f (Bar n))) left_is (λ bar. known s (owned_bar_region o over t bar)) (λ n. value (Bar n)) bar_value
       r.bars.items (bars_in f) (bars_of s f r owner.is)
       ∙ ap (map (λ n. value (Bar n))) (sym (filter_twice (has_bar f.probe) (λ n. not (is_left q s f (Bar n))) all))
       ∙ sym (map_twice value Bar (filter (λ n. is_part q s f (Bar n)) all))
@@ -207,7 +213,7 @@ module _ (q : Request) (s : System) (f : Function) (o : Owner) (above : Above) (
   window_if c kind space w named in_space is = elim (cases_Bool (is_open f c)) [
     | inl opens ↦
         ap (λ x. map (known s) (owned_window_regions o kind space x)) (is ∙ ap (λ b. cond b (Some (range_of f (Window c))) None) opens)
-        ∙ ap (λ k. k ∷ []) (owned_is (parts.Window kind) (Window c) space (window_space c) false (range_of f (Window c)) (ap Window named) in_space refl refl refl refl)
+        ∙ ap (λ k. k ∷ []) (owned_is (parts.Window kind) (Window c) space (window_space c) kind (range_of f (Window c)) (ap Window named) in_space refl refl named refl)
         ∙ sym (ap (λ b. map value (one b (Window c))) opens)
     | inr closed ↦
         ap (λ x. map (known s) (owned_window_regions o kind space x)) (is ∙ ap (λ b. cond b (Some (range_of f (Window c))) None) closed)
@@ -242,7 +248,7 @@ module _ (q : Request) (s : System) (f : Function) (o : Owner) (above : Above) (
       elim (cases_Bool (rom_is_on f.image)) [
         | inl is_on ↦
             ap (λ b. map (known s) (cond b (owned_rom_region o rom ∷ []) [])) (on ∙ is_on)
-            ∙ ap (λ k. k ∷ []) (owned_is parts.Rom Rom spaces.Mem Memory false (record { first = rom.first; last = rom.last }) refl refl refl
+            ∙ ap (λ k. k ∷ []) (owned_is parts.Rom Rom spaces.Mem Memory kinds.Memory (record { first = rom.first; last = rom.last }) refl refl refl
             (ap (λ b. is_space_on f Memory && b) is_on ∙ with_true (is_space_on f Memory)) refl (ap (λ (x : DecodedRom). x.range) there.1))
             ∙ sym (ap (λ b. map value (one (b && rom_is_on f.image) Rom)) there.0 ∙ ap (λ b. map value (one b Rom)) is_on)
         | inr off ↦
@@ -255,12 +261,12 @@ module _ (q : Request) (s : System) (f : Function) (o : Owner) (above : Above) (
   others_are : filter (is_part q s f) (Window IoWindow ∷ Window MemoryWindow ∷ Window PrefetchWindow ∷ Rom ∷ []) ≡ windows ++ one (is_part q s f Rom) Rom
   others_are = four (is_open f IoWindow) (is_open f MemoryWindow) (is_open f PrefetchWindow) (is_part q s f Rom) (Window IoWindow) (Window MemoryWindow) (Window PrefetchWindow) Rom
 
-  pub record_parts : map (known s) (record_regions o above t r) ≡ map (known_of q s) (function_parts q s f)
+  pub record_parts : map (known s) (record_regions o over t r) ≡ map (known_of q s) (function_parts q s f)
   record_parts =
       let bars = filter (is_part q s f) (header_bars f) in
       let rom = one (is_part q s f Rom) Rom in
-      map-append (known s) (owned_bar_regions o above t r.bars.items) (owned_bridge_regions o r.bridge ++ owned_rom_regions o r.rom)
-      ∙ ap (λ xs. map (known s) (owned_bar_regions o above t r.bars.items) ++ xs) (map-append (known s) (owned_bridge_regions o r.bridge) (owned_rom_regions o r.rom))
+      map-append (known s) (owned_bar_regions o over t r.bars.items) (owned_bridge_regions o r.bridge ++ owned_rom_regions o r.rom)
+      ∙ ap (λ xs. map (known s) (owned_bar_regions o over t r.bars.items) ++ xs) (map-append (known s) (owned_bridge_regions o r.bridge) (owned_rom_regions o r.rom))
       ∙ ap (λ xs. xs ++ (map (known s) (owned_bridge_regions o r.bridge) ++ map (known s) (owned_rom_regions o r.rom))) bars_are
       ∙ ap (λ xs. map value bars ++ (xs ++ map (known s) (owned_rom_regions o r.rom))) (windows_by r.bridge refl)
       ∙ ap (λ xs. map value bars ++ (map value windows ++ xs)) (roms_are r.rom (rom_of s f r owner.is))

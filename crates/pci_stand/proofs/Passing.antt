@@ -12,7 +12,7 @@ use Rattle.pci_spec.specs.Bus.{is_root, are_siblings, IsNested}
 use Rattle.pci_spec.proofs.Members.{in_nil, in_map_to, in_map_from, IsMade}
 use Rattle.settle_spec.specs.FirstPlace.{ranges_are_apart}
 use Rattle.settle_spec.specs.Lists.{Request}
-use Rattle.settle_spec.specs.Parts.{FunctionPart, system_parts, addresses, is_part, are_same_space}
+use Rattle.settle_spec.specs.Parts.{FunctionPart, system_parts, addresses, are_same_space}
 use Rattle.settle_spec.specs.Stands.{part_space, is_in_place, takes_from, precedes, is_kept_off, leads_to_told, stands_if}
 use Rattle.stand_laws.specs.Order.{level, comes_first}
 use Rattle.stand_laws.specs.Passes.{IsAmong, AreTakenBeside}
@@ -209,23 +209,20 @@ module _ (q : Request) (s : System) (nested : IsNested q.roots s) (rs : List Cod
           ∙ sym (list_all-map (λ (x : DecodedRange). ranges_are_apart x (addresses v)) decoded_range_of (taken_in space))
           ∙ free_of_taken q s nested vs ordered.order count test passed.told (let l = long in omega (arith, within, l)) v v_is (map decoded_range_of (taken_in space)) (beside_taken space of)
 
-      -- so it stands where no line keeps it off, it is in place, and is free
-      pub stands_where : q.anew ≡ false → (space : Space) → space ≡ part_space v → stands_if q s test v ≡ (not (is_kept_off q s v) && (is_in_place q s test v && is_free r.range (in_space space io mem)))
-      stands_where none space of =
+      -- so it stands where no line keeps it off, it can, is in place, and is free
+      pub stands_where : (space : Space) → space ≡ part_space v → stands_if q s test v ≡ (not (is_kept_off q s v) && (r.can_stand && (is_in_place q s test v && is_free r.range (in_space space io mem))))
+      stands_where space of =
           let free = list_all (λ t. not (takes_from q s t v && test t)) (system_parts q s) in
-          ap (λ b. not (is_kept_off q s v) && (leads_to_told q s v || not b) && is_part q s v.function v.part && is_in_place q s test v && free) none
-          ∙ ap (λ b. not (is_kept_off q s v) && b && is_part q s v.function v.part && is_in_place q s test v && free) (or_true (leads_to_told q s v))
-          ∙ ap (λ b. not (is_kept_off q s v) && true && b && is_in_place q s test v && free) (part_of q s v is_known.is.listed).is
-          ∙ grouped (not (is_kept_off q s v)) (is_in_place q s test v) free
-          ∙ ap (λ b. not (is_kept_off q s v) && (is_in_place q s test v && b)) (sym (free_is space of))
+          let can = leads_to_told q s v || not q.anew in
+          ap (λ b. not (is_kept_off q s v) && can && b && is_in_place q s test v && free) (part_of q s v is_known.is.listed).is
+          ∙ grouped (not (is_kept_off q s v)) can (is_in_place q s test v) free
+          ∙ ap (λ b. not (is_kept_off q s v) && (b && (is_in_place q s test v && free))) (sym is_known.leads.can)
+          ∙ ap (λ b. not (is_kept_off q s v) && (r.can_stand && (is_in_place q s test v && b))) (sym (free_is space of))
         where
-          or_true : (b : Bool) → (b || true) ≡ true
-          or_true true = refl
-          or_true false = refl
-
-          grouped : (a b c : Bool) → (a && true && true && b && c) ≡ (a && (b && c))
-          grouped true b c = refl
-          grouped false b c = refl
+          grouped : (a b c d : Bool) → (a && b && true && c && d) ≡ (a && (b && (c && d)))
+          grouped true true c d = refl
+          grouped true false c d = refl
+          grouped false b c d = refl
 
       -- it isn't told yet
       not_yet : test v ≡ false

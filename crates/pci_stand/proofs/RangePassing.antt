@@ -1,5 +1,5 @@
 -- What is in the way of a told range, by rows of its bus and space.
-use Rattle.std.proofs.Common.{◌≡◌, ℕ, inl, inr, List, ◌++◌, map, Bool, true, false, ◌&&◌, ◌||◌, not, sym, ◌∙◌, ap, subst}
+use Rattle.std.proofs.Common.{◌≡◌, ℕ, inl, inr, List, ◌++◌, map, Bool, true, ◌&&◌, ◌||◌, not, sym, ◌∙◌, ap, subst}
 use Rattle.std.specs.Bool.{◌==◌}
 use Rattle.std.specs.List.{Contains, filter, list_any, list_all}
 use Rattle.std.proofs.lemmas.Bool.{cases_Bool, and_parts, and_from, both_ways, or_left, or_right, or_cases, eqb-true, eq-eqb, not-true, not_from_false, false_from_ne_true}
@@ -14,7 +14,7 @@ use Rattle.settle_spec.specs.FirstPlace.{ranges_are_apart}
 use Rattle.settle_spec.specs.Lists.{Request}
 use Rattle.settle_spec.specs.Parts.{are_same_space}
 use Rattle.settle_spec.specs.Lines.{line_bus, line_range, is_line_of}
-use Rattle.settle_spec.specs.Stands.{part_space, stands}
+use Rattle.settle_spec.specs.Stands.{part_space}
 use Rattle.stand_laws.specs.Order.{level}
 use Rattle.stand_laws.specs.Told.Passes.{AreTakenBesideLine}
 use Rattle.stand_laws.proofs.Standing.{one_level}

@@ -3,7 +3,7 @@ use Rattle.std.proofs.Common.{◌≡◌, ◌≢◌, ℕ, inl, inr, List, Bool, t
 use Rattle.std.specs.Bool.{◌==◌}
 use Rattle.std.specs.List.{Contains, filter, list_any}
 use Rattle.std.proofs.lemmas.Bool.{cases_Bool, both_ways, eq-eqb, ne_eqb, not-true}
-use Rattle.pci_spec.specs.Slot.{Slot, IsSlot, slot_number}
+use Rattle.pci_spec.specs.Slot.{IsSlot, slot_number}
 use Rattle.pci_spec.proofs.Members.{in_filter_to, in_filter_from, pairs_filter}
 use Rattle.given_spec.specs.Told.{ToldRange, IsTold}
 use Rattle.given_spec.specs.ToldRegion.{ToldRegion, told_regions, told_extent}

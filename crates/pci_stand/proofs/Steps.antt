@@ -31,7 +31,7 @@ moved q s rs count bus other io io_too mem mem_too table same same_io same_mem i
     subst (λ n. AreFirstPassed q s rs count (taken_with n io_too mem_too) table) (sym same)
     (subst (λ xs. AreFirstPassed q s rs count (taken_with bus xs mem_too) table) (sym same_io) (subst (λ xs. AreFirstPassed q s rs count (taken_with bus io xs) table) (sym same_mem) is))
 
-module _ (q : Request) (s : System) (system : IsSystem s) (nested : IsNested q.roots s) (none : q.anew ≡ false) (rs : List CodeRegion) (ordered : AreOrdered q s rs) (count : ℕ) (within : count < length rs) (r : CodeRegion) (r_is : r ≡ get_or rs count r)
+module _ (q : Request) (s : System) (system : IsSystem s) (nested : IsNested q.roots s) (rs : List CodeRegion) (ordered : AreOrdered q s rs) (count : ℕ) (within : count < length rs) (r : CodeRegion) (r_is : r ≡ get_or rs count r)
     (bus level : ℕ) (old_io old_mem io mem : List Range) (table : List Kept) (to : IsGoneTo r.level (taken_with bus old_io old_mem) (taken_with level io mem)) (before : AreFirstPassed q s rs count (taken_with bus old_io old_mem) table) where
   abbrev v : FunctionPart
   v = region_value s r
@@ -54,24 +54,29 @@ module _ (q : Request) (s : System) (system : IsSystem s) (nested : IsNested q.r
   abbrev free_there : Bool
   free_there = is_free r.range (in_space space io mem)
 
-  where_so : (a b c : Bool) → a ≡ is_kept_off q s v → b ≡ is_in_place q s (stands_in s table) v → c ≡ free_there → stands_if q s (stands_in s table) v ≡ (not a && (b && c))
-  where_so a b c x y z =
-      stands_where q s nested rs ordered count within r r_is io mem table here none space of
-      ∙ ap (λ w. not w && (is_in_place q s (stands_in s table) v && free_there)) (sym x)
-      ∙ ap (λ w. not a && (w && free_there)) (sym y)
-      ∙ ap (λ w. not a && (b && w)) (sym z)
+  where_so : (a m b c : Bool) → a ≡ is_kept_off q s v → m ≡ r.can_stand → b ≡ is_in_place q s (stands_in s table) v → c ≡ free_there → stands_if q s (stands_in s table) v ≡ (not a && (m && (b && c)))
+  where_so a m b c x can y z =
+      stands_where q s nested rs ordered count within r r_is io mem table here space of
+      ∙ ap (λ w. not w && (r.can_stand && (is_in_place q s (stands_in s table) v && free_there))) (sym x)
+      ∙ ap (λ w. not a && (w && (is_in_place q s (stands_in s table) v && free_there))) (sym can)
+      ∙ ap (λ w. not a && (m && (w && free_there))) (sym y)
+      ∙ ap (λ w. not a && (m && (b && w))) (sym z)
 
   stands_not : stands_if q s (stands_in s table) v ≡ false → AreFirstPassed q s rs (count + 1) (taken_with level io mem) table
   stands_not off = there level io mem table refl (told_not q s nested rs ordered count within r r_is io mem table here off)
 
   -- what a line keeps off doesn't stand
   pub kept_away : is_kept_off q s v ≡ true → AreFirstPassed q s rs (count + 1) (taken_with level io mem) table
-  kept_away on = stands_not (where_so true (is_in_place q s (stands_in s table) v) free_there (sym on) refl refl)
+  kept_away on = stands_not (where_so true r.can_stand (is_in_place q s (stands_in s table) v) free_there (sym on) refl refl refl)
+
+  -- nor does what can't
+  pub cannot : r.can_stand ≡ false → AreFirstPassed q s rs (count + 1) (taken_with level io mem) table
+  cannot off = stands_not (where_so (is_kept_off q s v) false (is_in_place q s (stands_in s table) v) free_there refl (sym off) refl refl ∙ and_right (not (is_kept_off q s v)) false refl)
 
   module _ (in_place : Bool) (told : in_place ≡ is_in_place q s (stands_in s table) v) where
     -- nor does what isn't where it can stand
     pub out_of_place : in_place ≡ false → AreFirstPassed q s rs (count + 1) (taken_with level io mem) table
-    out_of_place off = stands_not (where_so (is_kept_off q s v) false free_there refl (sym off ∙ told) refl ∙ and_right (not (is_kept_off q s v)) false refl)
+    out_of_place off = stands_not (where_so (is_kept_off q s v) r.can_stand false free_there refl refl (sym off ∙ told) refl ∙ ap (λ b. not (is_kept_off q s v) && b) (and_right r.can_stand false refl) ∙ and_right (not (is_kept_off q s v)) false refl)
 
     module _ (free : Bool) (free_is : free ≡ is_free r.range (in_space space io mem)) (new_level : ℕ) (new_io new_mem : List Range) (same : new_level ≡ level) (other : in_other space new_io new_mem ≡ in_other space io mem)
         (took : IsWithTaken free r.range (in_space space io mem) (in_space space new_io new_mem)) where
@@ -83,12 +88,13 @@ module _ (q : Request) (s : System) (system : IsSystem s) (nested : IsNested q.r
           (subst (λ xs. AreFirstPassed q s rs (count + 1) (taken_with new_level io xs) table) (sym kept.1)
           (there new_level io mem table same
           (told_not q s nested rs ordered count within r r_is io mem table here
-          (where_so (is_kept_off q s v) in_place false refl told (sym off ∙ free_is) ∙ ap (λ b. not (is_kept_off q s v) && b) (and_right in_place false refl) ∙ and_right (not (is_kept_off q s v)) false refl))))
+          (where_so (is_kept_off q s v) r.can_stand in_place false refl refl told (sym off ∙ free_is) ∙ ap (λ b. not (is_kept_off q s v) && (r.can_stand && b)) (and_right in_place false refl)
+          ∙ ap (λ b. not (is_kept_off q s v) && b) (and_right r.can_stand false refl) ∙ and_right (not (is_kept_off q s v)) false refl))))
 
       -- all else does
-      pub stands_there : is_kept_off q s v ≡ false → in_place ≡ true → free ≡ true → (entry : Kept) (next : List Kept) → next ≡ set table r.function entry → kept_of entry (spec_part r.part) ≡ true
+      pub stands_there : is_kept_off q s v ≡ false → r.can_stand ≡ true → in_place ≡ true → free ≡ true → (entry : Kept) (next : List Kept) → next ≡ set table r.function entry → kept_of entry (spec_part r.part) ≡ true
           → (d : Kept) → ((o : Part) → (o ≡ spec_part r.part → ⊥) → kept_of entry o ≡ kept_of (get_or table r.function d) o) → AreFirstPassed q s rs (count + 1) (taken_with new_level new_io new_mem) next
-      stands_there fine is free_on entry next put noted d others =
+      stands_there fine can is free_on entry next put noted d others =
           let low = (is_known q s nested rs ordered count within r r_is).is.within in
           let size = here.size in
           let inside : r.function < length table = omega (arith, low, size) in
@@ -100,5 +106,5 @@ module _ (q : Request) (s : System) (system : IsSystem s) (nested : IsNested q.r
           (told_so q s nested rs ordered count within r r_is io mem table here (set table r.function entry) (length-set table r.function entry ∙ size)
           (noted_here s system table r.function (function_in s r.function) at inside (spec_part r.part) entry true noted kept)
           (noted_others s system table r.function (function_in s r.function) at inside (spec_part r.part) entry true noted kept)
-          (where_so false true true (sym fine) (sym is ∙ told) (sym free_on ∙ free_is))
+          (where_so false true true true (sym fine) (sym can) (sym is ∙ told) (sym free_on ∙ free_is))
           space of new_io new_mem (subst (λ b. IsWithTaken b r.range (in_space space io mem) (in_space space new_io new_mem)) free_on took) other))

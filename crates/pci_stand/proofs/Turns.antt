@@ -1,7 +1,7 @@
 -- The turns of told ranges: those that are on, and then those that are off.
 use Rattle.std.proofs.Common.{◌≡◌, ℕ, suc, ◌+◌, ◌-◌, ◌<◌, ◌≤◌, List, [], ◌∷◌, ◌++◌, map, length, get_or, replicate, Bool, true, false, cond, not, arith, sym, ◌∙◌, ap, subst, refl, inl, inr}
 use Rattle.std.specs.Bool.{beq}
-use Rattle.std.specs.List.{All, Contains, filter, range_with_len, slice_get}
+use Rattle.std.specs.List.{All, Contains, filter, range_with_len}
 use Rattle.std.proofs.lemmas.Bool.{cases_lt, both_ways}
 use Rattle.std.proofs.lemmas.List.{length-replicate, get_or_past, get_or-replicate, map-append}
 use Rattle.std.proofs.lemmas.List.Elements.{Contains-append_cases, Contains-get_or}

@@ -137,10 +137,10 @@ module _ (q : Request) (s : System) where
         ])
 
     turn_r : turn_of r ≡ turn_number (leads_to_one_on q s v) (is_fixed_part q v) (is_part_on v)
-    turn_r = ap (λ b. turn_number b r.fixed r.on) r_known.leads ∙ ap (λ (k : Known). turn_number (leads_to_one_on q s v) k.fixed k.on) r_is.all
+    turn_r = ap (λ b. turn_number b r.fixed r.on) r_known.leads.leads ∙ ap (λ (k : Known). turn_number (leads_to_one_on q s v) k.fixed k.on) r_is.all
 
     turn_t : turn_of t ≡ turn_number (leads_to_one_on q s w) (is_fixed_part q w) (is_part_on w)
-    turn_t = ap (λ b. turn_number b t.fixed t.on) t_known.leads ∙ ap (λ (k : Known). turn_number (leads_to_one_on q s w) k.fixed k.on) t_is.all
+    turn_t = ap (λ b. turn_number b t.fixed t.on) t_known.leads.leads ∙ ap (λ (k : Known). turn_number (leads_to_one_on q s w) k.fixed k.on) t_is.all
 
     turn_first : (turn_of r < turn_of t) ⊎ ((turn_of r ≡ turn_of t) × ((span_of t < span_of r) ⊎ ((span_of r ≡ span_of t) × (number r < number t)))) → precedes q s v w ≡ true
     turn_first h =

@@ -1,5 +1,5 @@
 -- The board that is gone over, and what its parts are known by.
-use Rattle.std.specs.Prelude.{◌≡◌, ◌<◌, IsTrue, IsFalse, List, map, length}
+use Rattle.std.specs.Prelude.{◌≡◌, ◌<◌, IsTrue, List, map, length}
 use Rattle.std.specs.List.{Contains}
 use Rattle.pci_spec.specs.Window.{WindowKind}
 use Rattle.pci_spec.specs.Decoded.{HasRecords}
@@ -23,13 +23,12 @@ pub record IsTree (q : Request) (s : System) (records : List Record) : Type 0 wh
   pub system : IsSystem s
   pub nested : IsNested q.roots s
 
--- and with these lists, of which nothing is placed anew
+-- and with these lists
 pub record IsBoard (q : Request) (s : System) (records : List Record) (lists : Lists) : Type 0 where
   pub has : HasRecords s (map record_value records)
   pub system : IsSystem s
   pub nested : IsNested q.roots s
   pub same : q.lists ≡ lists
-  pub stands : IsFalse q.anew
 
 -- a part of the system, of which the code knows all but what it leads to
 pub record IsKnown (q : Request) (s : System) (r : Region) : Type 0 where

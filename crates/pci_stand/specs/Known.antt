@@ -1,33 +1,37 @@
 -- What the code knows of a part that can stand, and what there is to know.
-use Rattle.std.specs.Prelude.{◌≡◌, ℕ, ◌<◌, ◌≤◌, Bool, false, ◌&&◌, List, map, length}
-use Rattle.std.specs.List.{All, list_any, list_all}
+use Rattle.std.specs.Prelude.{◌≡◌, ℕ, ◌<◌, ◌≤◌, Bool, List, map, length}
+use Rattle.std.specs.List.{All, list_any}
 use Rattle.pci_spec.specs.Slot.{Slot, same_slot}
-use Rattle.pci_spec.specs.Window.{PrefetchWindow, has_window}
+use Rattle.pci_spec.specs.Window.{WindowKind}
 use Rattle.pci_spec.specs.Decoded.{Range}
-use Rattle.pci_spec.specs.System.{System, Space, is_enabled, is_prefetchable_part, space_of}
-use Rattle.plan_spec.specs.Plan.{bridges_above}
+use Rattle.pci_spec.specs.System.{System, Space, is_enabled, space_of}
 use Rattle.plan_spec.specs.Planning.Layout.{range_of}
 use Rattle.settle_spec.specs.Lists.{Request}
-use Rattle.settle_spec.specs.Parts.{FunctionPart, system_parts}
+use Rattle.settle_spec.specs.Parts.{FunctionPart, system_parts, class_in}
 use Rattle.stand_laws.specs.Order.{level}
 use Rattle.pci_base.specs.Ranges.{decoded_range_of}
 use Rattle.pci_base.specs.Space as code
+use Rattle.pci_base.specs.WindowKinds.{kind_value}
 use Rattle.pci_place.specs.Items.{function_in}
 use Rattle.pci_stand.specs.declared.region.Region.{Region as CodeRegion}
+use Rattle.pci_stand.specs.declared.rules.Rules.{Rules}
 use Rattle.pci_settle.specs.Kept.{spec_part}
 use Rattle.pci_settle.specs.Slots.{Demand}
 
--- what is asked for: nothing is placed anew
-abbrev pub asked : List ℕ → Demand → List Slot → Request
-asked roots d fixed = record {
+-- what is asked for: functions that may not be written, and whether all is placed anew
+abbrev pub asked : List ℕ → Demand → List Slot → Bool → Request
+asked roots d fixed anew = record {
   roots = roots;
   lists = d.lists;
   fixed = fixed;
-  anew = false;
+  anew = anew;
   slots = d.slots;
   spares = d.spares;
   told = d.told;
 }
+
+abbrev pub asked_by : List ℕ → Demand → Rules → Request
+asked_by roots d rules = asked roots d rules.fixed.now rules.anew
 
 pub record Known : Type 0 where
   pub region : FunctionPart
@@ -36,7 +40,7 @@ pub record Known : Type 0 where
   pub fixed : Bool
   pub on : Bool
   pub space : Space
-  pub prefetch : Bool
+  pub class : WindowKind
   pub range : Range
 
 abbrev pub region_value : System → CodeRegion → FunctionPart
@@ -50,13 +54,9 @@ known s r = record {
   fixed = r.fixed;
   on = r.on;
   space = code.space_of r.space;
-  prefetch = r.prefetch;
+  class = kind_value r.class;
   range = decoded_range_of r.range;
 }
-
--- whether each bridge above a bus has a prefetchable window
-abbrev pub is_led : System → ℕ → Bool
-is_led s bus = list_all (λ b. has_window PrefetchWindow b.probe) (bridges_above s bus)
 
 abbrev pub known_of : Request → System → FunctionPart → Known
 known_of q s r = record {
@@ -66,7 +66,7 @@ known_of q s r = record {
   fixed = list_any (same_slot r.function.slot) q.fixed;
   on = is_enabled r.function r.part;
   space = space_of r.function r.part;
-  prefetch = is_prefetchable_part r.function r.part && is_led s r.function.slot.bus;
+  class = class_in q s r.function r.part;
   range = range_of r.function r.part;
 }
 

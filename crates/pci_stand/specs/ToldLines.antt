@@ -1,5 +1,5 @@
 -- What is known of told ranges, as they lie in a system.
-use Rattle.std.specs.Prelude.{◌≡◌, ℕ, ◌<◌, Bool, ◌&&◌, not, List, length, slice_index_or}
+use Rattle.std.specs.Prelude.{◌≡◌, ℕ, ◌<◌, Bool, ◌&&◌, ◌||◌, not, List, length, slice_index_or}
 use Rattle.pci_spec.specs.Decoded.{Range}
 use Rattle.pci_spec.specs.System.{System, Space}
 use Rattle.plan_spec.specs.Plan.{same_class}
@@ -43,8 +43,8 @@ part_leads_to (parts.Window kind) space r t line =
 part_leads_to (parts.Bar n) space r t line = is_marked_always t.mark && are_same_space space t.space
 part_leads_to parts.Rom space r t line = is_marked_always t.mark && are_same_space space t.space
 
--- and this one is on
-abbrev pub leads_to_line : Region → ToldRange → ToldLine → Bool
-leads_to_line r t line =
-    line.on && not (is_marked_held t.mark)
+-- and this one is on, or any one counts
+abbrev pub leads_to_line : Bool → Region → ToldRange → ToldLine → Bool
+leads_to_line any r t line =
+    (any || line.on) && not (is_marked_held t.mark)
     && part_leads_to r.part (code.space_of r.space) (decoded_range_of r.range) t line

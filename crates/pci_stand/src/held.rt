@@ -11,6 +11,7 @@ ghost use Rattle.pci_stand.specs.Held.{is_kept, kept_range, held_of, held_level,
 
 use crate::collect::regions;
 use crate::region::Region;
+use crate::rules::Rules;
 use pci_base::memory::OutOfMemory;
 use pci_base::range::Range;
 use pci_base::space::Space;
@@ -101,7 +102,12 @@ pub fn held_parts<A: Allocator + Copy, B: Allocator>(
     if kept.is_empty() {
         return Ok(held);
     }
-    let regions = regions(alloc, admitted, lists, &[])?;
+    // where the parts lie is the same whatever may move
+    let rules = Rules {
+        fixed: &[],
+        anew: false,
+    };
+    let regions = regions(alloc, admitted, lists, &rules)?;
     add_held(&mut held, regions.as_slice(), kept, grown)?;
     sort_by_level(&mut held);
     Ok(held)

@@ -1,15 +1,15 @@
-//! Which parts of a bridge lead to a told range that is on: an open window of its class that holds it whole, and a BAR or a ROM
+//! Which parts of a bridge lead to a told range: an open window of its class that holds it whole, and a BAR or a ROM
 //! of its space where it is answered whatever Command says.
-ghost use Rattle.std.specs.Prelude.{◌≡◌, ◌<◌, ◌≤◌, ℕ, IsTrue, IsFalse, length, slice_index_or};
+ghost use Rattle.std.specs.Prelude.{◌≡◌, ◌<◌, ◌≤◌, ◌||◌, not, ℕ, IsTrue, IsFalse, length, slice_index_or};
 ghost use Rattle.std.specs.List.{All};
 ghost use Rattle.pci_spec.specs.System.{System};
 ghost use Rattle.settle_spec.specs.Lists.{Request};
-ghost use Rattle.settle_spec.specs.Stands.{leads_to_one_on};
+ghost use Rattle.settle_spec.specs.Stands.{leads_to_told};
 ghost use Rattle.given_spec.specs.Told.{IsTold, ToldRange as RangeValue};
 ghost use Rattle.pci_stand.specs.Boards.{IsTree, IsKnown};
 ghost use Rattle.pci_stand.specs.Known.{region_value, AreParts};
 ghost use Rattle.pci_stand.specs.ToldLines.{AreToldLines, leads_to_line};
-ghost use Rattle.pci_stand.specs.Leads.{AreKnownParts};
+ghost use Rattle.pci_stand.specs.Leads.{leads_to_lines, noted, AreKnownParts};
 
 use crate::region::Region;
 use crate::told_line::{ToldLine, extent, first_above, first_from};
@@ -25,11 +25,11 @@ pub struct Told<'a> {
     pub lines: &'a [ToldLine],
 }
 
-/// Whether a part of a bridge leads to a told range behind it, and that is on.
-fn leads_to(region: &Region, range: &ToldRange, line: ToldLine) -> bool
-    ensures { result ≡ leads_to_line region.now range.now line }
+/// Whether a part of a bridge leads to a told range behind it that is on, or to any.
+fn leads_to(region: &Region, range: &ToldRange, line: ToldLine, any: bool) -> bool
+    ensures { result ≡ leads_to_line any region.now range.now line }
 {
-    if !line.on || range.is_held() {
+    if !(any || line.on) || range.is_held() {
         return false;
     }
     match region.part {
@@ -40,53 +40,81 @@ fn leads_to(region: &Region, range: &ToldRange, line: ToldLine) -> bool
     }
 }
 
-/// Whether a part leads to a told range that is on, of those from an index up to another.
-fn leads_to_some(told: &Told, first: usize, end: usize, region: &Region) -> bool
+/// Whether a part leads to a told range that is on, or to any, of those from an index up to another.
+fn leads_to_some(told: &Told, first: usize, end: usize, region: &Region, any: bool) -> bool
     requires count { length told.now.lines.now ≡ length told.now.ranges.now }
     requires end { end ≤ length told.now.ranges.now }
     ensures some { IsTrue result → (k : ℕ) × (first ≤ k) × (k < end)
-        × ((t : RangeValue) → (d : ToldLine) → IsTrue (leads_to_line region.now
+        × ((t : RangeValue) → (d : ToldLine) → IsTrue (leads_to_line any region.now
         (slice_index_or told.now.ranges.now k t) (slice_index_or told.now.lines.now k d))) }
     ensures none { IsFalse result → (k : ℕ) → (t : RangeValue) → (d : ToldLine) → first ≤ k → k < end
-        → IsFalse (leads_to_line region.now
+        → IsFalse (leads_to_line any region.now
         (slice_index_or told.now.ranges.now k t) (slice_index_or told.now.lines.now k d)) }
 {
     for index in first..end {
-        if leads_to(region, &told.ranges[index], told.lines[index]) {
+        if leads_to(region, &told.ranges[index], told.lines[index], any) {
             return true;
         }
     }
     false
 }
 
-/// Whether a part leads to a told range that is on.
-fn leads_to_one_on(records: &[Record], told: &Told, region: &Region) -> bool
+/// Whether a part leads to a told range that is on, or to any.
+fn leads_to_one(records: &[Record], told: &Told, region: &Region, any: bool) -> bool
     requires told { IsTold told.now.ranges.now }
     requires count { length told.now.lines.now ≡ length told.now.ranges.now }
     requires function { region.now.function < length records.now }
     ensures { (q : Request) → (s : System) → IsTree q s records.now → q.told.ranges ≡ told.now.ranges.now
         → AreToldLines q s told.now.lines.now → IsKnown q s region.now
-        → result ≡ leads_to_one_on q s (region_value s region.now) }
+        → result ≡ leads_to_lines any q s (region_value s region.now) }
 {
     let Some(bridge) = records[region.function].bridge else {
         return false;
     };
     let first = first_from(told.ranges, u16::from(bridge.secondary));
     let end = first_above(told.ranges, bridge.subordinate);
-    leads_to_some(told, first, end, region)
+    leads_to_some(told, first, end, region, any)
 }
 
-/// Notes of each part whether it leads to a told range that is on.
-pub fn note_leads(records: &[Record], told: &Told, regions: &mut [Region])
+/// Whether a part can stand: where all is placed anew, only what leads to a told range can.
+fn can_stand(records: &[Record], told: &Told, region: &Region, anew: bool) -> bool
+    requires told { IsTold told.now.ranges.now }
+    requires count { length told.now.lines.now ≡ length told.now.ranges.now }
+    requires function { region.now.function < length records.now }
+    ensures { (q : Request) → (s : System) → IsTree q s records.now → q.told.ranges ≡ told.now.ranges.now
+        → AreToldLines q s told.now.lines.now → IsKnown q s region.now
+        → result ≡ (leads_to_told q s (region_value s region.now) || not anew) }
+{
+    if anew {
+        leads_to_one(records, told, region, true)
+    } else {
+        true
+    }
+}
+
+/// A part with what is noted of it.
+fn noted(region: &Region, leads: bool, can_stand: bool) -> Region
+    ensures { result ≡ noted leads can_stand region.now }
+{
+    Region {
+        leads,
+        can_stand,
+        ..*region
+    }
+}
+
+/// Notes of each part whether it leads to a told range that is on, and whether it can stand.
+pub fn note_leads(records: &[Record], told: &Told, anew: bool, regions: &mut [Region])
     requires told { IsTold told.now.ranges.now }
     requires count { length told.now.lines.now ≡ length told.now.ranges.now }
     requires functions { All (λ r. r.function < length records.now) regions.old }
     ensures { (q : Request) → (s : System) → IsTree q s records.now → q.told.ranges ≡ told.now.ranges.now
-        → AreToldLines q s told.now.lines.now → AreParts q s regions.old
+        → AreToldLines q s told.now.lines.now → AreParts q s regions.old → q.anew ≡ anew
         → AreKnownParts q s regions.new }
 {
     for index in 0..regions.len() {
-        let leads = leads_to_one_on(records, told, &regions[index]);
-        regions[index].leads = leads;
+        let leads = leads_to_one(records, told, &regions[index], false);
+        let can_stand = can_stand(records, told, &regions[index], anew);
+        regions[index] = noted(&regions[index], leads, can_stand);
     }
 }

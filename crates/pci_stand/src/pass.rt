@@ -9,7 +9,7 @@ ghost use Rattle.pci_place.specs.Above.{system_in};
 ghost use Rattle.pci_settle.specs.Lists.{lists_value};
 ghost use Rattle.pci_settle.specs.Slots.{demand_value};
 ghost use Rattle.pci_stand.specs.Boards.{IsBoard};
-ghost use Rattle.pci_stand.specs.Known.{asked};
+ghost use Rattle.pci_stand.specs.Known.{asked_by};
 ghost use Rattle.pci_stand.specs.Taken.{AreApartInOrder, taken_with};
 ghost use Rattle.pci_stand.specs.ToldLines.{AreToldLines};
 ghost use Rattle.pci_stand.specs.LineRows.{AreSearched, AreOffRows};
@@ -22,10 +22,11 @@ use crate::order::sort_regions;
 use crate::place::{bridges_over, is_in_place};
 use crate::region::Region;
 use crate::rows::{Rows, reaches};
+use crate::rules::Rules;
 use crate::taken::Taken;
 use crate::told_line::told_lines;
 use pci_base::memory::OutOfMemory;
-use pci_base::slot::{BUSES, Slot};
+use pci_base::slot::BUSES;
 use pci_function::record::Record;
 use pci_settle::kept::{Kept, nothing_kept};
 use pci_settle::list::Lists;
@@ -43,8 +44,8 @@ struct Board<'a, 'l> {
     off: Off<'a>,
 }
 
-/// Notes a part that stands: no line keeps it off, it is where it can stand, and none of its addresses is taken by one before
-/// it.
+/// Notes a part that stands: it can stand, no line keeps it off, it is where it can, and none of its addresses is taken by one
+/// before it.
 fn note_one<A: Allocator + Copy>(
     board: &Board,
     regions: &[Region],
@@ -72,6 +73,9 @@ fn note_one<A: Allocator + Copy>(
 {
     let region = &regions[index];
     taken.go_to(region.level);
+    if !region.can_stand {
+        return Ok(());
+    }
     let lists = &board.lists;
     let slot = board.records[region.function].slot;
     if is_kept_off(&board.off, slot, region) {
@@ -118,39 +122,39 @@ fn ordered_regions<A: Allocator + Copy, B: Allocator>(
     alloc: A,
     admitted: &Admitted<B>,
     lists: &Lists,
-    fixed: &[Slot],
+    rules: &Rules,
     told: &Told,
 ) -> Result<Vec<Region, A>, OutOfMemory>
     requires told { IsTold told.now.ranges.now }
     requires count { length told.now.lines.now ≡ length told.now.ranges.now }
     ensures ordered { IfOk result (λ regions. told.now.ranges.now ≡ lists.now.told.ranges.now
-        → AreToldLines (asked admitted.now.roots (demand_value lists.now) fixed.now)
+        → AreToldLines (asked_by admitted.now.roots (demand_value lists.now) rules.now)
         (system_in admitted.now) told.now.lines.now
-        → AreOrdered (asked admitted.now.roots (demand_value lists.now) fixed.now)
+        → AreOrdered (asked_by admitted.now.roots (demand_value lists.now) rules.now)
         (system_in admitted.now) regions.items) }
     // each part names a function that has an entry
     ensures ready { IfOk result (λ regions. told.now.ranges.now ≡ lists.now.told.ranges.now
-        → AreToldLines (asked admitted.now.roots (demand_value lists.now) fixed.now)
+        → AreToldLines (asked_by admitted.now.roots (demand_value lists.now) rules.now)
         (system_in admitted.now) told.now.lines.now
         → All (CanBeNoted (length (system_in admitted.now))) regions.items) }
 {
     let records = admitted.outline().records();
-    let mut regions = regions(alloc, admitted, lists, fixed)?;
-    note_leads(records, told, regions.as_mut_slice());
+    let mut regions = regions(alloc, admitted, lists, rules)?;
+    note_leads(records, told, rules.anew, regions.as_mut_slice());
     sort_regions(&mut regions)?;
     Ok(regions)
 }
 
 /// Which parts of each function stand where they are, in slot order: BARs but those of I/O that are left, open windows and
-/// ROMs that are on. `fixed` are the slots of functions whose registers may not be written.
+/// ROMs that are on. Where all is placed anew, only what leads to a told range stands.
 pub fn standing<A: Allocator + Copy, B: Allocator>(
     alloc: A,
     admitted: &Admitted<B>,
     lists: &Lists,
-    fixed: &[Slot],
+    rules: &Rules,
 ) -> Result<Vec<Kept, A>, OutOfMemory>
     ensures { IfOk result (λ table. AreStanding
-        (asked admitted.now.roots (demand_value lists.now) fixed.now) (system_in admitted.now)
+        (asked_by admitted.now.roots (demand_value lists.now) rules.now) (system_in admitted.now)
         table.items) }
 {
     let outline = admitted.outline();
@@ -162,7 +166,7 @@ pub fn standing<A: Allocator + Copy, B: Allocator>(
         ranges,
         lines: lines.as_slice(),
     };
-    let regions = ordered_regions(alloc, admitted, lists, fixed, &told)?;
+    let regions = ordered_regions(alloc, admitted, lists, rules, &told)?;
     let on = line_rows(alloc, &told, false)?;
     let on_reaches = reaches(alloc, on.as_slice())?;
     let all = line_rows(alloc, &told, true)?;

@@ -13,16 +13,15 @@ ghost use Rattle.pci_settle.specs.Lists.{lists_value};
 ghost use Rattle.pci_stand.specs.Boards.{IsBoard, IsKnown, AreOpen};
 ghost use Rattle.pci_stand.specs.Known.{region_value};
 ghost use Rattle.pci_stand.specs.Tables.{stands_in};
-ghost use Rattle.pci_stand.specs.Places.{window_for, is_in_windows};
+ghost use Rattle.pci_stand.specs.Places.{is_in_windows};
 
 use crate::region::Region;
 use pci_base::range::Range;
 use pci_base::slot::BUSES;
-use pci_base::space::Space;
 use pci_base::window_kind::WindowKind;
 use pci_function::record::Record;
 use pci_image::window::Windows;
-use pci_settle::kept::{Kept, Part};
+use pci_settle::kept::Kept;
 use pci_settle::list::Lists;
 use pci_settle::over::is_within;
 
@@ -40,26 +39,11 @@ pub fn is_held(windows: &Windows, kind: WindowKind, range: Range) -> bool
     }
 }
 
-/// The window over a part in which it can stand: a prefetchable BAR is in that of memory where that holds it.
-pub fn window_for(region: &Region, windows: &Windows) -> WindowKind
-    ensures { kind_value result ≡ window_for windows.now region.now }
-{
-    match region.part {
-        Part::Window(kind) => kind,
-        _ if region.space == Space::Io => WindowKind::Io,
-        _ if region.prefetch && !is_held(windows, WindowKind::Memory, region.range) => {
-            WindowKind::Prefetchable
-        }
-        _ => WindowKind::Memory,
-    }
-}
-
 /// Whether the window over a part holds it, and stands.
 fn is_in_windows(region: &Region, windows: &Windows, over: &Kept) -> bool
     ensures { result ≡ is_in_windows windows.now over.now region.now }
 {
-    let kind = window_for(region, windows);
-    is_held(windows, kind, region.range) && over.window(kind)
+    is_held(windows, region.class, region.range) && over.window(region.class)
 }
 
 /// At each bus the index of the bridge that leads there.

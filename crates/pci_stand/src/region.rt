@@ -2,7 +2,8 @@
 ghost use Rattle.std.specs.Prelude.{◌≡◌, ◌++◌, OnOk};
 ghost use Rattle.std.specs.List.{All};
 ghost use Rattle.pci_tree.specs.Passes.{range_in};
-ghost use Rattle.pci_stand.specs.Regions.{owned_region, bar_space, HasBarNumber, owned_bar_regions, owned_window_regions, owned_bridge_regions, owned_rom_regions, record_regions};
+ghost use Rattle.pci_settle.specs.Own.{bar_class_of};
+ghost use Rattle.pci_stand.specs.Regions.{owned_region, kind_of, bar_space, HasBarNumber, owned_bar_region, owned_bar_regions, owned_window_regions, owned_bridge_regions, owned_rom_regions, record_regions};
 
 use pci_base::memory::OutOfMemory;
 use pci_base::offset::BASE_ADDRESS;
@@ -13,9 +14,9 @@ use pci_function::record::{Bridge, Record};
 use pci_image::bar::{Bar, BarKind};
 use pci_image::rom::Rom;
 use pci_image::window::{Window, Windows};
-use pci_place::above::Above;
 use pci_settle::kept::Part;
-use pci_settle::own::{Terms, is_left_bar};
+use pci_settle::over::Over;
+use pci_settle::own::{Terms, class_of, is_left_bar};
 use std::alloc::Allocator;
 
 /// What all parts of a function share.
@@ -45,17 +46,19 @@ pub struct Region {
     pub on: bool,
     /// Whether it leads to a told range that is on. It is noted when all parts are collected.
     pub leads: bool,
+    /// Whether it can stand: where all is placed anew, only what leads to a told range can. It is noted with `leads`.
+    pub can_stand: bool,
     pub part: Part,
     pub space: Space,
-    /// Whether it is a prefetchable BAR with a prefetchable window in each bridge above.
-    pub prefetch: bool,
+    /// The class of the window over its bus in which it can stand.
+    pub class: WindowKind,
     pub range: Range,
 }
 
 impl Owner {
     /// A part of the function.
-    fn region(self, part: Part, space: Space, prefetch: bool, range: Range) -> Region
-        ensures { result ≡ owned_region self part space prefetch range }
+    fn region(self, part: Part, space: Space, class: WindowKind, range: Range) -> Region
+        ensures { result ≡ owned_region self part space class range }
     {
         Region {
             function: self.function,
@@ -64,9 +67,10 @@ impl Owner {
             fixed: self.fixed,
             on: space.is_on(self.command),
             leads: false,
+            can_stand: false,
             part,
             space,
-            prefetch,
+            class,
             range,
         }
     }
@@ -82,27 +86,42 @@ fn bar_space(kind: BarKind) -> Space
     }
 }
 
+/// The class of a BAR by what is over its bus.
+fn bar_class(bar: &Bar, over: &Over, terms: Terms) -> WindowKind
+    ensures { result ≡ kind_of (bar_class_of bar.now over.now terms.entry.prefetch_last) }
+{
+    class_of(bar, over, terms)
+}
+
+/// The part of a BAR.
+fn bar_region(owner: Owner, bar: &Bar, over: &Over, terms: Terms) -> Region
+    requires { HasBarNumber bar.now }
+    ensures { result ≡ owned_bar_region owner over.now terms.entry bar.now }
+{
+    let part = Part::Bar((bar.reg - BASE_ADDRESS) / 4);
+    let range = Range {
+        first: bar.first,
+        last: bar.last,
+    };
+    let class = bar_class(bar, over, terms);
+    owner.region(part, bar_space(bar.kind), class, range)
+}
+
 /// Adds the BARs but those of I/O that are left.
 fn add_bars<A: Allocator>(
     out: &mut Vec<Region, A>,
     owner: Owner,
     bars: &[Bar],
-    above: Above,
+    over: &Over,
     terms: Terms,
 ) -> Result<(), OutOfMemory>
     requires { All HasBarNumber bars.now }
     ensures { OnOk result
-        (out.new.items ≡ out.old.items ++ owned_bar_regions owner above terms.entry bars.now) }
+        (out.new.items ≡ out.old.items ++ owned_bar_regions owner over.now terms.entry bars.now) }
 {
     for bar in bars {
-        if !is_left_bar(bar, above, terms) {
-            let part = Part::Bar((bar.reg - BASE_ADDRESS) / 4);
-            let range = Range {
-                first: bar.first,
-                last: bar.last,
-            };
-            let prefetch = bar.prefetch && above.pref;
-            out.push(owner.region(part, bar_space(bar.kind), prefetch, range))?;
+        if !is_left_bar(bar, over.above, terms) {
+            out.push(bar_region(owner, bar, over, terms))?;
         }
     }
     Ok(())
@@ -123,7 +142,7 @@ fn add_window<A: Allocator>(
         return Ok(());
     };
     if let Some(range) = window.range() {
-        out.push(owner.region(Part::Window(kind), space, false, range))?;
+        out.push(owner.region(Part::Window(kind), space, kind, range))?;
     }
     Ok(())
 }
@@ -159,7 +178,7 @@ fn add_rom<A: Allocator>(
                 first: rom.first,
                 last: rom.last,
             };
-            out.push(owner.region(Part::Rom, Space::Mem, false, range))?;
+            out.push(owner.region(Part::Rom, Space::Mem, WindowKind::Memory, range))?;
         }
     }
     Ok(())
@@ -171,15 +190,15 @@ pub fn add_regions<A: Allocator>(
     out: &mut Vec<Region, A>,
     owner: Owner,
     record: &Record,
-    above: Above,
+    over: &Over,
     terms: Terms,
 ) -> Result<(), OutOfMemory>
     // a part is named by the number of its BAR's register
     requires { All HasBarNumber «record».now.bars.items }
     ensures { OnOk result
-        (out.new.items ≡ out.old.items ++ record_regions owner above terms.entry «record».now) }
+        (out.new.items ≡ out.old.items ++ record_regions owner over.now terms.entry «record».now) }
 {
-    add_bars(out, owner, record.bars.as_slice(), above, terms)?;
+    add_bars(out, owner, record.bars.as_slice(), over, terms)?;
     add_windows(out, owner, record.bridge)?;
     add_rom(out, owner, record.rom)
 }

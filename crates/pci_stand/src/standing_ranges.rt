@@ -10,7 +10,7 @@ ghost use Rattle.pci_tree.specs.Ways.{IsBridgeToBus};
 ghost use Rattle.pci_place.specs.Above.{system_in};
 ghost use Rattle.pci_settle.specs.Slots.{demand_value};
 ghost use Rattle.pci_stand.specs.Boards.{IsTree};
-ghost use Rattle.pci_stand.specs.Known.{asked};
+ghost use Rattle.pci_stand.specs.Known.{asked_by};
 ghost use Rattle.pci_stand.specs.LineRows.{nobody, AreLineRows, AreSearched};
 ghost use Rattle.pci_stand.specs.Passing.{AreStanding};
 ghost use Rattle.pci_stand.specs.RangePass.{ArePartRows, AreStandingRanges, turns_of, all_turns};
@@ -22,9 +22,9 @@ use crate::off::line_rows;
 use crate::place::bridges_over;
 use crate::ranges::{Ground, held_rows, note_ranges, part_rows};
 use crate::rows::{Rows, reaches};
+use crate::rules::Rules;
 use crate::told_line::{ToldLine, told_lines};
 use pci_base::memory::OutOfMemory;
-use pci_base::slot::Slot;
 use pci_settle::kept::Kept;
 use pci_settle::list::Lists;
 use pci_tree::admitted::Admitted;
@@ -97,20 +97,19 @@ fn flags_in_turn<A: Allocator + Copy>(
     Ok(flags)
 }
 
-/// Of each told range whether it stands, by its index in the text; `table` tells which parts stand. `fixed` are the slots of
-/// functions whose registers may not be written.
+/// Of each told range whether it stands, by its index in the text; `table` tells which parts stand.
 pub fn standing_ranges<A: Allocator + Copy, B: Allocator>(
     alloc: A,
     admitted: &Admitted<B>,
     lists: &Lists,
-    fixed: &[Slot],
+    rules: &Rules,
     table: &[Kept],
 ) -> Result<Vec<bool, A>, OutOfMemory>
-    requires { AreStanding (asked admitted.now.roots (demand_value lists.now) fixed.now)
+    requires { AreStanding (asked_by admitted.now.roots (demand_value lists.now) rules.now)
         (system_in admitted.now) table.now }
     ensures count { IfOk result (λ flags. length flags.items ≡ length lists.now.told.ranges.now) }
     ensures flags { IfOk result (λ flags. AreStandingRanges
-        (asked admitted.now.roots (demand_value lists.now) fixed.now) (system_in admitted.now)
+        (asked_by admitted.now.roots (demand_value lists.now) rules.now) (system_in admitted.now)
         flags.items) }
 {
     let ranges = lists.told.as_slice();
@@ -128,7 +127,7 @@ pub fn standing_ranges<A: Allocator + Copy, B: Allocator>(
     let all = line_rows(alloc, &told, true)?;
     let held = held_rows(alloc, all.as_slice())?;
     let held_reaches = reaches(alloc, held.as_slice())?;
-    let regions = regions(alloc, admitted, lists, fixed)?;
+    let regions = regions(alloc, admitted, lists, rules)?;
     let parts = part_rows(alloc, regions.as_slice(), table)?;
     let part_reaches = reaches(alloc, parts.as_slice())?;
     let ground = Ground {

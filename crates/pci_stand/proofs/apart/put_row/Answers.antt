@@ -1,4 +1,4 @@
-use Rattle.std.proofs.Common.{sym, ap, subst}
+use Rattle.std.proofs.Common.{sym, subst}
 use Rattle.pci_stand.specs.ApartRows.{AreApartRows, IsRowGap}
 use Rattle.pci_stand.proofs.RowsApart.{free, apart_new}
 use Rattle.pci_stand.proofs.apart.put_row.Goals as goal

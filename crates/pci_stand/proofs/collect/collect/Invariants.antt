@@ -10,4 +10,4 @@ use Rattle.pci_stand.proofs.collect.collect.Given as goal
 abbrev pub invariant-loop-function : goal.invariant-loop-function
 invariant-loop-function g l =
     (slots : List Slot) → AreFlags slots l.fixed
-    → ArePartsTo (asked l.admitted.roots (demand_value l.fn.lists) slots) (system_in l.admitted) l.function l.regions.items
+    → ArePartsTo (asked l.admitted.roots (demand_value l.fn.lists) slots l.anew) (system_in l.admitted) l.function l.regions.items

@@ -7,7 +7,7 @@ use Rattle.pci_place.proofs.Records.{lent, same_count}
 use Rattle.pci_settle.specs.Slots.{demand_value}
 use Rattle.pci_stand.specs.declared.region.Region.{Region}
 use Rattle.pci_stand.specs.Boards.{IsTree}
-use Rattle.pci_stand.specs.Known.{asked, region_value, AreParts}
+use Rattle.pci_stand.specs.Known.{asked_by, region_value, AreParts}
 use Rattle.pci_stand.specs.Order.{IsPartInTurn}
 use Rattle.pci_stand.proofs.Whole.{ready, ordered, leads_sorted, numbers_rise, slice_back}
 use Rattle.pci_stand.proofs.pass.ordered_regions.Goals as goal
@@ -23,13 +23,13 @@ note_leads-requires-clause-functions g c =
 pub returns-clause-ordered : goal.returns-clause-ordered
 returns-clause-ordered g c = λ same lines.
     let s = system_in c.args.admitted.now in
-    let q = asked c.args.admitted.now.roots (demand_value c.args.lists.now) c.args.fixed.now in
+    let q = asked_by c.args.admitted.now.roots (demand_value c.args.lists.now) c.args.rules.now in
     let records = c.records-records.result.now in
     let has = lent s records c.records-records.ensures.value c.outline.ensures.records in
     let admitted = c.outline.ensures.admitted in
     let tree : IsTree q s records = record { has = has; system = admitted.system; nested = admitted.nested } in
     let noted = c.note_leads.new.regions in
-    let known = c.note_leads.ensures q s tree (sym same) lines (subst (AreParts q s) (sym c.as_mut_slice.ensures.value) c.in_ok-regions.ensures) in
+    let known = c.note_leads.ensures q s tree (sym same) lines (subst (AreParts q s) (sym c.as_mut_slice.ensures.value) c.in_ok-regions.ensures) refl in
     let long = c.in_ok-regions.regions.ok.0 in
     let back = slice_back c.in_ok-regions.regions.len noted c.in_ok-regions.regions.items (c.note_leads.auto.regions ∙ ap length c.as_mut_slice.ensures.value) (omega (arith, long)) in
     let rs = c.sort_regions.new.regions.items in
@@ -41,13 +41,13 @@ returns-clause-ordered g c = λ same lines.
 pub returns-clause-ready : goal.returns-clause-ready
 returns-clause-ready g c = λ same lines.
     let s = system_in c.args.admitted.now in
-    let q = asked c.args.admitted.now.roots (demand_value c.args.lists.now) c.args.fixed.now in
+    let q = asked_by c.args.admitted.now.roots (demand_value c.args.lists.now) c.args.rules.now in
     let records = c.records-records.result.now in
     let has = lent s records c.records-records.ensures.value c.outline.ensures.records in
     let admitted = c.outline.ensures.admitted in
     let tree : IsTree q s records = record { has = has; system = admitted.system; nested = admitted.nested } in
     let noted = c.note_leads.new.regions in
-    let known = c.note_leads.ensures q s tree (sym same) lines (subst (AreParts q s) (sym c.as_mut_slice.ensures.value) c.in_ok-regions.ensures) in
+    let known = c.note_leads.ensures q s tree (sym same) lines (subst (AreParts q s) (sym c.as_mut_slice.ensures.value) c.in_ok-regions.ensures) refl in
     let long = c.in_ok-regions.regions.ok.0 in
     let back = slice_back c.in_ok-regions.regions.len noted c.in_ok-regions.regions.items (c.note_leads.auto.regions ∙ ap length c.as_mut_slice.ensures.value) (omega (arith, long)) in
     let rs = c.sort_regions.new.regions.items in

@@ -6,7 +6,7 @@ use Rattle.pci_settle.specs.Lists.{lists_value}
 use Rattle.pci_settle.specs.Slots.{demand_value}
 use Rattle.settle_spec.specs.Stands.{is_line_on}
 use Rattle.pci_stand.specs.Boards.{IsTree, IsBoard}
-use Rattle.pci_stand.specs.Known.{asked}
+use Rattle.pci_stand.specs.Known.{asked_by}
 use Rattle.pci_settle.specs.Kept.{AreNone}
 use Rattle.pci_stand.specs.LineRows.{AreLineRows}
 use Rattle.pci_stand.specs.Passing.{CanBeNoted, AreOrdered, AreStanding}
@@ -44,7 +44,7 @@ note_all-requires-clause-all g c =
 pub note_all-requires-clause-ready : goal.note_all-requires-clause-ready
 note_all-requires-clause-ready g c =
     let s = system_in c.args.admitted.now in
-    let q = asked c.args.admitted.now.roots (demand_value c.args.lists.now) c.args.fixed.now in
+    let q = asked_by c.args.admitted.now.roots (demand_value c.args.lists.now) c.args.rules.now in
     let records = c.records-records.result.now in
     let has = lent s records c.records-records.ensures.value c.outline-outline.ensures.records in
     let admitted = c.outline-outline.ensures.admitted in
@@ -57,7 +57,7 @@ note_all-requires-clause-ready g c =
 pub returns : goal.returns
 returns g c =
     let s = system_in c.args.admitted.now in
-    let q = asked c.args.admitted.now.roots (demand_value c.args.lists.now) c.args.fixed.now in
+    let q = asked_by c.args.admitted.now.roots (demand_value c.args.lists.now) c.args.rules.now in
     let records = c.records-records.result.now in
     let has = lent s records c.records-records.ensures.value c.outline-outline.ensures.records in
     let admitted = c.outline-outline.ensures.admitted in
@@ -67,7 +67,6 @@ returns g c =
       system = admitted.system;
       nested = admitted.nested;
       same = refl;
-      stands = refl;
     } in
     let tree : IsTree q s records = record { has = has; system = admitted.system; nested = admitted.nested } in
     let same = sym c.as_slice-ranges.ensures.value in

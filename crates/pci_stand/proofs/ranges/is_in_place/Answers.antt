@@ -1,4 +1,4 @@
-use Rattle.std.proofs.Common.{◌∙◌, ◌||◌, not, true, ap, sym, arith, refl}
+use Rattle.std.proofs.Common.{◌∙◌, ◌||◌, not, ap, sym, arith, refl}
 use Rattle.given_spec.specs.Told.{ToldRange}
 use Rattle.settle_spec.specs.Parts.{bridge_over}
 use Rattle.settle_spec.specs.Stands.{are_bridges_on}

@@ -1,7 +1,6 @@
 use Rattle.std.proofs.Common.{◌≡◌, ◌<◌, ◌+◌, ◌-◌, ◌∷◌, [], sym, ◌∙◌, inl, inr, arith, length, get_or, subst, ap}
 use Rattle.std.proofs.lemmas.List.{length-append, get_or_default}
 use Rattle.pci_stand.specs.declared.rows.Row.{Row}
-use Rattle.pci_stand.specs.declared.rows.Reach.{Reach}
 use Rattle.pci_stand.specs.Rows.{IsReach}
 use Rattle.pci_stand.proofs.KeepingOff.{no_row, first_of_key, with_row, for_all, for_each, reaches_more}
 use Rattle.pci_stand.proofs.rows.reaches.Goals as goal

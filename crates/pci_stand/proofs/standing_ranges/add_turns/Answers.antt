@@ -1,4 +1,4 @@
-use Rattle.std.proofs.Common.{◌+◌, ◌∷◌, ◌++◌, [], true, false, sym, ap, ◌∙◌, append-nil}
+use Rattle.std.proofs.Common.{◌∷◌, ◌++◌, [], true, false, sym, ap, ◌∙◌, append-nil}
 use Rattle.std.proofs.lemmas.List.{append_assoc}
 use Rattle.pci_stand.specs.RangePass.{turns_up_to}
 use Rattle.pci_stand.proofs.Turns.{turns_more}

@@ -7,7 +7,7 @@ use Rattle.pci_place.proofs.Records.{lent}
 use Rattle.pci_settle.specs.Slots.{demand_value}
 use Rattle.pci_stand.specs.declared.rows.Row.{Row}
 use Rattle.pci_stand.specs.Boards.{IsTree}
-use Rattle.pci_stand.specs.Known.{asked, AreParts}
+use Rattle.pci_stand.specs.Known.{asked_by, AreParts}
 use Rattle.pci_stand.specs.LineRows.{nobody, AreLineRows}
 use Rattle.pci_stand.specs.RangePass.{ArePartRows}
 use Rattle.pci_stand.specs.Rows.{AreRows}
@@ -43,7 +43,7 @@ flags_in_turn-requires-clause-nobody g c =
 pub returns-clause-flags : goal.returns-clause-flags
 returns-clause-flags g c =
     let s = system_in c.args.admitted.now in
-    let q = asked c.args.admitted.now.roots (demand_value c.args.lists.now) c.args.fixed.now in
+    let q = asked_by c.args.admitted.now.roots (demand_value c.args.lists.now) c.args.rules.now in
     let records = c.records-records.result.now in
     let has = lent s records c.records-records.ensures.value c.outline-outline.ensures.records in
     let admitted = c.outline-outline.ensures.admitted in
