@@ -3,7 +3,6 @@ use Rattle.std.proofs.Common.{◌≡◌, ℕ, inl, List, map, replicate, refl, s
 use Rattle.std.specs.Option.{IfSome}
 use Rattle.std.proofs.lemmas.Bool.{both_ways}
 use Rattle.std.proofs.lemmas.List.Elements.{All-replicate}
-use Rattle.pci_spec.specs.Slot.{Slot}
 use Rattle.pci_spec.specs.Window.{IoWindow}
 use Rattle.pci_spec.specs.System.{System}
 use Rattle.pci_spec.specs.Decoded.{HasRecords}
@@ -27,22 +26,25 @@ use Rattle.pci_settle.specs.declared.over.OpenWindows.{OpenWindows}
 use Rattle.pci_settle.specs.declared.own.Terms.{Terms}
 use Rattle.pci_settle.specs.Spots.{IsExtent}
 use Rattle.pci_settle.specs.Slots.{Demand, demand_in_io}
+use Rattle.pci_settle.specs.Over.{AreOpenOver}
 use Rattle.pci_settle.specs.Own.{AreTerms}
 use Rattle.pci_settle.specs.Buses.{AreWindows, Classing, classing_of, TellsClasses}
-use Rattle.pci_stand.specs.Known.{asked}
+use Rattle.pci_stand.specs.declared.rules.Rules.{Rules}
+use Rattle.pci_stand.specs.Boards.{IsTree}
+use Rattle.pci_stand.specs.Known.{asked_by}
+use Rattle.pci_stand.proofs.Opened.{tree_of}
 use Rattle.pci_stay.specs.declared.windows.TooLarge.{TooLarge}
-use Rattle.pci_stay.specs.Windows.{AreOpenFor, HasWindowsOf, IsTooLargeOf, AreAllLawful}
+use Rattle.pci_stay.specs.Windows.{HasWindowsOf, IsTooLargeOf, AreAllLawful}
 use Rattle.pci_stay.specs.Holding.{HasNewWhereStands, IsKnowing}
 use Rattle.pci_stay.specs.Staying.{AreStaying, IsTooLargeInIo, asked_in_io}
-use Rattle.pci_stay.proofs.Opened.{tree_of}
 
 -- what is asked for, by the open windows over each bus
-pub left_of : (a : Admission) (l : Demand) (fixed : List Slot) → IsAdmitted a → (records : List Record) {values : List decoded.Record} → map record_value records ≡ values → HasRecords (system_in a) values
-    → (terms : Terms) → AreTerms l terms → (over : List OpenWindows) → ((q : Request) (s : System) → AreOpenFor q s records over) → TellsClasses (classing_of a terms over) (asked a.roots l fixed)
-left_of a l fixed admitted records same has terms are over opened = record {
+pub left_of : (a : Admission) (l : Demand) (rules : Rules) → IsAdmitted a → (records : List Record) {values : List decoded.Record} → map record_value records ≡ values → HasRecords (system_in a) values
+    → (terms : Terms) → AreTerms l terms → (over : List OpenWindows) → ((q : Request) (s : System) → IsTree q s records → q.anew ≡ rules.anew → AreOpenOver q s over) → TellsClasses (classing_of a terms over) (asked_by a.roots l rules)
+left_of a l rules admitted records same has terms are over opened = record {
   rooted = refl;
   terms = are;
-  overs_are = opened (asked a.roots l fixed) (system_in a) (tree_of a l fixed admitted records same has);
+  overs_are = opened (asked_by a.roots l rules) (system_in a) (tree_of a l rules admitted records same has) refl;
 }
 
 pub too_large_in_io : (p : Classing) (q : Request) → TellsClasses p q → (x : Refused TooLarge) → IsTooLargeOf p IoWindow x → IsTooLargeInIo q p.system x
@@ -57,21 +59,21 @@ io_lawful io lawful Io = lawful
 io_lawful io lawful Memory = no_windows
 io_lawful io lawful Prefetchable = no_windows
 
-pub new_in_io : (p : Classing) (windows : ByKind (List (Option Extent))) (roots : List ℕ) (d : Demand) (fixed : List Slot) → TellsClasses p (asked_in_io roots d fixed) → HasWindowsOf p IoWindow windows.io
-    → (class : WindowKind) → HasNewWhereStands (asked_in_io roots d fixed) p class (by_kind windows class)
-new_in_io p windows roots d fixed left has Io f listed is = inl (has (asked_in_io roots d fixed) left)
-new_in_io p windows roots d fixed left has Memory f listed is = absurd (both_ways (stands (asked_in_io roots d fixed) p.system (window_part (kind_value Memory) f)) (none_in_memory (asked_in_io roots d fixed) p.system (window_part (kind_value Memory) f) refl) is)
-new_in_io p windows roots d fixed left has Prefetchable f listed is = absurd (both_ways (stands (asked_in_io roots d fixed) p.system (window_part (kind_value Prefetchable) f)) (none_in_memory (asked_in_io roots d fixed) p.system (window_part (kind_value Prefetchable) f) refl) is)
+pub new_in_io : (p : Classing) (windows : ByKind (List (Option Extent))) (roots : List ℕ) (d : Demand) (rules : Rules) → TellsClasses p (asked_in_io roots d rules) → HasWindowsOf p IoWindow windows.io
+    → (class : WindowKind) → HasNewWhereStands (asked_in_io roots d rules) p class (by_kind windows class)
+new_in_io p windows roots d rules left has Io f listed is = inl (has (asked_in_io roots d rules) left)
+new_in_io p windows roots d rules left has Memory f listed is = absurd (both_ways (stands (asked_in_io roots d rules) p.system (window_part (kind_value Memory) f)) (none_in_memory (asked_in_io roots d rules) p.system (window_part (kind_value Memory) f) refl) is)
+new_in_io p windows roots d rules left has Prefetchable f listed is = absurd (both_ways (stands (asked_in_io roots d rules) p.system (window_part (kind_value Prefetchable) f)) (none_in_memory (asked_in_io roots d rules) p.system (window_part (kind_value Prefetchable) f) refl) is)
 
 -- ---- lists that are those of I/O alone
 
-module _ (p : Classing) (roots : List ℕ) (d x : Demand) (fixed : List Slot) (same : x ≡ demand_in_io d) (left : TellsClasses p (asked roots x fixed)) where
-  pub fault_in_io : (e : Refused TooLarge) → IsTooLargeOf p IoWindow e → IsTooLargeInIo (asked_in_io roots d fixed) p.system e
-  fault_in_io e told = subst (λ y. IsTooLargeInIo (asked roots y fixed) p.system e) same (too_large_in_io p (asked roots x fixed) left e told)
+module _ (p : Classing) (roots : List ℕ) (d x : Demand) (rules : Rules) (same : x ≡ demand_in_io d) (left : TellsClasses p (asked_by roots x rules)) where
+  pub fault_in_io : (e : Refused TooLarge) → IsTooLargeOf p IoWindow e → IsTooLargeInIo (asked_in_io roots d rules) p.system e
+  fault_in_io e told = subst (λ y. IsTooLargeInIo (asked_by roots y rules) p.system e) same (too_large_in_io p (asked_by roots x rules) left e told)
 
-  pub stays_in_io : (windows : ByKind (List (Option Extent))) (table : List Kept) → HasWindowsOf p IoWindow windows.io → (IsKnowing p windows (asked roots x fixed) → AreStaying (asked roots x fixed) p.system table) → AreStaying (asked_in_io roots d fixed) p.system table
-  stays_in_io windows table has stay = subst (λ y. AreStaying (asked roots y fixed) p.system table) same (stay record {
+  pub stays_in_io : (windows : ByKind (List (Option Extent))) (table : List Kept) → HasWindowsOf p IoWindow windows.io → (IsKnowing p windows (asked_by roots x rules) → AreStaying (asked_by roots x rules) p.system table) → AreStaying (asked_in_io roots d rules) p.system table
+  stays_in_io windows table has stay = subst (λ y. AreStaying (asked_by roots y rules) p.system table) same (stay record {
     left = left;
-    new = subst (λ y. (class : WindowKind) → HasNewWhereStands (asked roots y fixed) p class (by_kind windows class)) (sym same)
-        (new_in_io p windows roots d fixed (subst (λ y. TellsClasses p (asked roots y fixed)) same left) has);
+    new = subst (λ y. (class : WindowKind) → HasNewWhereStands (asked_by roots y rules) p class (by_kind windows class)) (sym same)
+        (new_in_io p windows roots d rules (subst (λ y. TellsClasses p (asked_by roots y rules)) same left) has);
   })

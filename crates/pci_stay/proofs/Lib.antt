@@ -1,4 +1,3 @@
-pub mod Opened
 pub mod Rows
 pub mod BehindItems
 pub mod Rooms

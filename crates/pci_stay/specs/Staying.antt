@@ -1,7 +1,6 @@
 -- What a table tells of parts that stay.
 use Rattle.std.specs.Prelude.{◌≡◌, ℕ, ◌<◌, ◌≤◌, Bool, false, ◌&&◌, IsTrue, List, length, Some, slice_get, slice_index_or, ⊤}
 use Rattle.std.specs.List.{Contains, list_all}
-use Rattle.pci_spec.specs.Slot.{Slot}
 use Rattle.pci_spec.specs.Window.{IoWindow}
 use Rattle.pci_spec.specs.System.{System, Function, Part, has_part}
 use Rattle.plan_spec.specs.Plan.{bridges_above}
@@ -17,8 +16,9 @@ use Rattle.pci_settle.specs.Slots.{Demand, demand_in_io}
 use Rattle.pci_settle.specs.Kept.{kept_of, nothing_kept}
 use Rattle.pci_settle.specs.NewWindows.{IsTooLarge}
 use Rattle.pci_stand.specs.declared.region.Region.{Region as CodeRegion}
+use Rattle.pci_stand.specs.declared.rules.Rules.{Rules}
 use Rattle.pci_stand.specs.Boards.{AreOpen}
-use Rattle.pci_stand.specs.Known.{asked, region_value}
+use Rattle.pci_stand.specs.Known.{asked_by, region_value}
 use Rattle.pci_stand.specs.Tables.{stands_in}
 use Rattle.pci_stay.specs.declared.windows.TooLarge.{TooLarge}
 use Rattle.pci_stay.specs.Windows.{HasWholeWindow}
@@ -63,8 +63,8 @@ abbrev pub AreStaying : Request → System → List Kept → Type 0
 AreStaying q s table = AreStayingBy q s (has_room_behind q s) table
 
 -- what is asked for in lists of I/O alone
-abbrev pub asked_in_io : List ℕ → Demand → List Slot → Request
-asked_in_io roots d fixed = asked roots (demand_in_io d) fixed
+abbrev pub asked_in_io : List ℕ → Demand → Rules → Request
+asked_in_io roots d rules = asked_by roots (demand_in_io d) rules
 
 -- a new window of I/O is too large, or there was no memory
 abbrev pub IsTooLargeInIo : Request → System → Refused TooLarge → Type 0

@@ -1,10 +1,9 @@
--- The windows of bridges: those that are open, and the new ones of all classes.
-use Rattle.std.specs.Prelude.{◌≡◌, ℕ, ◌+◌, ◌^◌, ◌==◌, Bool, false, ◌&&◌, ◌||◌, IsTrue, IsFalse, List, map, Option, None, Some, ⊤}
+-- The new windows of bridges, of all classes, and open ones of all addresses.
+use Rattle.std.specs.Prelude.{◌≡◌, ℕ, ◌+◌, ◌^◌, ◌==◌, Bool, false, ◌&&◌, ◌||◌, IsTrue, List, Option, None, Some, ⊤}
 use Rattle.std.specs.List.{Contains}
 use Rattle.pci_spec.specs.Window.{WindowKind, IoWindow, MemoryWindow, PrefetchWindow}
-use Rattle.pci_spec.specs.System.{System, Function, Window, IsSystem}
-use Rattle.pci_spec.specs.Bus.{IsNested}
-use Rattle.pci_spec.specs.Decoded.{Range, HasRecords}
+use Rattle.pci_spec.specs.System.{System, Function, Window}
+use Rattle.pci_spec.specs.Decoded.{Range}
 use Rattle.plan_spec.specs.Plan.{is_open}
 use Rattle.plan_spec.specs.Planning.Layout.{range_of}
 use Rattle.settle_spec.specs.Lists.{Request}
@@ -17,25 +16,11 @@ use Rattle.pci_base.specs.WindowKinds.{kind_value, by_kind}
 use Rattle.pci_image.specs.Windows.{window_of}
 use Rattle.pci_function.specs.declared.record.Bridge.{Bridge}
 use Rattle.pci_function.specs.declared.record.Record.{Record}
-use Rattle.pci_function.specs.Values.{record_value}
 use Rattle.pci_tree.specs.Passes.{range_in}
 use Rattle.pci_settle.specs.declared.extent.Extent.{Extent}
-use Rattle.pci_settle.specs.declared.over.OpenWindows.{OpenWindows}
 use Rattle.pci_settle.specs.Buses.{AreWindows, Classing, TellsClasses}
-use Rattle.pci_settle.specs.Over.{AreOpenOver}
 use Rattle.pci_settle.specs.NewWindows.{HasNewWindows, IsTooLarge, AreMarkedWindows}
 use Rattle.pci_stay.specs.declared.windows.TooLarge.{TooLarge}
-
--- a lawful system with these records, of which nothing is placed anew
-pub record IsTree (q : Request) (s : System) (records : List Record) : Type 0 where
-  pub has : HasRecords s (map record_value records)
-  pub system : IsSystem s
-  pub nested : IsNested q.roots s
-  pub stands : IsFalse q.anew
-
--- these are the open windows over its buses
-abbrev pub AreOpenFor : Request → System → List Record → List OpenWindows → Type 0
-AreOpenFor q s records table = IsTree q s records → AreOpenOver q s table
 
 -- ---- new windows
 

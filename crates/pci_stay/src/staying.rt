@@ -10,16 +10,16 @@ ghost use Rattle.pci_settle.specs.Buses.{classing_value};
 ghost use Rattle.pci_settle.specs.Lists.{lists_value};
 ghost use Rattle.pci_settle.specs.Slots.{demand_value};
 ghost use Rattle.pci_stand.specs.Boards.{IsBoard};
-ghost use Rattle.pci_stand.specs.Known.{asked, AreParts};
+ghost use Rattle.pci_stand.specs.Known.{asked_by, AreParts};
 ghost use Rattle.pci_stand.specs.Passing.{CanBeNoted};
 ghost use Rattle.pci_stay.specs.Windows.{AreAllLawful};
 ghost use Rattle.pci_stay.specs.Holding.{IsKnowing, AreNoted};
 ghost use Rattle.pci_stay.specs.Staying.{HoldsWhereStands, IsStayedTo, AreStayingBy, AreStaying, IsTooLargeFor, IsTooLargeInIo, asked_in_io};
 
 use crate::holding::{Behind, hold_all};
-use crate::windows::{TooLarge, all_windows, io_windows, open_windows, unknown_beside};
+use crate::windows::{TooLarge, all_windows, io_windows, unknown_beside};
 use pci_base::memory::{OutOfMemory, Refused};
-use pci_base::slot::{BUSES, Slot};
+use pci_base::slot::BUSES;
 use pci_base::window_kind::ByKind;
 use pci_function::record::Record;
 use pci_place::above::aboves;
@@ -30,9 +30,11 @@ use pci_settle::list::Lists;
 use pci_settle::listing::Classing;
 use pci_settle::own::Terms;
 use pci_stand::collect::regions;
+use pci_stand::open_windows::open_windows;
 use pci_stand::pass::standing;
 use pci_stand::place::{bridges_over, is_in_place};
 use pci_stand::region::Region;
+use pci_stand::rules::Rules;
 use pci_tree::admitted::Admitted;
 use std::alloc::Allocator;
 
@@ -88,22 +90,22 @@ fn stay_by<'b, A: Allocator + Copy, B: Allocator>(
     alloc: A,
     classing: &'b Classing<B>,
     lists: &Lists,
-    fixed: &[Slot],
+    rules: &Rules,
     windows: &'b ByKind<[Option<Extent>; BUSES]>,
 ) -> Result<Vec<Kept, A>, OutOfMemory>
     requires above { AreAboves (system_in classing.now.admitted.now) classing.now.aboves.now }
     requires lawful { AreAllLawful windows.now }
     ensures { IfOk result (λ table. IsKnowing (classing_value classing.now) windows.now
-        (asked classing.now.admitted.now.roots (demand_value lists.now) fixed.now)
-        → AreStaying (asked classing.now.admitted.now.roots (demand_value lists.now) fixed.now)
+        (asked_by classing.now.admitted.now.roots (demand_value lists.now) rules.now)
+        → AreStaying (asked_by classing.now.admitted.now.roots (demand_value lists.now) rules.now)
         (system_in classing.now.admitted.now) table.items) }
 {
     let admitted = classing.admitted;
     let records = admitted.outline().records();
     let roots = admitted.outline().roots();
     let lines = lines(alloc, lists.told, &roots)?;
-    let regions = regions(alloc, admitted, lists, fixed)?;
-    let mut table = standing(alloc, admitted, lists, fixed)?;
+    let regions = regions(alloc, admitted, lists, rules)?;
+    let mut table = standing(alloc, admitted, lists, rules)?;
     let regions = regions.as_slice();
     let lines = lines.as_slice();
     let entries = table.as_mut_slice();
@@ -124,7 +126,7 @@ fn stay_by<'b, A: Allocator + Copy, B: Allocator>(
 }
 
 /// Which parts of each function stay where they are, in slot order: they stand, a window has room for what is behind it,
-/// and so does each window above. `fixed` are the slots of functions whose registers may not be written.
+/// and so does each window above.
 ///
 /// A bridge is named whose new window would have 2^64 addresses or more, where an open window has all addresses of 64 bits:
 /// no other one has room for it.
@@ -132,17 +134,17 @@ pub fn staying<A: Allocator + Copy, B: Allocator>(
     alloc: A,
     admitted: &Admitted<B>,
     lists: &Lists,
-    fixed: &[Slot],
+    rules: &Rules,
 ) -> Result<Vec<Kept, A>, Refused<TooLarge>>
     ensures stay { IfOk result (λ table. AreStaying
-        (asked admitted.now.roots (demand_value lists.now) fixed.now) (system_in admitted.now)
+        (asked_by admitted.now.roots (demand_value lists.now) rules.now) (system_in admitted.now)
         table.items) }
     ensures fault { IfErr result (IsTooLargeFor
-        (asked admitted.now.roots (demand_value lists.now) fixed.now) (system_in admitted.now)) }
+        (asked_by admitted.now.roots (demand_value lists.now) rules.now) (system_in admitted.now)) }
 {
     let aboves = aboves(admitted);
     let records = admitted.outline().records();
-    let opened = open_windows(records);
+    let opened = open_windows(records, rules.anew);
     let classing = Classing {
         admitted,
         aboves: &aboves,
@@ -153,7 +155,7 @@ pub fn staying<A: Allocator + Copy, B: Allocator>(
     if let Some(window) = unknown_beside(windows.large, records) {
         return Err(Refused::Fault(window));
     }
-    let table = stay_by(alloc, &classing, lists, fixed, &windows.tables)?;
+    let table = stay_by(alloc, &classing, lists, rules, &windows.tables)?;
     Ok(table)
 }
 
@@ -164,18 +166,18 @@ pub fn staying_in_io<A: Allocator + Copy, B: Allocator>(
     alloc: A,
     admitted: &Admitted<B>,
     lists: &Lists,
-    fixed: &[Slot],
+    rules: &Rules,
 ) -> Result<Vec<Kept, A>, Refused<TooLarge>>
     ensures stay { IfOk result (λ table. AreStaying
-        (asked_in_io admitted.now.roots (demand_value lists.now) fixed.now) (system_in admitted.now)
+        (asked_in_io admitted.now.roots (demand_value lists.now) rules.now) (system_in admitted.now)
         table.items) }
     ensures fault { IfErr result (IsTooLargeInIo
-        (asked_in_io admitted.now.roots (demand_value lists.now) fixed.now)
+        (asked_in_io admitted.now.roots (demand_value lists.now) rules.now)
         (system_in admitted.now)) }
 {
     let lists = lists.io_alone();
     let aboves = aboves(admitted);
-    let opened = open_windows(admitted.outline().records());
+    let opened = open_windows(admitted.outline().records(), rules.anew);
     let classing = Classing {
         admitted,
         aboves: &aboves,
@@ -183,6 +185,6 @@ pub fn staying_in_io<A: Allocator + Copy, B: Allocator>(
         overs: &opened,
     };
     let windows = io_windows(alloc, &classing)?;
-    let table = stay_by(alloc, &classing, &lists, fixed, &windows)?;
+    let table = stay_by(alloc, &classing, &lists, rules, &windows)?;
     Ok(table)
 }

@@ -1,15 +1,13 @@
-//! The windows of bridges: those that are open, and the new ones around what is behind them.
+//! The new windows of bridges around what is behind them, and open windows of all addresses.
 ghost use Rattle.std.specs.Prelude.{◌≡◌, ◌⊎◌, None, Some, IfOk, IfErr, IfSome, OnOk, IsTrue, IsFalse};
 ghost use Rattle.std.specs.List.{All};
-ghost use Rattle.pci_spec.specs.System.{System};
-ghost use Rattle.settle_spec.specs.Lists.{Request};
 ghost use Rattle.std.specs.Option.{option_map};
 ghost use Rattle.pci_base.specs.Ranges.{decoded_range_of};
 ghost use Rattle.pci_base.specs.WindowKinds.{kind_value};
 ghost use Rattle.pci_place.specs.Above.{AreAboves, system_in};
 ghost use Rattle.pci_settle.specs.Buses.{AreWindows, classing_value};
 ghost use Rattle.pci_spec.specs.Window.{IoWindow};
-ghost use Rattle.pci_stay.specs.Windows.{AreOpenFor, HasWindowsOf, IsTooLargeOf, first_of, AreAllNew, AreAllLawful, is_whole_range, opens_whole, has_whole, HasWhole};
+ghost use Rattle.pci_stay.specs.Windows.{HasWindowsOf, IsTooLargeOf, first_of, AreAllNew, AreAllLawful, is_whole_range, opens_whole, has_whole, HasWhole};
 
 use pci_base::memory::{OutOfMemory, Refused};
 use pci_base::range::Range;
@@ -19,7 +17,7 @@ use pci_function::record::{Bridge, Record};
 use pci_settle::extent::Extent;
 use pci_settle::listing::Classing;
 use pci_settle::new_window::new_windows;
-use pci_settle::over::{OpenWindows, open_range};
+use pci_settle::over::open_range;
 use std::alloc::Allocator;
 
 /// A bridge whose new window would have 2^64 addresses or more.
@@ -28,22 +26,6 @@ pub struct TooLarge {
     pub class: WindowKind,
     /// Which of the functions, in slot order.
     pub function: usize,
-}
-
-/// The open windows over each bus that tell the classes of the BARs there, where nothing is placed anew.
-pub fn open_windows(records: &[Record]) -> [OpenWindows; BUSES]
-    ensures { (q : Request) → (s : System) → AreOpenFor q s records.now result }
-{
-    let mut over = [OpenWindows::NONE; BUSES];
-    for record in records {
-        if let Some(bridge) = &record.bridge {
-            over[bridge.secondary as usize] = OpenWindows {
-                memory: open_range(&bridge.windows, WindowKind::Memory),
-                prefetch: open_range(&bridge.windows, WindowKind::Prefetchable),
-            };
-        }
-    }
-    over
 }
 
 /// Puts the new windows of a class into a table, or names the bridge of which that would have 2^64 addresses or more.

@@ -7,7 +7,7 @@ use Rattle.pci_place.proofs.Records.{lent, same_count}
 use Rattle.pci_settle.specs.Slots.{demand_value}
 use Rattle.pci_settle.specs.Lines.{AreLines}
 use Rattle.settle_spec.specs.Items.{has_room_behind}
-use Rattle.pci_stand.specs.Known.{asked, AreParts}
+use Rattle.pci_stand.specs.Known.{asked_by, AreParts}
 use Rattle.pci_stand.specs.Passing.{CanBeNoted, AreStanding}
 use Rattle.pci_stand.proofs.Whole.{ready, slice_back}
 use Rattle.pci_stay.specs.Rooms.{region_bus}
@@ -18,14 +18,14 @@ use Rattle.pci_stay.proofs.staying.stay_by.Goals as goal
 pub hold_all-requires-clause-order : goal.hold_all-requires-clause-order
 hold_all-requires-clause-order g c =
     let s = system_in c.args.classing.now.admitted.now in
-    let q = asked c.args.classing.now.admitted.now.roots (demand_value c.args.lists.now) c.args.fixed.now in
+    let q = asked_by c.args.classing.now.admitted.now.roots (demand_value c.args.lists.now) c.args.rules.now in
     let admitted = c.outline.ensures.admitted in
     subst (IsNonDecreasingBy region_bus) (sym c.as_slice-regions.ensures.value) (buses_rise q s admitted.system admitted.nested (has_room_behind q s) (room_stands q s admitted.system admitted.nested) c.in_ok-regions.regions.items c.in_ok-regions.ensures)
 
 pub hold_all-requires-clause-ready : goal.hold_all-requires-clause-ready
 hold_all-requires-clause-ready g c =
     let s = system_in c.args.classing.now.admitted.now in
-    let q = asked c.args.classing.now.admitted.now.roots (demand_value c.args.lists.now) c.args.fixed.now in
+    let q = asked_by c.args.classing.now.admitted.now.roots (demand_value c.args.lists.now) c.args.rules.now in
     let rs = c.in_ok-regions.regions.items in
     let entries = c.as_mut_slice-entries.result.now in
     let are : AreStanding q s c.in_ok-table.table.items = c.in_ok-table.ensures in
@@ -35,7 +35,7 @@ hold_all-requires-clause-ready g c =
 pub stay_all-requires-clause-ready : goal.stay_all-requires-clause-ready
 stay_all-requires-clause-ready g c =
     let s = system_in c.args.classing.now.admitted.now in
-    let q = asked c.args.classing.now.admitted.now.roots (demand_value c.args.lists.now) c.args.fixed.now in
+    let q = asked_by c.args.classing.now.admitted.now.roots (demand_value c.args.lists.now) c.args.rules.now in
     let rs = c.in_ok-regions.regions.items in
     let records = c.records-records.result.now in
     let has = lent s records c.records-records.ensures.value c.outline.ensures.records in
@@ -45,7 +45,7 @@ stay_all-requires-clause-ready g c =
 pub returns : goal.returns
 returns g c = λ knowing.
     let s = system_in c.args.classing.now.admitted.now in
-    let q = asked c.args.classing.now.admitted.now.roots (demand_value c.args.lists.now) c.args.fixed.now in
+    let q = asked_by c.args.classing.now.admitted.now.roots (demand_value c.args.lists.now) c.args.rules.now in
     let admitted = c.outline.ensures.admitted in
     let parts : AreParts q s c.as_slice-regions.result.now = subst (AreParts q s) (sym c.as_slice-regions.ensures.value) c.in_ok-regions.ensures in
     let told : AreLines q.roots q.told.ranges c.as_slice-lines.result.now =
@@ -62,4 +62,4 @@ returns g c = λ knowing.
     let long = c.in_ok-table.table.ok.0 in
     subst (AreStaying q s)
     (sym (slice_back c.in_ok-table.table.len c.stay_all.new.table c.in_ok-table.table.items (c.stay_all.auto.table ∙ c.hold_all.auto.table ∙ ap length c.as_mut_slice-entries.ensures.value) (omega (arith, long))))
-    (c.stay_all.ensures q s (has_room_behind q s) record { has = lent s c.records-records.result.now c.records-records.ensures.value c.outline.ensures.records; system = admitted.system; nested = admitted.nested; same = refl; stands = refl } parts (room_stands q s admitted.system admitted.nested) holding)
+    (c.stay_all.ensures q s (has_room_behind q s) record { has = lent s c.records-records.result.now c.records-records.ensures.value c.outline.ensures.records; system = admitted.system; nested = admitted.nested; same = refl } parts (room_stands q s admitted.system admitted.nested) holding)

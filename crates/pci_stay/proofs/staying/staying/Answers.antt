@@ -8,14 +8,14 @@ use Rattle.pci_stay.proofs.staying.staying.Goals as goal
 
 pub returns-in-Some-clause-fault : goal.returns-in-Some-clause-fault
 returns-in-Some-clause-fault g c =
-    let left = left_of c.args.admitted.now (demand_value c.args.lists.now) c.args.fixed.now c.outline.ensures.admitted c.records-records.result.now c.records-records.ensures.value c.outline.ensures.records
+    let left = left_of c.args.admitted.now (demand_value c.args.lists.now) c.args.rules.now c.outline.ensures.admitted c.records-records.result.now c.records-records.ensures.value c.outline.ensures.records
     c.of.result c.of.ensures c.open_windows-opened.result c.open_windows-opened.ensures in
     large_beside _ _ left c.records-records.result.now (lent (system_in c.args.admitted.now) c.records-records.result.now c.records-records.ensures.value c.outline.ensures.records)
     _ _ c.in_ok-windows.ensures.windows c.in-Some.window c.in-Some.ensures.some
 
 pub returns-clause-stay : goal.returns-clause-stay
 returns-clause-stay g c =
-    let left = left_of c.args.admitted.now (demand_value c.args.lists.now) c.args.fixed.now c.outline.ensures.admitted c.records-records.result.now c.records-records.ensures.value c.outline.ensures.records
+    let left = left_of c.args.admitted.now (demand_value c.args.lists.now) c.args.rules.now c.outline.ensures.admitted c.records-records.result.now c.records-records.ensures.value c.outline.ensures.records
     c.of.result c.of.ensures c.open_windows-opened.result c.open_windows-opened.ensures in
     c.in_ok-table.ensures record {
       left = left;
