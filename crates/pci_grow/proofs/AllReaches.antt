@@ -3,7 +3,6 @@ use Rattle.std.proofs.Common.{◌≡◌, ℕ, List, length, map, get_or, false, 
 use Rattle.std.specs.List.{slice_get}
 use Rattle.std.proofs.lemmas.Bool.{both_ways}
 use Rattle.std.proofs.lemmas.Option.{get_or_from_slice_get}
-use Rattle.pci_spec.specs.Slot.{Slot}
 use Rattle.pci_spec.specs.Decoded.{HasRecords}
 use Rattle.pci_spec.specs.Decoded as decoded
 use Rattle.pci_spec.specs.System.{System, Function}
@@ -29,8 +28,9 @@ use Rattle.pci_settle.specs.Lines.{AreLineRows, AreLines}
 use Rattle.pci_settle.specs.Slots.{Demand}
 use Rattle.pci_settle.specs.Kept.{spec_part}
 use Rattle.pci_stand.specs.declared.region.Region.{Region}
+use Rattle.pci_stand.specs.declared.rules.Rules.{Rules}
 use Rattle.pci_stand.specs.Boards.{IsBoard}
-use Rattle.pci_stand.specs.Known.{asked, region_value, AreParts}
+use Rattle.pci_stand.specs.Known.{asked_by, region_value, AreParts}
 use Rattle.pci_stand.specs.Passing.{AreStanding}
 use Rattle.pci_grow.specs.Reaches.{Given, StandsInRows, TellsSameOutside}
 use Rattle.pci_grow.specs.Rows.{AreRows}
@@ -65,15 +65,15 @@ module _ (q : Request) (s : System) (records : List Record) (given : Given) (row
       ∙ untold_is class
 
 -- so it is of what is asked for of an admitted system
-module _ (a : Admission) (d : Demand) (fixed : List Slot) (admitted : IsAdmitted a) (told : List ToldRange) (told_is : d.told.ranges ≡ told) (lines : List Line) (line_rows : AreLineRows lines) (are : AreLines a.roots told lines) where
+module _ (a : Admission) (d : Demand) (rules : Rules) (admitted : IsAdmitted a) (told : List ToldRange) (told_is : d.told.ranges ≡ told) (lines : List Line) (line_rows : AreLineRows lines) (are : AreLines a.roots told lines) where
   abbrev given : Given
   given = record { lists = d.lists; told = told; lines = lines }
 
   pub rows_of : (records : List Record) {values : List decoded.Record} → map record_value records ≡ values → HasRecords (system_in a) values
-      → (regions : List Region) → AreParts (asked a.roots d fixed) (system_in a) regions → (kept : List Kept) → AreStanding (asked a.roots d fixed) (system_in a) kept
-      → (rows : List Region) → AreRows regions kept rows → (slice : List Region) → slice ≡ rows → StandsInRows (asked a.roots d fixed) (system_in a) records given slice
+      → (regions : List Region) → AreParts (asked_by a.roots d rules) (system_in a) regions → (kept : List Kept) → AreStanding (asked_by a.roots d rules) (system_in a) kept
+      → (rows : List Region) → AreRows regions kept rows → (slice : List Region) → slice ≡ rows → StandsInRows (asked_by a.roots d rules) (system_in a) records given slice
   rows_of records same has regions parts kept stand rows sorted slice slice_is =
-      subst (StandsInRows (asked a.roots d fixed) (system_in a) records given) (sym slice_is)
-      (stand_in_rows (asked a.roots d fixed) (system_in a) records given
-      record { has = lent (system_in a) records same has; system = admitted.system; nested = admitted.nested; same = refl; stands = refl }
+      subst (StandsInRows (asked_by a.roots d rules) (system_in a) records given) (sym slice_is)
+      (stand_in_rows (asked_by a.roots d rules) (system_in a) records given
+      record { has = lent (system_in a) records same has; system = admitted.system; nested = admitted.nested; same = refl }
       told_is line_rows are admitted.profile regions parts kept stand rows sorted)

@@ -1,7 +1,6 @@
 -- What can grow meets what is asked for where holding parts, and then what is there, are found.
 use Rattle.std.proofs.Common.{◌≡◌, ◌⊎◌, List, length, map, false, refl, sym, subst, ◌∙◌, Option, None, Some}
 use Rattle.std.specs.List.{All}
-use Rattle.pci_spec.specs.Slot.{Slot}
 use Rattle.pci_spec.specs.Decoded.{HasRecords}
 use Rattle.settle_spec.specs.Lists.{Lists, Request}
 use Rattle.settle_laws.proofs.LowWindows.{windows_low}
@@ -21,8 +20,9 @@ use Rattle.pci_settle.specs.Lines.{AreLineRows, AreLines}
 use Rattle.pci_settle.specs.Slots.{Demand}
 use Rattle.pci_settle.specs.Buses.{Classing, classing_of, TellsClasses}
 use Rattle.pci_stand.specs.declared.region.Region.{Region}
+use Rattle.pci_stand.specs.declared.rules.Rules.{Rules}
 use Rattle.pci_stand.specs.Boards.{IsBoard}
-use Rattle.pci_stand.specs.Known.{asked, AreParts}
+use Rattle.pci_stand.specs.Known.{asked_by, AreParts}
 use Rattle.pci_stay.specs.declared.windows.TooLarge.{TooLarge}
 use Rattle.pci_stay.specs.Holding.{IsAsking, AreHolding}
 use Rattle.pci_stay.specs.Windows.{AreAllNew}
@@ -38,7 +38,7 @@ use Rattle.pci_grow.proofs.WholeReaches.{known_around, whole_reach, new_around, 
 
 module _ (q : Request) (p : Classing) (lists : Lists) (windows : ByKind (List (Option Extent))) (x : Reaching) (can : CanGrow q p lists windows x) where
   pub board_of : (records : List Record) → HasRecords p.system (map record_value records) → IsBoard q p.system records lists
-  board_of records has = record { has = has; system = can.system; nested = can.nested; same = can.same; stands = can.standing }
+  board_of records has = record { has = has; system = can.system; nested = can.nested; same = can.same }
 
   pub asking_of : (regions : List Region) (lines : List Line) → regions ≡ x.regions → lines ≡ x.lines → IsAsking p windows regions lines q
   asking_of regions lines same same_lines = record {
@@ -55,7 +55,6 @@ module _ (q : Request) (p : Classing) (lists : Lists) (windows : ByKind (List (O
   growing_of rows reaches lines same_rows same_reaches same_lines = record {
     system = can.system;
     nested = can.nested;
-    standing = can.standing;
     line_rows = subst AreLineRows (sym same_lines) can.reaching.line_rows;
     lines = subst (AreLines q.roots q.told.ranges) (sym same_lines) can.reaching.are_lines;
     low = can.low;
@@ -84,28 +83,27 @@ module _ (q : Request) (p : Classing) (lists : Lists) (windows : ByKind (List (O
   }
 
 -- so it is with what is asked for of an admitted system, where no bridge is named
-pub can_grow : (a : Admission) (d : Demand) (fixed : List Slot) → IsAdmitted a → (terms : Terms) (over : List OpenWindows) → TellsClasses (classing_of a terms over) (asked a.roots d fixed)
+pub can_grow : (a : Admission) (d : Demand) (rules : Rules) → IsAdmitted a → (terms : Terms) (over : List OpenWindows) → TellsClasses (classing_of a terms over) (asked_by a.roots d rules)
     → (windows : ByKind (List (Option Extent))) (large : Option TooLarge) → AreAllNew (classing_of a terms over) windows large
-    → (x : Reaching) → IsReaching (asked a.roots d fixed) (system_in a) x → (large ≡ None) ⊎ All (λ ranges. tells_whole ranges ≡ false) x.reaches
-    → CanGrow (asked a.roots d fixed) (classing_of a terms over) d.lists windows x
-can_grow a d fixed admitted terms over left windows large all x is none = record {
+    → (x : Reaching) → IsReaching (asked_by a.roots d rules) (system_in a) x → (large ≡ None) ⊎ All (λ ranges. tells_whole ranges ≡ false) x.reaches
+    → CanGrow (asked_by a.roots d rules) (classing_of a terms over) d.lists windows x
+can_grow a d rules admitted terms over left windows large all x is none = record {
   system = admitted.system;
   nested = admitted.nested;
   same = refl;
-  standing = refl;
-  low = windows_low (asked a.roots d fixed) (system_in a) admitted.system admitted.nested admitted.profile;
+  low = windows_low (asked_by a.roots d rules) (system_in a) admitted.system admitted.nested admitted.profile;
   left = left;
   reaching = is;
-  new = new_around (classing_of a terms over) (asked a.roots d fixed) left windows large all
-      (known_around (asked a.roots d fixed) (system_in a) admitted.system admitted.nested x is large none);
+  new = new_around (classing_of a terms over) (asked_by a.roots d rules) left windows large all
+      (known_around (asked_by a.roots d rules) (system_in a) admitted.system admitted.nested x is large none);
 }
 
 -- and a bridge that is named has too large a new window, where a window can grow to all addresses
-pub large_of : (a : Admission) (d : Demand) (fixed : List Slot) → IsAdmitted a → (terms : Terms) (over : List OpenWindows) → TellsClasses (classing_of a terms over) (asked a.roots d fixed)
+pub large_of : (a : Admission) (d : Demand) (rules : Rules) → IsAdmitted a → (terms : Terms) (over : List OpenWindows) → TellsClasses (classing_of a terms over) (asked_by a.roots d rules)
     → (windows : ByKind (List (Option Extent))) (large : Option TooLarge) → AreAllNew (classing_of a terms over) windows large
-    → (x : Reaching) → IsReaching (asked a.roots d fixed) (system_in a) x → (w : TooLarge) → (large ≡ Some w) × TellsWhole x.reaches
-    → IsTooLargeAround (asked a.roots d fixed) (system_in a) (refused.Fault w)
-large_of a d fixed admitted terms over left windows large all x is w (named, whole) = (
-  large_around (classing_of a terms over) (asked a.roots d fixed) left windows large all w named,
-  whole_reach (asked a.roots d fixed) (system_in a) admitted.system admitted.nested x is whole,
+    → (x : Reaching) → IsReaching (asked_by a.roots d rules) (system_in a) x → (w : TooLarge) → (large ≡ Some w) × TellsWhole x.reaches
+    → IsTooLargeAround (asked_by a.roots d rules) (system_in a) (refused.Fault w)
+large_of a d rules admitted terms over left windows large all x is w (named, whole) = (
+  large_around (classing_of a terms over) (asked_by a.roots d rules) left windows large all w named,
+  whole_reach (asked_by a.roots d rules) (system_in a) admitted.system admitted.nested x is whole,
 )

@@ -20,7 +20,6 @@ pub mod WholeReaches
 pub mod AllReaches
 pub mod Gathered
 pub mod Told
-pub mod ClassOver
 pub mod Folds
 pub mod Comings
 pub mod InRows

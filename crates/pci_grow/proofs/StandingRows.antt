@@ -25,6 +25,7 @@ use Rattle.stand_laws.proofs.Apart.{apart_where_beside}
 use Rattle.pci_base.specs.Ranges.{decoded_range_of}
 use Rattle.pci_base.specs.Space.{space_of}
 use Rattle.pci_base.specs.declared.space.Space.TheVariants as spaces
+use Rattle.pci_base.specs.declared.window_kind.WindowKind.TheVariants as kinds
 use Rattle.pci_place.specs.Items.{no_function, function_in}
 use Rattle.pci_settle.specs.declared.kept.Part.TheVariants as parts
 use Rattle.pci_settle.specs.Kept.{spec_part, nothing_kept}
@@ -46,9 +47,10 @@ no_region = record {
   fixed = false;
   on = false;
   leads = false;
+  can_stand = false;
   part = parts.Bar 0;
   space = spaces.Io;
-  prefetch = false;
+  class = kinds.Io;
   range = record { first = 0; last = 0 };
 }
 

@@ -45,7 +45,7 @@ use Rattle.pci_settle.specs.Placings.{at_places}
 use Rattle.pci_settle.specs.Turns.{HasExtent}
 use Rattle.pci_settle.proofs.Marked.{told_is}
 use Rattle.pci_stand.specs.declared.region.Region.{Region}
-use Rattle.pci_stand.specs.Known.{region_value}
+use Rattle.pci_stand.specs.Known.{Known, region_value}
 use Rattle.pci_stay.specs.Windows.{IsWhole}
 use Rattle.pci_grow.proofs.LowReaches.{highest_below, reach_low}
 use Rattle.pci_grow.specs.declared.around.Around.{Around}
@@ -54,10 +54,9 @@ use Rattle.pci_grow.specs.Grounds.{Ground, AreAlike}
 use Rattle.pci_grow.specs.Rows.{row_number, row_of}
 use Rattle.pci_grow.specs.There.{Tables, in_row, there_of, there_of_class, range_told, class_told, holding, placed_ranges, there_told}
 use Rattle.pci_grow.specs.Telling.{Setting, IsGrowing, IsWindowOf, IsThereTold}
-use Rattle.pci_grow.proofs.ClassOver.{class_is}
 use Rattle.pci_grow.proofs.AlikeTaken.{alike_same, alike_trans, alike_append}
 use Rattle.pci_grow.proofs.Comings.{StandFor, behind_item, comes_none, comes_some}
-use Rattle.pci_grow.proofs.InRows.{known_in, stands_in}
+use Rattle.pci_grow.proofs.InRows.{known_in}
 use Rattle.pci_grow.proofs.MarkedAround.{marks_stand}
 use Rattle.pci_grow.proofs.Told.{IsOnBus, row_bus, region_range, told_is as range_is, picked_same, one_space, space_itself}
 
@@ -207,15 +206,14 @@ module _ (p : Setting) (t : Tables) (b : Bridge) (class : CodeKind) (a : Around)
     mapped true o y e = e
     mapped false o y e = refl
 
-    same_class_there : HaveSame (map decoded_range_of (there_of_class b.windows c t row)) (there_on q s there (λ r. same_class c (class_in q s r.function r.part)) (secondary f))
+    same_class_there : HaveSame (map decoded_range_of (there_of_class c t row)) (there_on q s there (λ r. same_class c (class_in q s r.function r.part)) (secondary f))
     same_class_there =
-        subst (λ rs. HaveSame (map decoded_range_of (there_of_class b.windows c t rs)) (there_on q s there (λ r. same_class c (class_in q s r.function r.part)) (secondary f))) (sym row_at)
-        (picked_same q s growing.system growing.nested p.rows growing.rows there told.stand f listed bridge (window_space c) (λ r. same_class c (class_in q s r.function r.part)) (class_told b.windows c t)
+        subst (λ rs. HaveSame (map decoded_range_of (there_of_class c t rs)) (there_on q s there (λ r. same_class c (class_in q s r.function r.part)) (secondary f))) (sym row_at)
+        (picked_same q s growing.system growing.nested p.rows growing.rows there told.stand f listed bridge (window_space c) (λ r. same_class c (class_in q s r.function r.part)) (class_told c t)
         (λ r has at.
-        let on = on_bus r has at in
         let known = known_in q s growing.system growing.nested p.rows growing.rows r has in
         ap (λ k. option_map decoded_range_of (cond (same_class c k) (range_told t r) None))
-        (class_is q s growing.system growing.nested growing.standing f window.x window.is b window.bridge bridge r known on.off on.at (stands_in q s growing.system growing.nested p.rows growing.rows r has))
+        (ap (λ (k : Known). k.class) known.all)
         ∙ mapped _ (range_told t r) (there (region_value s r)) (range_is s growing.system t q r known))
         (λ v in_v passes. sym (space_of_class q s v.function v.part) ∙ ap window_space (same_class_is c (class_in q s v.function v.part) passes)))
 
@@ -246,9 +244,9 @@ module _ (p : Setting) (t : Tables) (b : Bridge) (class : CodeKind) (a : Around)
 
       pub some_is : (places : List ℕ) → ArePlacesAround a g taken items places → (range : Range)
           → ((others : List DecodedRange)
-          → (holding (holding a.window (there_of_class b.windows c t row)) (placed_ranges items places)).first ≡ fold min a.window.first (map (λ (r : DecodedRange). r.first) others)
-          → (holding (holding a.window (there_of_class b.windows c t row)) (placed_ranges items places)).last ≡ fold max a.window.last (map (λ (r : DecodedRange). r.last) others)
+          → (holding (holding a.window (there_of_class c t row)) (placed_ranges items places)).first ≡ fold min a.window.first (map (λ (r : DecodedRange). r.first) others)
+          → (holding (holding a.window (there_of_class c t row)) (placed_ranges items places)).last ≡ fold max a.window.last (map (λ (r : DecodedRange). r.last) others)
           → decoded_range_of range ≡ grown_to c (decoded_range_of a.window) others)
           → (window_comes_to q s there c f ≡ Some (decoded_range_of range)) × (taken_around q s there c f ≡ AllPlaced (at_places (map (asked_item_value s c) items) places))
       some_is places are range grown =
-          comes_some q s c f there a window.window window.reach_is g items lawful d off stand_for taken alike places are (there_of_class b.windows c t row) same_class_there range grown
+          comes_some q s c f there a window.window window.reach_is g items lawful d off stand_for taken alike places are (there_of_class c t row) same_class_there range grown

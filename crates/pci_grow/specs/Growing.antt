@@ -1,5 +1,5 @@
 -- What tables tell of windows that take and of those that grow, and of what stays where they do.
-use Rattle.std.specs.Prelude.{◌≡◌, ℕ, Bool, if◌then◌else◌, IsTrue, IsFalse, List, length, Option, Some, None, slice_get}
+use Rattle.std.specs.Prelude.{◌≡◌, ℕ, Bool, if◌then◌else◌, IsTrue, List, length, Option, Some, None, slice_get}
 use Rattle.std.specs.List.{Contains}
 use Rattle.std.specs.Option.{option_map}
 use Rattle.pci_spec.specs.Window.{WindowKind}
@@ -44,13 +44,12 @@ pub record ArePlacedThere (q : Request) (s : System) (table : List Places) : Typ
 -- ---- all of it
 
 -- a lawful system with what stands of it and the new windows of each class, or marks of those for which no window that stands
--- has room however far it grows; nothing is placed anew
+-- has room however far it grows
 pub record CanGrow (q : Request) (p : Classing) (lists : Lists) (windows : ByKind (List (Option Extent)))
     (x : Reaching) : Type 0 where
   pub system : IsSystem p.system
   pub nested : IsNested q.roots p.system
   pub same : q.lists ≡ lists
-  pub standing : IsFalse q.anew
   pub low : WindowsAreLow q p.system
   pub left : TellsClasses p q
   pub reaching : IsReaching q p.system x

@@ -82,11 +82,10 @@ HasNewAround q p c windows f =
     HasNewWindows q p.system c p.terms windows
     ⊎ (HasMarkedWindows q p.system c windows × (IsWhole (reach q p.system c f) → ⊥))
 
--- what is asked for of a lawful system, of which nothing is placed anew
+-- what is asked for of a lawful system
 pub record IsGrowing (q : Request) (p : Setting) : Type 0 where
   pub system : IsSystem p.classing.system
   pub nested : IsNested q.roots p.classing.system
-  pub standing : IsFalse q.anew
   pub line_rows : AreLineRows p.lines
   pub lines : AreLines q.roots q.told.ranges p.lines
   pub low : WindowsAreLow q p.classing.system

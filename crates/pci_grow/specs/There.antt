@@ -10,7 +10,7 @@ use Rattle.settle_spec.specs.Parts.{FunctionPart, addresses}
 use Rattle.pci_base.specs.declared.range.Range.{Range}
 use Rattle.pci_base.specs.declared.window_kind.ByKind.{ByKind}
 use Rattle.pci_base.specs.Ranges.{decoded_range_of}
-use Rattle.pci_image.specs.declared.window.Windows.{Windows}
+use Rattle.pci_base.specs.WindowKinds.{kind_value}
 use Rattle.pci_settle.specs.declared.item.Item.{Item}
 use Rattle.pci_settle.specs.declared.kept.Kept.{Kept}
 use Rattle.pci_settle.specs.declared.kept.Part.{Part as CodePart}
@@ -18,7 +18,6 @@ use Rattle.pci_settle.specs.declared.kept.Part.TheVariants as parts
 use Rattle.pci_settle.specs.Spots.{extent_range}
 use Rattle.pci_stand.specs.declared.region.Region.{Region}
 use Rattle.pci_stand.specs.Held.{is_kept}
-use Rattle.pci_stand.specs.Places.{window_for}
 use Rattle.pci_stand.specs.Tables.{index_of, stands_in}
 use Rattle.pci_settle.specs.declared.place.Places.{Places}
 use Rattle.pci_grow.specs.declared.there.There.{There}
@@ -53,9 +52,9 @@ or_own (Some grown) keeps own = Some grown
 abbrev pub range_told : Tables → Region → Option Range
 range_told t r = or_own (grown_of t.grown r.function r.part) (is_kept t.kept r) r.range
 
--- the same of parts that can stand in the window of a class of a bridge
-abbrev pub class_told : Windows → WindowKind → Tables → Region → Option Range
-class_told w c t r = if same_class c (window_for w r) then range_told t r else None
+-- the same of parts of a class
+abbrev pub class_told : WindowKind → Tables → Region → Option Range
+class_told c t r = if same_class c (kind_value r.class) then range_told t r else None
 
 abbrev pub listed : Option Range → List Range
 listed None = []
@@ -65,8 +64,8 @@ listed (Some r) = r ∷ []
 abbrev pub there_of : Tables → List Region → List Range
 there_of t row = flat_map (λ r. listed (range_told t r)) row
 
-abbrev pub there_of_class : Windows → WindowKind → Tables → List Region → List Range
-there_of_class w c t row = flat_map (λ r. listed (class_told w c t r)) row
+abbrev pub there_of_class : WindowKind → Tables → List Region → List Range
+there_of_class c t row = flat_map (λ r. listed (class_told c t r)) row
 
 -- the parts of a row
 abbrev pub in_row : ℕ → List Region → List Region

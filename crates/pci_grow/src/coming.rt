@@ -209,7 +209,7 @@ pub fn comes_to<A: Allocator + Copy, B: Allocator>(
         return Ok(None);
     };
     let behind = on_bus(setting.rows, bus, class);
-    let held = held_with(bridge, class, around.window, behind, there);
+    let held = held_with(class, around.window, behind, there);
     let all = held_with_places(held, items.as_slice(), places.as_slice());
     let range = grown_to(class, around.window, all);
     Ok(Some(Coming {

@@ -14,7 +14,7 @@ ghost use Rattle.pci_settle.specs.Keeping.{TellsKept};
 ghost use Rattle.pci_settle.specs.Lists.{lists_value};
 ghost use Rattle.pci_settle.specs.Slots.{demand_value};
 ghost use Rattle.pci_stand.specs.Boards.{IsBoard};
-ghost use Rattle.pci_stand.specs.Known.{asked, AreParts};
+ghost use Rattle.pci_stand.specs.Known.{asked_by, AreParts};
 ghost use Rattle.pci_stand.specs.Passing.{CanBeNoted};
 ghost use Rattle.pci_stay.specs.Holding.{AreHolding};
 ghost use Rattle.pci_stay.specs.Staying.{AreStayingBy};
@@ -29,7 +29,7 @@ use crate::marks::{keep_marked, leave_marked, marks};
 use crate::reaching::{Reaching, all_reaches, unknown_around};
 use crate::there::There;
 use pci_base::memory::{OutOfMemory, Refused};
-use pci_base::slot::{BUSES, Slot};
+use pci_base::slot::BUSES;
 use pci_base::window_kind::ByKind;
 use pci_place::above::aboves;
 use pci_settle::extent::Extent;
@@ -40,10 +40,12 @@ use pci_settle::over::{Left, OpenWindows};
 use pci_settle::own::Terms;
 use pci_settle::place::Places;
 use pci_settle::table::WindowRanges;
+use pci_stand::open_windows::open_windows;
 use pci_stand::place::bridges_over;
+use pci_stand::rules::Rules;
 use pci_stay::holding::{Behind, hold_all};
 use pci_stay::staying::{Board, stay_all};
-use pci_stay::windows::{TooLarge, all_windows, open_windows};
+use pci_stay::windows::{TooLarge, all_windows};
 use pci_tree::admitted::Admitted;
 use std::alloc::Allocator;
 
@@ -174,8 +176,7 @@ fn growing_by<'b, A: Allocator + Copy, B: Allocator>(
     })
 }
 
-/// What keeps its place where windows grow, and with which addresses. `fixed` are the slots of functions whose registers may
-/// not be written.
+/// What keeps its place where windows grow, and with which addresses.
 ///
 /// A bridge is named whose new window would have 2^64 addresses or more, where a window that stands can grow to all addresses
 /// of 64 bits: no other one has room for it.
@@ -183,16 +184,16 @@ pub fn growing<A: Allocator + Copy, B: Allocator>(
     alloc: A,
     admitted: &Admitted<B>,
     lists: &Lists,
-    fixed: &[Slot],
+    rules: &Rules,
 ) -> Result<Grown<A>, Refused<TooLarge>>
     ensures grown { IfOk result (λ grown. AreGrown
-        (asked admitted.now.roots (demand_value lists.now) fixed.now) (system_in admitted.now)
+        (asked_by admitted.now.roots (demand_value lists.now) rules.now) (system_in admitted.now)
         (grown_value grown)) }
     ensures fault { IfErr result (IsTooLargeAround
-        (asked admitted.now.roots (demand_value lists.now) fixed.now) (system_in admitted.now)) }
+        (asked_by admitted.now.roots (demand_value lists.now) rules.now) (system_in admitted.now)) }
 {
     let aboves = aboves(admitted);
-    let opened = open_windows(admitted.outline().records());
+    let opened = open_windows(admitted.outline().records(), rules.anew);
     let classing = Classing {
         admitted,
         aboves: &aboves,
@@ -200,7 +201,7 @@ pub fn growing<A: Allocator + Copy, B: Allocator>(
         overs: &opened,
     };
     let windows = all_windows(alloc, &classing)?;
-    let reaching = all_reaches(alloc, admitted, lists, fixed)?;
+    let reaching = all_reaches(alloc, admitted, lists, rules)?;
     if let Some(window) = unknown_around(windows.large, reaching.reaches.as_slice()) {
         return Err(Refused::Fault(window));
     }

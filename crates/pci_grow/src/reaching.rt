@@ -3,13 +3,12 @@ ghost use Rattle.std.specs.Prelude.{◌≡◌, ◌⊎◌, None, Some, IsTrue, Is
 ghost use Rattle.std.specs.List.{All};
 ghost use Rattle.pci_place.specs.Above.{system_in};
 ghost use Rattle.pci_settle.specs.Slots.{demand_value};
-ghost use Rattle.pci_stand.specs.Known.{asked};
+ghost use Rattle.pci_stand.specs.Known.{asked_by};
 ghost use Rattle.pci_grow.specs.Reaching.{reaching_value, IsReaching, tells_whole, TellsWhole};
 
 use crate::beside::standing_in_rows;
 use crate::reach::{Board, find_reaches};
 use pci_base::memory::OutOfMemory;
-use pci_base::slot::Slot;
 use pci_settle::kept::Kept;
 use pci_settle::lines::{Line, lines};
 use pci_settle::list::Lists;
@@ -18,6 +17,7 @@ use pci_stand::collect::regions;
 use pci_stand::pass::standing;
 use pci_stand::place::bridges_over;
 use pci_stand::region::Region;
+use pci_stand::rules::Rules;
 use pci_stay::windows::{TooLarge, is_whole_range};
 use pci_tree::admitted::Admitted;
 use std::alloc::Allocator;
@@ -37,22 +37,22 @@ pub struct Reaching<A: Allocator> {
     pub lines: Vec<Line, A>,
 }
 
-/// What stands, and how far its windows can grow. `fixed` are the slots of functions whose registers may not be written.
+/// What stands, and how far its windows can grow.
 pub fn all_reaches<A: Allocator + Copy, B: Allocator>(
     alloc: A,
     admitted: &Admitted<B>,
     lists: &Lists,
-    fixed: &[Slot],
+    rules: &Rules,
 ) -> Result<Reaching<A>, OutOfMemory>
     ensures { IfOk result (λ reaching. IsReaching
-        (asked admitted.now.roots (demand_value lists.now) fixed.now) (system_in admitted.now)
+        (asked_by admitted.now.roots (demand_value lists.now) rules.now) (system_in admitted.now)
         (reaching_value reaching)) }
 {
     let outline = admitted.outline();
     let records = outline.records();
     let roots = outline.roots();
-    let regions = regions(alloc, admitted, lists, fixed)?;
-    let kept = standing(alloc, admitted, lists, fixed)?;
+    let regions = regions(alloc, admitted, lists, rules)?;
+    let kept = standing(alloc, admitted, lists, rules)?;
     let rows = standing_in_rows(alloc, regions.as_slice(), kept.as_slice())?;
     let lines = lines(alloc, lists.told, &roots)?;
     let board = Board {

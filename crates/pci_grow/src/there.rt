@@ -12,13 +12,11 @@ use crate::beside::first_from;
 use pci_base::memory::OutOfMemory;
 use pci_base::range::Range;
 use pci_base::window_kind::WindowKind;
-use pci_function::record::Bridge;
 use pci_settle::bus::kept_by;
 use pci_settle::item::Item;
 use pci_settle::kept::{Kept, Part};
 use pci_settle::place::Places;
 use pci_settle::table::{WindowRanges, told_of};
-use pci_stand::place::window_for;
 use pci_stand::region::Region;
 use std::alloc::Allocator;
 
@@ -57,12 +55,11 @@ impl<A: Allocator> There<A> {
         }
     }
 
-    /// The same of a part that can stand in the window of a class of a bridge.
-    fn range_in(&self, bridge: &Bridge, class: WindowKind, region: &Region) -> Option<Range>
-        ensures { result
-            ≡ class_told bridge.now.windows (kind_value class) (tables_of self.now) region.now }
+    /// The same of a part of a class.
+    fn range_in(&self, class: WindowKind, region: &Region) -> Option<Range>
+        ensures { result ≡ class_told (kind_value class) (tables_of self.now) region.now }
     {
-        if window_for(region, &bridge.windows) == class {
+        if region.class == class {
             self.range_of(region)
         } else {
             None
@@ -112,18 +109,17 @@ fn around_both(one: Range, other: Range) -> Range
 
 /// The least range that holds a window and what is there of its class in a row.
 pub fn held_with<A: Allocator>(
-    bridge: &Bridge,
     class: WindowKind,
     window: Range,
     row: &[Region],
     there: &There<A>,
 ) -> Range
     ensures { result ≡ holding window
-        (there_of_class bridge.now.windows (kind_value class) (tables_of there.now) row.now) }
+        (there_of_class (kind_value class) (tables_of there.now) row.now) }
 {
     let mut held = window;
     for region in row {
-        if let Some(range) = there.range_in(bridge, class, region) {
+        if let Some(range) = there.range_in(class, region) {
             held = around_both(held, range);
         }
     }

@@ -40,7 +40,7 @@ returns-clause-comes g c =
     let places = c.in-Some.places.items in
     let behind = c.on_bus-behind.result.now in
     let some = subst (λ o. IfSome o (λ table. ArePlacesAround around ground c.in_ok-taken.taken.items c.as_slice.result.now table.items)) c.in-Some.is c.in_ok-places.ensures.some in
-    let class_there = there_of_class c.args.bridge.now.windows (kind_value c.args.class) (tables_of c.args.there.now) behind in
+    let class_there = there_of_class (kind_value c.args.class) (tables_of c.args.there.now) behind in
     let all_is : c.held_with_places-all.result ≡ holding (holding around.window class_there) (placed_ranges items places) =
     c.held_with_places-all.ensures
     ∙ ap (λ h. holding h (placed_ranges c.as_slice-2.result.now c.as_slice-3.result.now)) c.held_with-held.ensures

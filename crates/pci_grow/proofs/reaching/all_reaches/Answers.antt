@@ -3,7 +3,7 @@ use Rattle.pci_place.specs.Above.{system_in}
 use Rattle.pci_place.proofs.Records.{lent, same_count}
 use Rattle.pci_settle.specs.Lines.{AreLineRows, AreLines}
 use Rattle.pci_settle.specs.Slots.{demand_value}
-use Rattle.pci_stand.specs.Known.{asked}
+use Rattle.pci_stand.specs.Known.{asked_by}
 use Rattle.pci_stand.proofs.Whole.{slice_back}
 use Rattle.pci_grow.specs.Reaches.{AreReaches}
 use Rattle.pci_grow.specs.Rows.{AreRows}
@@ -22,9 +22,9 @@ find_reaches-requires-clause-rows g c =
     (subst (λ rs. AreLines rs d.told.ranges c.in_ok-lines.lines.items) (c.roots-roots.ensures ∙ c.outline-outline.ensures.roots) c.in_ok-lines.ensures.lines)) in
     let rows = c.in_ok-rows.rows.items in
     let sorted = subst (λ xs. AreRows xs c.in_ok-kept.kept.items rows) c.as_slice.ensures.value (subst (λ ks. AreRows c.as_slice.result.now ks rows) c.as_slice-2.ensures.value c.in_ok-rows.ensures.rows) in (
-      asked a.roots d c.args.fixed.now,
+      asked_by a.roots d c.args.rules.now,
       system_in a,
-      rows_of a d c.args.fixed.now c.outline-outline.ensures.admitted text (sym c.as_slice-3.ensures.value) lines (subst AreLineRows (sym c.as_slice-4.ensures.value) c.in_ok-lines.ensures.rows) are_lines c.records-records.result.now c.records-records.ensures.value c.outline-outline.ensures.records
+      rows_of a d c.args.rules.now c.outline-outline.ensures.admitted text (sym c.as_slice-3.ensures.value) lines (subst AreLineRows (sym c.as_slice-4.ensures.value) c.in_ok-lines.ensures.rows) are_lines c.records-records.result.now c.records-records.ensures.value c.outline-outline.ensures.records
           c.in_ok-regions.regions.items c.in_ok-regions.ensures c.in_ok-kept.kept.items c.in_ok-kept.ensures rows sorted c.as_slice-5.result.now c.as_slice-5.ensures.value,
     )
 
@@ -33,7 +33,7 @@ returns g c =
     let a = c.args.admitted.now in
     let d = demand_value c.args.lists.now in
     let s = system_in a in
-    let q = asked a.roots d c.args.fixed.now in
+    let q = asked_by a.roots d c.args.rules.now in
     let records = c.records-records.result.now in
     let text = c.as_slice-3.result.now in
     let lines = c.as_slice-4.result.now in
@@ -42,7 +42,7 @@ returns g c =
     (subst (λ rs. AreLines rs d.told.ranges c.in_ok-lines.lines.items) (c.roots-roots.ensures ∙ c.outline-outline.ensures.roots) c.in_ok-lines.ensures.lines)) in
     let rows = c.in_ok-rows.rows.items in
     let sorted = subst (λ xs. AreRows xs c.in_ok-kept.kept.items rows) c.as_slice.ensures.value (subst (λ ks. AreRows c.as_slice.result.now ks rows) c.as_slice-2.ensures.value c.in_ok-rows.ensures.rows) in
-    let are = rows_of a d c.args.fixed.now c.outline-outline.ensures.admitted text (sym c.as_slice-3.ensures.value) lines (subst AreLineRows (sym c.as_slice-4.ensures.value) c.in_ok-lines.ensures.rows) are_lines records c.records-records.ensures.value c.outline-outline.ensures.records
+    let are = rows_of a d c.args.rules.now c.outline-outline.ensures.admitted text (sym c.as_slice-3.ensures.value) lines (subst AreLineRows (sym c.as_slice-4.ensures.value) c.in_ok-lines.ensures.rows) are_lines records c.records-records.ensures.value c.outline-outline.ensures.records
     c.in_ok-regions.regions.items c.in_ok-regions.ensures c.in_ok-kept.kept.items c.in_ok-kept.ensures rows sorted c.as_slice-5.result.now c.as_slice-5.ensures.value in
     let old = c.as_mut_slice.result.now in
     let new = c.find_reaches.new.reaches in
