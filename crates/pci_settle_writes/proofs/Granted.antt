@@ -1,10 +1,7 @@
 -- Beside wishes the same is kept, so tables tell it, too.
-use Rattle.std.proofs.Common.{◌≡◌, Bool, true, false, cond, List, [], map, Option, sym, ◌∙◌, ap, subst}
-use Rattle.pci_spec.specs.Decoded.{HasRecords}
-use Rattle.pci_spec.specs.Decoded as decoded
+use Rattle.std.proofs.Common.{◌≡◌, List, Option, sym, ◌∙◌, ap, subst}
 use Rattle.pci_spec.specs.Text.{Block}
 use Rattle.pci_spec.specs.System.{System}
-use Rattle.pci_spec.specs.Bus.{IsNested}
 use Rattle.settle_spec.specs.Lists.{Request}
 use Rattle.settle_spec.specs.Parts.{FunctionPart}
 use Rattle.settle_spec.specs.Kept.{Kept as Keeping, no_wish, unwished}
@@ -13,16 +10,8 @@ use Rattle.settle_laws.specs.KeptLaws.{WishesNothing}
 use Rattle.settle_laws.proofs.Keeping.Wishless.{new_same}
 use Rattle.pci_base.specs.declared.range.Range.{Range}
 use Rattle.pci_base.specs.declared.window_kind.ByKind.{ByKind}
-use Rattle.pci_function.specs.declared.record.Record.{Record}
-use Rattle.pci_function.specs.Values.{record_value}
-use Rattle.pci_tree.specs.Admission.{Admission, IsAdmitted}
-use Rattle.pci_place.specs.Above.{system_in}
-use Rattle.pci_place.proofs.Records.{lent}
+use Rattle.pci_tree.specs.Admission.{Admission}
 use Rattle.pci_settle.specs.declared.kept.Kept.{Kept}
-use Rattle.pci_settle.specs.declared.over.OpenWindows.{OpenWindows}
-use Rattle.pci_settle.specs.Over.{AreOpenOver}
-use Rattle.pci_settle.proofs.Anew.{over_anew}
-use Rattle.pci_stay.specs.Windows.{AreOpenFor}
 use Rattle.pci_settled.specs.declared.places.Places.{Places}
 use Rattle.pci_settled.specs.Places.{placed_at}
 use Rattle.pci_settling.specs.Live.{HasAllPlaces}
@@ -49,10 +38,3 @@ module _ (p : Request) (s : System) (keep j : Keeping) (alike : unwished j ≡ u
   plain_then a dump none is =
       let same : unwished j ≡ keep = alike ∙ ap (λ wish. record keep { wished = wish }) (sym none) in
       subst (λ k. IsSettledDump p k a dump) (sym same) is
-
--- the open windows that count
-pub overs_open : (a : Admission) (p : Request) → p.roots ≡ a.roots → IsAdmitted a → (records : List Record) {values : List decoded.Record} → map record_value records ≡ values → HasRecords (system_in a) values
-    → (windows : List OpenWindows) → AreOpenFor p (system_in a) records windows → (b : Bool) → p.anew ≡ b → AreOpenOver p (system_in a) (cond b [] windows)
-overs_open a p roots admitted records same has windows opened true is = over_anew p (system_in a) is
-overs_open a p roots admitted records same has windows opened false is =
-    opened record { has = lent (system_in a) records same has; system = admitted.system; nested = subst (λ rs. IsNested rs (system_in a)) (sym roots) admitted.nested; stands = is }

@@ -1,10 +1,9 @@
 -- Tables of what stands and stays: where all is placed anew nothing does, and else as they were made.
-use Rattle.std.proofs.Common.{arith, ◌≡◌, ◌<◌, Bool, List, [], map, length, false, slice_index_or, None, refl, sym, ◌∙◌, ap, subst}
+use Rattle.std.proofs.Common.{◌≡◌, ◌<◌, Bool, List, [], map, length, false, slice_index_or, None, refl, sym, ◌∙◌, ap, subst}
 use Rattle.std.specs.Bool.{IsTrue}
 use Rattle.std.specs.Option.{option_map}
 use Rattle.std.proofs.lemmas.List.{get_or_default}
 use Rattle.std.proofs.lemmas.Option.{slice_get_within}
-use Rattle.pci_spec.specs.Slot.{Slot}
 use Rattle.pci_spec.specs.System.{System}
 use Rattle.pci_spec.specs.Decoded.{HasRecords}
 use Rattle.pci_spec.specs.Decoded as decoded
@@ -27,18 +26,18 @@ use Rattle.pci_settle.specs.Keeping.{TellsKept}
 use Rattle.pci_settle.specs.Over.{AreOpenOver}
 use Rattle.pci_settle.proofs.AsItStands.{stands_told}
 use Rattle.pci_grow.specs.Growing.{Grown, AreGrown}
-use Rattle.pci_stand.specs.Known.{asked}
+use Rattle.pci_stand.specs.Known.{asked_by}
 use Rattle.pci_stand.specs.Passing.{AreStanding}
-use Rattle.pci_stay.specs.Windows.{AreOpenFor}
+use Rattle.pci_stand.specs.declared.rules.Rules.{Rules}
+use Rattle.pci_stand.specs.Boards.{IsTree}
 use Rattle.pci_stay.specs.Staying.{AreStaying, AreStayingBy, stays_by}
-use Rattle.pci_stay.proofs.Opened.{tree_of}
+use Rattle.pci_stand.proofs.Opened.{tree_of}
 use Rattle.pci_settled.specs.Placed.{IsLeaving, CanBeLeft}
 use Rattle.pci_settled.proofs.NothingLeft.{leaves}
 use Rattle.pci_settle_writes.specs.Requests.{IsAskedOf}
 use Rattle.pci_settle_writes.specs.Told.{IsTableOf}
 use Rattle.settle_spec.specs.Writes.{fixed_without}
 use Rattle.pci_settle_writes.specs.Fixed.{fixed_part}
-use Rattle.pci_settle_writes.specs.ToldEndings.{KnownTold, HasEachFlag, KnowsTold}
 use Rattle.pci_settle_writes.specs.Endings.{AreFixedKept, AreAskedFor}
 use Rattle.pci_settle_writes.proofs.Refusals.{untold_kept}
 
@@ -61,20 +60,10 @@ table_of_staying q s holds table are = record {
       ap (λ t. kept_of t part) (get_or_default table k d nothing_kept (subst (λ n. k < n) (sym are.count) within)) ∙ are.each k f part at there;
 }
 
--- where nothing is told, whatever has a flag for each told range tells it
-pub nothing_known : (q : Request) (s : System) (t : KnownTold) → q.told.ranges ≡ t.ranges → t.ranges ≡ [] → HasEachFlag t → KnowsTold q s t
-nothing_known q s t same none has =
-    let count : length q.told.ranges ≡ 0 = ap length (same ∙ none) in
-    record {
-      ranges = same;
-      lines = record { size = has.lines ∙ ap length (sym same); each = λ k d r low. absurd (let no : ⊥ = omega (arith, low, count) in no) };
-      standing = λ n r at. absurd (let within = slice_get_within q.told.ranges n r at in let no : ⊥ = omega (arith, within, count) in no);
-    }
-
 -- open windows of what is left are those that were found
-pub left_opened : {records : List Record} {overs windows : List OpenWindows} → ((q : Request) (s : System) → AreOpenFor q s records windows) → overs ≡ windows
-    → (q : Request) (s : System) → AreOpenFor q s records overs
-left_opened {records} opened same q s = subst (AreOpenFor q s records) (sym same) (opened q s)
+pub left_opened : {records : List Record} {anew : Bool} {overs windows : List OpenWindows} → ((q : Request) (s : System) → IsTree q s records → q.anew ≡ anew → AreOpenOver q s windows) → overs ≡ windows
+    → (q : Request) (s : System) → IsTree q s records → q.anew ≡ anew → AreOpenOver q s overs
+left_opened opened same q s tree is = subst (AreOpenOver q s) (sym same) (opened q s tree is)
 
 module _ (a : Admission) (l : Demand) where
   -- what is asked for tells nothing where nothing is told
@@ -102,60 +91,60 @@ module _ (a : Admission) (l : Demand) where
     }
 
   -- where something may stay
-  pub asked_is : (fixed : List Slot) → IsAskedOf (asked a.roots l fixed) a.roots l
-  asked_is fixed = record { roots_are = refl; demands_are = refl }
+  pub asked_is : (rules : Rules) → IsAskedOf (asked_by a.roots l rules) a.roots l
+  asked_is rules = record { roots_are = refl; demands_are = refl }
 
-  module _ (fixed : List Slot) (table : List Kept) {made : List Kept} (is : table ≡ made) where
-    pub table_stand : AreStanding (asked a.roots l fixed) (system_in a) made → IsTableOf (system_in a) (stands (asked a.roots l fixed) (system_in a)) table
-    table_stand stand = subst (IsTableOf (system_in a) (stands (asked a.roots l fixed) (system_in a))) (sym is) record { count = stand.count; each = stand.each }
+  module _ (rules : Rules) (table : List Kept) {made : List Kept} (is : table ≡ made) where
+    pub table_stand : AreStanding (asked_by a.roots l rules) (system_in a) made → IsTableOf (system_in a) (stands (asked_by a.roots l rules) (system_in a)) table
+    table_stand stand = subst (IsTableOf (system_in a) (stands (asked_by a.roots l rules) (system_in a))) (sym is) record { count = stand.count; each = stand.each }
 
-    pub table_stay : (holds : FunctionPart → Bool) → AreStayingBy (asked a.roots l fixed) (system_in a) holds made
-        → IsTableOf (system_in a) (stays_by (asked a.roots l fixed) (system_in a) holds) table
+    pub table_stay : (holds : FunctionPart → Bool) → AreStayingBy (asked_by a.roots l rules) (system_in a) holds made
+        → IsTableOf (system_in a) (stays_by (asked_by a.roots l rules) (system_in a) holds) table
     table_stay holds stay =
-        subst (IsTableOf (system_in a) (stays_by (asked a.roots l fixed) (system_in a) holds)) (sym is) (table_of_staying (asked a.roots l fixed) (system_in a) holds made stay)
+        subst (IsTableOf (system_in a) (stays_by (asked_by a.roots l rules) (system_in a) holds)) (sym is) (table_of_staying (asked_by a.roots l rules) (system_in a) holds made stay)
 
-  module _ (fixed : List Slot) (admitted : IsAdmitted a) (records : List Record) {values : List decoded.Record} (same : map record_value records ≡ values) (has : HasRecords (system_in a) values)
-      (left : Left) (opened : (q : Request) (s : System) → AreOpenFor q s records left.over.now) (staying : List Kept) {stayed : List Kept} (stayed_is : staying ≡ stayed) where
-    overs : AreOpenOver (asked a.roots l fixed) (system_in a) left.over.now
-    overs = opened (asked a.roots l fixed) (system_in a) (tree_of a l fixed admitted records same has)
+  module _ (rules : Rules) (admitted : IsAdmitted a) (records : List Record) {values : List decoded.Record} (same : map record_value records ≡ values) (has : HasRecords (system_in a) values)
+      (left : Left) (opened : (q : Request) (s : System) → IsTree q s records → q.anew ≡ rules.anew → AreOpenOver q s left.over.now) (staying : List Kept) {stayed : List Kept} (stayed_is : staying ≡ stayed) where
+    overs : AreOpenOver (asked_by a.roots l rules) (system_in a) left.over.now
+    overs = opened (asked_by a.roots l rules) (system_in a) (tree_of a l rules admitted records same has) refl
 
     -- as it stands
-    module _ (kept_is : left.kept.now ≡ stayed) (none_grown : left.grown.now ≡ []) (stay : AreStaying (asked a.roots l fixed) (system_in a) stayed) where
-      pub leaving_rest : IsLeaving (asked a.roots l fixed) (as_it_stands (asked a.roots l fixed) (system_in a)) a.roots (system_in a) l left
+    module _ (kept_is : left.kept.now ≡ stayed) (none_grown : left.grown.now ≡ []) (stay : AreStaying (asked_by a.roots l rules) (system_in a) stayed) where
+      pub leaving_rest : IsLeaving (asked_by a.roots l rules) (as_it_stands (asked_by a.roots l rules) (system_in a)) a.roots (system_in a) l left
       leaving_rest = record {
         rooted = refl;
         demands = refl;
         overs_are = overs;
-        keeps_is = stands_told (asked a.roots l fixed) (system_in a) left none_grown
+        keeps_is = stands_told (asked_by a.roots l rules) (system_in a) left none_grown
             (λ k f part at there. ap (λ t. kept_of (slice_index_or t k nothing_kept) part) kept_is ∙ stay.each k f part at there);
       }
 
       pub rest_can_be_left : CanBeLeft a.roots (system_in a) l left
-      rest_can_be_left = record { request = asked a.roots l fixed; keep = as_it_stands (asked a.roots l fixed) (system_in a); leaving = leaving_rest }
+      rest_can_be_left = record { request = asked_by a.roots l rules; keep = as_it_stands (asked_by a.roots l rules) (system_in a); leaving = leaving_rest }
 
-      pub told_rest : AreFixedKept (asked a.roots l fixed) (system_in a) (as_it_stands (asked a.roots l fixed) (system_in a))
-          → AreAskedFor (asked a.roots l fixed) (as_it_stands (asked a.roots l fixed) (system_in a)) a l left staying
+      pub told_rest : AreFixedKept (asked_by a.roots l rules) (system_in a) (as_it_stands (asked_by a.roots l rules) (system_in a))
+          → AreAskedFor (asked_by a.roots l rules) (as_it_stands (asked_by a.roots l rules) (system_in a)) a l left staying
       told_rest kept = record {
-        asked = asked_is fixed;
+        asked = asked_is rules;
         leaving = leaving_rest;
         kept = kept;
-        stay = table_stay fixed staying stayed_is (has_room_behind (asked a.roots l fixed) (system_in a)) stay;
+        stay = table_stay rules staying stayed_is (has_room_behind (asked_by a.roots l rules) (system_in a)) stay;
         none = refl;
       }
 
     -- where windows grow
-    module _ (grown : Grown) (stays_are : grown.stays ≡ stayed) (are : AreGrown (asked a.roots l fixed) (system_in a) grown)
-        (tells : TellsKept (asked a.roots l fixed) (system_in a) (growing (asked a.roots l fixed) (system_in a)) left) where
-      pub leaving_grown : IsLeaving (asked a.roots l fixed) (growing (asked a.roots l fixed) (system_in a)) a.roots (system_in a) l left
+    module _ (grown : Grown) (stays_are : grown.stays ≡ stayed) (are : AreGrown (asked_by a.roots l rules) (system_in a) grown)
+        (tells : TellsKept (asked_by a.roots l rules) (system_in a) (growing (asked_by a.roots l rules) (system_in a)) left) where
+      pub leaving_grown : IsLeaving (asked_by a.roots l rules) (growing (asked_by a.roots l rules) (system_in a)) a.roots (system_in a) l left
       leaving_grown = record { rooted = refl; demands = refl; overs_are = overs; keeps_is = tells }
 
       pub grown_can_be_left : CanBeLeft a.roots (system_in a) l left
-      grown_can_be_left = record { request = asked a.roots l fixed; keep = growing (asked a.roots l fixed) (system_in a); leaving = leaving_grown }
+      grown_can_be_left = record { request = asked_by a.roots l rules; keep = growing (asked_by a.roots l rules) (system_in a); leaving = leaving_grown }
 
-      pub table_grown : IsTableOf (system_in a) (stays_growing (asked a.roots l fixed) (system_in a)) staying
-      table_grown = table_stay fixed staying stayed_is (is_kept (asked a.roots l fixed) (system_in a))
-          (subst (AreStayingBy (asked a.roots l fixed) (system_in a) (is_kept (asked a.roots l fixed) (system_in a))) stays_are are.stay)
+      pub table_grown : IsTableOf (system_in a) (stays_growing (asked_by a.roots l rules) (system_in a)) staying
+      table_grown = table_stay rules staying stayed_is (is_kept (asked_by a.roots l rules) (system_in a))
+          (subst (AreStayingBy (asked_by a.roots l rules) (system_in a) (is_kept (asked_by a.roots l rules) (system_in a))) stays_are are.stay)
 
-      pub told_grown : AreFixedKept (asked a.roots l fixed) (system_in a) (growing (asked a.roots l fixed) (system_in a))
-          → AreAskedFor (asked a.roots l fixed) (growing (asked a.roots l fixed) (system_in a)) a l left staying
-      told_grown kept = record { asked = asked_is fixed; leaving = leaving_grown; kept = kept; stay = table_grown; none = refl }
+      pub told_grown : AreFixedKept (asked_by a.roots l rules) (system_in a) (growing (asked_by a.roots l rules) (system_in a))
+          → AreAskedFor (asked_by a.roots l rules) (growing (asked_by a.roots l rules) (system_in a)) a l left staying
+      told_grown kept = record { asked = asked_is rules; leaving = leaving_grown; kept = kept; stay = table_grown; none = refl }

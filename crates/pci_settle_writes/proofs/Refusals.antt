@@ -2,7 +2,6 @@
 use Rattle.std.proofs.Common.{◌≡◌, ℕ, inl, inr, List, [], ◌∷◌, ◌&&◌, Bool, cond, not, Option, None, Some, false, refl, sym, ◌∙◌, ap, subst}
 use Rattle.std.specs.Option.{option_map}
 use Rattle.std.specs.List.{find, list_any}
-use Rattle.std.proofs.lemmas.Bool.{false≢true}
 use Rattle.std.proofs.lemmas.Option.{none-some, same_Some}
 use Rattle.pci_spec.specs.Machine.{Write}
 use Rattle.pci_spec.specs.Slot.{same_slot}
@@ -30,6 +29,7 @@ use Rattle.pci_stay.specs.declared.windows.TooLarge.{TooLarge}
 use Rattle.pci_stay.specs.Windows.{HasWholeWindow}
 use Rattle.pci_settle_writes.specs.declared.lack.SettleFault.{SettleFault}
 use Rattle.pci_settle_writes.specs.declared.lack.SettleFault.TheVariants as fault
+use Rattle.pci_settle_writes.specs.Requests.{CanStay}
 use Rattle.pci_settle_writes.specs.Lacks.{IsOfSystem, IsSettleFaultOf, too_large}
 use Rattle.pci_settle_writes.specs.Fixed.{fixed_part, fixed_register}
 use Rattle.pci_settle_writes.specs.Endings.{then_writes, after_lists, AreKeptStanding, AreKeptStaying, AreFixedKept, IsFree, IsStayKnown, IsTooLargeAsked, IsLack, IsLackOff, IsEndedBy}
@@ -110,7 +110,7 @@ module _ (a : Admission) (q : Request) where
   asked_io whole none (refused.Fault (fault.Told slot line)) is = absurd is
 
   -- the same, where something may stay, and each told range that is on and each fixed part stands
-  pub ended_too_large : q.anew ≡ false → AreKeptStanding q (system_in a) → (e : Refused SettleFault) → IsTooLargeAsked a q e → IsEndedBy a q (as_it_stands q (system_in a)) e
+  pub ended_too_large : CanStay q → AreKeptStanding q (system_in a) → (e : Refused SettleFault) → IsTooLargeAsked a q e → IsEndedBy a q (as_it_stands q (system_in a)) e
   ended_too_large left stand refused.Memory is = tt
   ended_too_large left stand (refused.Fault fault.BadLists) is = absurd is
   ended_too_large left stand (refused.Fault (fault.Assumed slot reg)) is = absurd is
@@ -128,7 +128,7 @@ module _ (a : Admission) (q : Request) where
   }
     where
       unknown : IsStayKnown q (system_in a) → ⊥
-      unknown (inl anew) = false≢true (sym left ∙ anew.0)
+      unknown (inl anew) = left anew.0 anew.1
       unknown (inr narrow) = narrow is.1.0
   ended_too_large left stand (refused.Fault (fault.Fixed slot reg)) is = absurd is
   ended_too_large left stand (refused.Fault (fault.Told slot line)) is = absurd is

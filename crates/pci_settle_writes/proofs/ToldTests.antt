@@ -50,6 +50,7 @@ module _ (q : Request) (s : System) (t : KnownTold) (knows : KnowsTold q s t) wh
 
 -- ---- where nothing is told
 
+-- whatever has a flag for each told range tells it
 pub nothing_known : (q : Request) (s : System) (t : KnownTold) → q.told.ranges ≡ t.ranges → t.ranges ≡ [] → HasEachFlag t → KnowsTold q s t
 nothing_known q s t same none has =
     let untold : q.told.ranges ≡ [] = same ∙ none in

@@ -2,7 +2,6 @@
 use Rattle.std.specs.Prelude.{◌≡◌, ℕ, Bool, IsTrue, List, []}
 use Rattle.pci_spec.specs.Slot.{Slot}
 use Rattle.settle_spec.specs.Lists.{Request}
-use Rattle.pci_settle.specs.declared.list.Lists.{Lists}
 use Rattle.pci_settle.specs.Slots.{Demand, demand_of}
 
 -- settling below these roots, in these lists and with this room behind slots; functions that may not be written, and whether all
@@ -23,6 +22,6 @@ pub record IsAskedOf (q : Request) (roots : List ℕ) (d : Demand) : Type 0 wher
   pub roots_are : q.roots ≡ roots
   pub demands_are : demand_of q ≡ d
 
--- all is placed anew only where nothing is told
-abbrev pub MayAsk : Bool → Lists → Type 0
-MayAsk anew lists = IsTrue anew → lists.told.ranges.now ≡ []
+-- something can stay: not all is placed anew, or something is told
+abbrev pub CanStay : Request → Type 0
+CanStay q = IsTrue q.anew → q.told.ranges ≡ [] → ⊥

@@ -29,7 +29,7 @@ with_slots slots d = record d { slots = slots }
 
 -- what is asked for below these roots
 abbrev pub asked_value : List ℕ → Asked → Request
-asked_value roots o = request roots (demand_value o.lists) o.fixed.now o.anew
+asked_value roots o = request roots (demand_value o.lists) o.rules.fixed.now o.rules.anew
 
 -- wishes are granted beside what is kept as new windows are placed for these slots: the dump, the writes, and what is denied
 pub record IsWishedFor (q : Request) (slots : List Slot) (keep : Keeping) (a : Admission)

@@ -8,7 +8,7 @@ ghost use Rattle.pci_base.specs.WindowKinds.{kind_value};
 ghost use Rattle.pci_place.specs.Above.{system_in};
 ghost use Rattle.pci_settle.specs.Slots.{demand_value};
 ghost use Rattle.pci_settled.specs.Spaces.{space_lack};
-ghost use Rattle.pci_stand.specs.Known.{asked};
+ghost use Rattle.pci_stand.specs.Known.{asked_by};
 ghost use Rattle.pci_stay.specs.Staying.{AreStaying, asked_in_io};
 ghost use Rattle.pci_settle_writes.specs.Lacks.{IsOfSystem, IsSettleFaultOf, too_large, unplaced_class};
 ghost use Rattle.pci_settle_writes.specs.Endings.{IsLack, IsLargeInIo, IsUnfixedLack};
@@ -22,8 +22,10 @@ use pci_settle::list::Lists;
 use pci_settle::over::Left;
 use pci_settled::anew::Unplaced;
 use pci_settled::place::place;
+use pci_stand::open_windows::open_windows;
+use pci_stand::rules::Rules;
 use pci_stay::staying::staying_in_io;
-use pci_stay::windows::{TooLarge, open_windows};
+use pci_stay::windows::TooLarge;
 use pci_tree::admitted::Admitted;
 use std::alloc::Allocator;
 
@@ -45,15 +47,15 @@ fn io_staying<A: Allocator + Copy, B: Allocator>(
     alloc: A,
     admitted: &Admitted<B>,
     lists: &Lists,
-    fixed: &[Slot],
+    rules: &Rules,
 ) -> Result<Vec<Kept, A>, Refused<SettleFault>>
     ensures stay { IfOk result (λ table. AreStaying
-        (asked_in_io admitted.now.roots (demand_value lists.now) fixed.now) (system_in admitted.now)
+        (asked_in_io admitted.now.roots (demand_value lists.now) rules.now) (system_in admitted.now)
         table.items) }
     ensures fault { IfErr result (IsLargeInIo admitted.now
-        (asked_in_io admitted.now.roots (demand_value lists.now) fixed.now)) }
+        (asked_in_io admitted.now.roots (demand_value lists.now) rules.now)) }
 {
-    match staying_in_io(alloc, admitted, lists, fixed) {
+    match staying_in_io(alloc, admitted, lists, rules) {
         Ok(table) => Ok(table),
         Err(Refused::Memory) => Err(Refused::Memory),
         Err(Refused::Fault(window)) => Err(Refused::Fault(fault_of_window(admitted, window))),
@@ -73,24 +75,25 @@ fn is_of_io(unplaced: Unplaced) -> bool
 
 /// Whether all of I/O has its place on the roots, or the fault where something has none. The lists of memory are left out: what
 /// has a place in I/O hangs on none of them, and without them no part in memory stands.
+#[inline(never)]
 fn place_io<A: Allocator + Copy, B: Allocator>(
     alloc: A,
     admitted: &Admitted<B>,
     lists: &Lists,
-    fixed: &[Slot],
+    rules: &Rules,
 ) -> Result<(), Refused<SettleFault>>
     ensures room { OnOk result (space_lack
-        (asked admitted.now.roots (demand_value lists.now) fixed.now) (system_in admitted.now)
-        (as_it_stands (asked admitted.now.roots (demand_value lists.now) fixed.now)
+        (asked_by admitted.now.roots (demand_value lists.now) rules.now) (system_in admitted.now)
+        (as_it_stands (asked_by admitted.now.roots (demand_value lists.now) rules.now)
         (system_in admitted.now)) Io admitted.now.roots ≡ None) }
     ensures fault { IfErr result (IsLack admitted.now
-        (asked admitted.now.roots (demand_value lists.now) fixed.now)
-        (as_it_stands (asked admitted.now.roots (demand_value lists.now) fixed.now)
+        (asked_by admitted.now.roots (demand_value lists.now) rules.now)
+        (as_it_stands (asked_by admitted.now.roots (demand_value lists.now) rules.now)
         (system_in admitted.now))) }
 {
     let outline = admitted.outline();
-    let table = io_staying(alloc, admitted, lists, fixed)?;
-    let over = open_windows(outline.records());
+    let table = io_staying(alloc, admitted, lists, rules)?;
+    let over = open_windows(outline.records(), rules.anew);
     let left = Left {
         over: &over,
         kept: table.as_slice(),
@@ -122,18 +125,18 @@ pub fn place_io_unfixed<A: Allocator + Copy, B: Allocator>(
     alloc: A,
     admitted: &Admitted<B>,
     lists: &Lists,
-    fixed: &[Slot],
+    rules: &Rules,
 ) -> Result<(), Refused<SettleFault>>
-    ensures room { OnOk result (fixed.now ≡ [] → lists.now.told.ranges.now ≡ [] → space_lack
-        (asked admitted.now.roots (demand_value lists.now) fixed.now) (system_in admitted.now)
-        (as_it_stands (asked admitted.now.roots (demand_value lists.now) fixed.now)
+    ensures room { OnOk result (rules.now.fixed.now ≡ [] → lists.now.told.ranges.now ≡ [] → space_lack
+        (asked_by admitted.now.roots (demand_value lists.now) rules.now) (system_in admitted.now)
+        (as_it_stands (asked_by admitted.now.roots (demand_value lists.now) rules.now)
         (system_in admitted.now)) Io admitted.now.roots ≡ None) }
     ensures fault { IfErr result (IsUnfixedLack admitted.now
-        (asked admitted.now.roots (demand_value lists.now) fixed.now)) }
+        (asked_by admitted.now.roots (demand_value lists.now) rules.now)) }
 {
-    if !is_free(lists, fixed) {
+    if !is_free(lists, rules.fixed) {
         return Ok(());
     }
-    place_io(alloc, admitted, lists, fixed)?;
+    place_io(alloc, admitted, lists, rules)?;
     Ok(())
 }

@@ -1,4 +1,7 @@
 //! The settled dump, and the writes that lead to it.
+//!
+//! The large steps of settling are `#[inline(never)]`: each lets its frame go before the next one begins, so the stack holds one at
+//! a time.
 #![tactic(auto)]
 
 pub mod alike;

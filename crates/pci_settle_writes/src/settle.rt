@@ -1,5 +1,5 @@
 //! Settling: the dump in which all has its place, and the writes that lead there.
-ghost use Rattle.std.specs.Prelude.{◌≡◌, ◌≤◌, ◌<◌, ◌^◌, ◌⊎◌, [], ℕ, IfOk, IfErr, OnOk, length, map, take};
+ghost use Rattle.std.specs.Prelude.{◌≡◌, ◌==◌, ◌&&◌, ◌≤◌, ◌<◌, ◌^◌, ◌⊎◌, ℕ, IfOk, IfErr, OnOk, length, map, take};
 ghost use Rattle.std.specs.List.{All};
 ghost use Rattle.pci_spec.specs.Sound.{IsSound};
 ghost use Rattle.pci_spec.specs.System.{system_of};
@@ -15,9 +15,9 @@ ghost use Rattle.pci_plan.specs.Moves.{IsMove};
 ghost use Rattle.pci_plan.specs.Writes.{write_value};
 ghost use Rattle.pci_settle.specs.Slots.{demand_value};
 ghost use Rattle.pci_stand.specs.Flags.{AreFlags};
-ghost use Rattle.pci_stand.specs.Known.{asked};
+ghost use Rattle.pci_stand.specs.Known.{asked_by};
 ghost use Rattle.pci_settled.specs.Placed.{CanBeLeft, ArePlacesOff};
-ghost use Rattle.pci_settle_writes.specs.Requests.{request, MayAsk};
+ghost use Rattle.pci_settle_writes.specs.Requests.{request, CanStay};
 ghost use Rattle.pci_settle_writes.specs.Dumps.{IsSettledBy};
 ghost use Rattle.pci_settle_writes.specs.Denied.{denied_value, IsSpared};
 ghost use Rattle.pci_settle_writes.specs.Bounded.{HasBounds, AreBounds};
@@ -51,6 +51,7 @@ use pci_settle::list::Lists;
 use pci_settle::over::{Left, OpenWindows};
 use pci_settled::place::place;
 use pci_settled::places::Places;
+use pci_stand::rules::Rules;
 use pci_tree::admitted::Admitted;
 use std::alloc::{Allocator, Global};
 
@@ -180,6 +181,7 @@ fn settled_at<'a, A: Allocator + Copy, B: Allocator>(
 
 /// Settles once it is known what is kept: which parts stay, by function in slot order, and what `left` tells of windows that
 /// grow. Each fixed part and each told range that is on stands and stays.
+#[inline(never)]
 pub fn settle_held<A: Allocator + Copy, B: Allocator>(
     alloc: A,
     admitted: &Admitted<B>,
@@ -228,34 +230,36 @@ pub fn settle_held<A: Allocator + Copy, B: Allocator>(
 
 /// Settles beside what stays as it stands, once windows that grow were refused by this fault. A new window that is too large for
 /// these has no place beside what stands either.
+#[inline(never)]
 fn settle_ungrown<A: Allocator + Copy, B: Allocator>(
     alloc: A,
     admitted: &Admitted<B>,
     lists: &Lists,
-    fixed: &[Slot],
+    rules: &Rules,
     bounds: &Bounds,
     fault: SettleFault,
 ) -> Result<Ended<A>, Refused<SettleFault>>
     requires has { HasBounds bounds.now }
     requires told { bounds.now.told.ranges ≡ lists.now.told }
-    requires bounds { AreBounds (asked admitted.now.roots (demand_value lists.now) fixed.now)
+    requires bounds { AreBounds (asked_by admitted.now.roots (demand_value lists.now) rules.now)
         (system_in admitted.now) bounds.now }
+    requires rest { CanStay (asked_by admitted.now.roots (demand_value lists.now) rules.now) }
     // else windows would grow
     requires fault { IsNotGrown admitted.now
-        (asked admitted.now.roots (demand_value lists.now) fixed.now) (refused.Fault fault) }
+        (asked_by admitted.now.roots (demand_value lists.now) rules.now) (refused.Fault fault) }
     ensures titles { IfOk result
         (λ x. map (λ b. b.title) x.settled.dump ≡ map (λ b. b.title) admitted.now.dump) }
     ensures places { IfOk result (λ x. length x.places.items ≡ length (system_in admitted.now)) }
     ensures staying { IfOk result (λ x. length x.staying.items ≡ length (system_in admitted.now)) }
     ensures told { IfOk result (λ x. length x.standing.items ≡ length lists.now.told.ranges.now) }
     ensures ends { IfOk result (λ x. IsEnded
-        (asked admitted.now.roots (demand_value lists.now) fixed.now)
-        (kept_after (asked admitted.now.roots (demand_value lists.now) fixed.now)
+        (asked_by admitted.now.roots (demand_value lists.now) rules.now)
+        (kept_after (asked_by admitted.now.roots (demand_value lists.now) rules.now)
         (system_in admitted.now)) admitted.now (ended_value x)) }
     ensures refusal { IfErr result (λ e. IsEndedAfter admitted.now
-        (asked admitted.now.roots (demand_value lists.now) fixed.now) e) }
+        (asked_by admitted.now.roots (demand_value lists.now) rules.now) e) }
 {
-    let ended = settle_standing(alloc, admitted, lists, fixed, bounds)?;
+    let ended = settle_standing(alloc, admitted, lists, rules, bounds)?;
     if fault.is_too_large() {
         return Err(Refused::Fault(fault));
     }
@@ -263,38 +267,47 @@ fn settle_ungrown<A: Allocator + Copy, B: Allocator>(
 }
 
 /// Settles where windows grow, or else beside what stays as it stands.
+#[inline(never)]
 fn settle_rest<A: Allocator + Copy, B: Allocator>(
     alloc: A,
     admitted: &Admitted<B>,
     lists: &Lists,
-    fixed: &[Slot],
+    rules: &Rules,
     flags: &[bool],
 ) -> Result<Ended<A>, Refused<SettleFault>>
-    requires { AreFlags fixed.now flags.now }
+    requires flags { AreFlags rules.now.fixed.now flags.now }
+    requires rest { CanStay (asked_by admitted.now.roots (demand_value lists.now) rules.now) }
     ensures titles { IfOk result
         (λ x. map (λ b. b.title) x.settled.dump ≡ map (λ b. b.title) admitted.now.dump) }
     ensures places { IfOk result (λ x. length x.places.items ≡ length (system_in admitted.now)) }
     ensures staying { IfOk result (λ x. length x.staying.items ≡ length (system_in admitted.now)) }
     ensures told { IfOk result (λ x. length x.standing.items ≡ length lists.now.told.ranges.now) }
     ensures ends { IfOk result (λ x. IsEnded
-        (asked admitted.now.roots (demand_value lists.now) fixed.now)
-        (kept_after (asked admitted.now.roots (demand_value lists.now) fixed.now)
+        (asked_by admitted.now.roots (demand_value lists.now) rules.now)
+        (kept_after (asked_by admitted.now.roots (demand_value lists.now) rules.now)
         (system_in admitted.now)) admitted.now (ended_value x)) }
     ensures refusal { IfErr result (λ e. IsEndedAfter admitted.now
-        (asked admitted.now.roots (demand_value lists.now) fixed.now) e) }
+        (asked_by admitted.now.roots (demand_value lists.now) rules.now) e) }
 {
-    let known = known_ranges(alloc, admitted, lists, fixed)?;
+    let known = known_ranges(alloc, admitted, lists, rules)?;
     let bounds = Bounds {
         fixed: flags,
         told: known.told(lists.told),
     };
-    match settle_grown(alloc, admitted, lists, fixed, &bounds) {
+    match settle_grown(alloc, admitted, lists, rules, &bounds) {
         Ok(ended) => Ok(ended),
         Err(Refused::Memory) => Err(Refused::Memory),
         Err(Refused::Fault(fault)) => {
-            settle_ungrown(alloc, admitted, lists, fixed, &bounds, fault)
+            settle_ungrown(alloc, admitted, lists, rules, &bounds, fault)
         }
     }
+}
+
+/// Whether all is placed anew and nothing is told: then nothing stays.
+fn is_all_moved(lists: &Lists, rules: &Rules) -> bool
+    ensures { result ≡ (rules.now.anew && length lists.now.told.ranges.now == 0) }
+{
+    rules.anew && lists.told.as_slice().is_empty()
 }
 
 /// Settles in lists that are fine.
@@ -302,28 +315,26 @@ pub fn settle_listed<A: Allocator + Copy, B: Allocator>(
     alloc: A,
     admitted: &Admitted<B>,
     lists: &Lists,
-    fixed: &[Slot],
+    rules: &Rules,
     flags: &[bool],
-    anew: bool,
 ) -> Result<Ended<A>, Refused<SettleFault>>
-    requires flags { AreFlags fixed.now flags.now }
-    requires anew { MayAsk anew lists.now }
+    requires flags { AreFlags rules.now.fixed.now flags.now }
     ensures titles { IfOk result
         (λ x. map (λ b. b.title) x.settled.dump ≡ map (λ b. b.title) admitted.now.dump) }
     ensures places { IfOk result (λ x. length x.places.items ≡ length (system_in admitted.now)) }
     ensures staying { IfOk result (λ x. length x.staying.items ≡ length (system_in admitted.now)) }
     ensures told { IfOk result (λ x. length x.standing.items ≡ length lists.now.told.ranges.now) }
     ensures ends { IfOk result (λ x. IsEnded
-        (request admitted.now.roots (demand_value lists.now) fixed.now anew)
-        (kept_after (request admitted.now.roots (demand_value lists.now) fixed.now anew)
+        (asked_by admitted.now.roots (demand_value lists.now) rules.now)
+        (kept_after (asked_by admitted.now.roots (demand_value lists.now) rules.now)
         (system_in admitted.now)) admitted.now (ended_value x)) }
     ensures refusal { IfErr result (λ e. IsEndedAfter admitted.now
-        (request admitted.now.roots (demand_value lists.now) fixed.now anew) e) }
+        (asked_by admitted.now.roots (demand_value lists.now) rules.now) e) }
 {
-    if anew {
+    if is_all_moved(lists, rules) {
         settle_all(alloc, admitted, lists, flags)
     } else {
-        settle_rest(alloc, admitted, lists, fixed, flags)
+        settle_rest(alloc, admitted, lists, rules, flags)
     }
 }
 
@@ -343,11 +354,11 @@ fn end_in_64_bits(list: &[RootRange])
     }
 }
 
-/// Settles: what stands with room for what is behind it stays where it is (nothing, where all is placed anew), and a window
-/// that stands grows where it lacks that room and has it beside itself. All else is placed in the lists, off told ranges. Where
-/// that can't be done no window grows. Answers the dump that shows the places and the writes that lead there. That dump is
-/// sound, and so is what stands after the first writes, once all that close are made, and from a sound start at any time. Both
-/// are sound beside told ranges, too, where each slot of these is listed and their buses are led to.
+/// Settles: what stands with room for what is behind it stays where it is, and a window that stands grows where it lacks that
+/// room and has it beside itself. Where all is placed anew, only what leads to a told range stands. All else is placed in the
+/// lists, off told ranges. Where that can't be done no window grows. Answers the dump that shows the places and the writes that
+/// lead there. That dump is sound, and so is what stands after the first writes, once all that close are made, and from a sound
+/// start at any time. Both are sound beside told ranges, too, where each slot of these is listed and their buses are led to.
 ///
 /// Errors, the first of these that is there: 70 `BadLists` where the lists are refused; 76 `Assumed` with the first BAR, or
 /// ROM that is on, whose read back is assumed, as the titles of the probe tell; 75 `Told` with the lowest line whose range is
@@ -357,7 +368,7 @@ fn end_in_64_bits(list: &[RootRange])
 /// the first part that has no place in memory; 74 `Fixed` with the first write to a function of `fixed`; 75 `Told` with the
 /// lowest line whose range would be switched. 2 `Memory` where a growth was refused.
 ///
-/// Where an open window has all addresses of 64 bits, a function is fixed or a range is told, and not all is placed anew, 72
+/// Where an open window has all addresses of 64 bits, and a function is fixed and not all is placed anew, or a range is told, 72
 /// `TooLarge` comes right after 74 of what doesn't stand: such a window may have room for another of 2^64 addresses, so it
 /// isn't known what stays. Nor is it known which windows would grow where one could grow to all addresses and a new window
 /// would have 2^64 or more: then none does.
@@ -368,8 +379,6 @@ pub fn settle<A: Allocator + Copy, B: Allocator>(
     fixed: &[Slot],
     anew: bool,
 ) -> Result<Settled<A>, Refused<SettleFault>>
-    // placing all anew beside told ranges isn't there yet
-    requires anew { MayAsk anew lists.now }
     ensures sound { IfOk result
         (λ x. IsSound admitted.now.roots (system_of x.dump admitted.now.probe)) }
     ensures stops { IfOk result (λ x. (k : ℕ)
@@ -422,6 +431,6 @@ pub fn settle<A: Allocator + Copy, B: Allocator>(
     if let Some(fault) = first_assumed(admitted) {
         return Err(Refused::Fault(fault));
     }
-    let settled = settle_sparing(alloc, admitted, lists, fixed, anew)?;
+    let settled = settle_sparing(alloc, admitted, lists, &Rules { fixed, anew })?;
     Ok(settled)
 }

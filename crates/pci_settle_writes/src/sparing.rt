@@ -1,5 +1,5 @@
 //! Settling with room behind slots: in new windows, where the same parts stay, and then by wishes.
-ghost use Rattle.std.specs.Prelude.{◌≡◌, ◌^◌, ◌<◌, if◌then◌else◌, List, [], IsFalse, IfOk, IfErr, IfSome, length, map};
+ghost use Rattle.std.specs.Prelude.{◌≡◌, ◌^◌, ◌<◌, List, [], IsFalse, IfOk, IfErr, IfSome, length, map};
 ghost use Rattle.std.specs.List.{All};
 ghost use Rattle.std.specs.Option.{is_some};
 ghost use Rattle.pci_spec.specs.Slot.{Slot as SlotValue};
@@ -10,7 +10,7 @@ ghost use Rattle.pci_plan.specs.Writes.{write_value};
 ghost use Rattle.pci_settle.specs.Lists.{lists_value};
 ghost use Rattle.pci_settle.specs.Slots.{demand_value};
 ghost use Rattle.pci_stand.specs.Flags.{AreFlags};
-ghost use Rattle.pci_settle_writes.specs.Requests.{request, MayAsk};
+ghost use Rattle.pci_settle_writes.specs.Requests.{request};
 ghost use Rattle.pci_settle_writes.specs.Denied.{denied_value, IsSpared};
 ghost use Rattle.pci_settle_writes.specs.Ended.{ended_value, IsEnded};
 ghost use Rattle.pci_settle_writes.specs.Endings.{kept_after, IsEndedAfter};
@@ -24,13 +24,12 @@ use crate::settle::{Settled, settle_listed};
 use crate::wished::{Wished, settled_wished};
 use crate::wishes::wishes_of;
 use pci_base::memory::{OutOfMemory, Refused};
-use pci_base::slot::Slot;
 use pci_settle::kept::Kept;
 use pci_settle::list::Lists;
-use pci_settle::over::OpenWindows;
 use pci_settle::slots::Slots;
 use pci_stand::fixed::flags_of;
-use pci_stay::windows::open_windows;
+use pci_stand::open_windows::open_windows;
+use pci_stand::rules::Rules;
 use pci_tree::admitted::Admitted;
 use std::alloc::Allocator;
 
@@ -39,12 +38,9 @@ use std::alloc::Allocator;
 struct Asked<'l, 'f, 'g> {
     /// With the room that is wanted behind slots.
     lists: Lists<'l>,
-    /// The functions that may not be written.
-    fixed: &'f [Slot],
+    rules: Rules<'f>,
     /// Of each slot whether its function may not be written.
     flags: &'g [bool],
-    /// Whether all is placed anew.
-    anew: bool,
 }
 
 /// The same lists with no room behind slots.
@@ -65,14 +61,8 @@ fn without_slots<'a>(lists: &Lists<'a>) -> Lists<'a>
     }
 }
 
-/// The open windows over each bus that count: none where all is placed anew.
-fn overs_of(anew: bool, over: &[OpenWindows]) -> &[OpenWindows]
-    ensures { result.now ≡ (if anew then [] else over.now) }
-{
-    if anew { &[] } else { over }
-}
-
 /// Settles with the wishes that are granted beside what is kept. New windows were placed by the lists `placing`.
+#[inline(never)]
 fn settle_wished<A: Allocator + Copy, B: Allocator>(
     alloc: A,
     admitted: &Admitted<B>,
@@ -80,7 +70,7 @@ fn settle_wished<A: Allocator + Copy, B: Allocator>(
     placing: &Lists,
     ended: &Ended<A>,
 ) -> Result<Settled<A>, OutOfMemory>
-    requires flags { AreFlags asked.now.fixed.now asked.now.flags.now }
+    requires flags { AreFlags asked.now.rules.fixed.now asked.now.flags.now }
     // a told range has its flag by its index
     requires told { length ended.now.standing.items ≡ length placing.now.told.ranges.now }
     // what is known of a function stands where its record does
@@ -97,13 +87,12 @@ fn settle_wished<A: Allocator + Copy, B: Allocator>(
 {
     let tables = ended.tables();
     let wishes = wishes_of(alloc, admitted, &asked.lists, asked.flags, &tables)?;
-    let over = open_windows(admitted.outline().records());
-    let overs = overs_of(asked.anew, &over);
+    let over = open_windows(admitted.outline().records(), asked.rules.anew);
     let wished = Wished {
         windows: wishes.wished.as_slice(),
         plain: ended.settled.dump.blocks(),
     };
-    let settled = settled_wished(alloc, admitted, placing, overs, &tables, &wished)?;
+    let settled = settled_wished(alloc, admitted, placing, &over, &tables, &wished)?;
     Ok(Settled {
         dump: settled.dump,
         writes: settled.writes,
@@ -132,8 +121,7 @@ fn with_spares<A: Allocator + Copy, B: Allocator>(
     asked: &Asked,
     staying: &[Kept],
 ) -> Result<Option<Ended<A>>, OutOfMemory>
-    requires flags { AreFlags asked.now.fixed.now asked.now.flags.now }
-    requires anew { MayAsk asked.now.anew asked.now.lists }
+    requires flags { AreFlags asked.now.rules.fixed.now asked.now.flags.now }
     requires staying { length staying.now ≡ length (system_in admitted.now) }
     // else it is refused before
     requires fine { IsFalse (are_bad_lists admitted.now.roots (lists_value asked.now.lists)) }
@@ -150,8 +138,7 @@ fn with_spares<A: Allocator + Copy, B: Allocator>(
     ensures have { IfOk result (λ o. HaveSpares admitted.now (asked_value admitted.now.roots asked.now)
         staying.now (is_some o)) }
 {
-    let (fixed, flags) = (asked.fixed, asked.flags);
-    match settle_listed(alloc, admitted, &asked.lists, fixed, flags, asked.anew) {
+    match settle_listed(alloc, admitted, &asked.lists, &asked.rules, asked.flags) {
         Ok(ended) => {
             if keep_alike(admitted, staying, ended.staying.as_slice()) {
                 Ok(Some(ended))
@@ -165,39 +152,37 @@ fn with_spares<A: Allocator + Copy, B: Allocator>(
 }
 
 /// Settles in lists that are fine.
+#[inline(never)]
 pub fn settle_sparing<A: Allocator + Copy, B: Allocator>(
     alloc: A,
     admitted: &Admitted<B>,
     lists: &Lists,
-    fixed: &[Slot],
-    anew: bool,
+    rules: &Rules,
 ) -> Result<Settled<A>, Refused<SettleFault>>
     // else it is refused before
     requires fine { IsFalse (are_bad_lists admitted.now.roots (lists_value lists.now)) }
-    requires anew { MayAsk anew lists.now }
     requires high { All (λ r. r.range.last < 2 ^ 64) lists.now.pref.now }
     ensures titles { IfOk result
         (λ x. map (λ b. b.title) x.dump ≡ map (λ b. b.title) admitted.now.dump) }
     ensures spared { IfOk result (λ x. IsSpared
-        (request admitted.now.roots (demand_value lists.now) fixed.now anew) admitted.now x.dump
+        (request admitted.now.roots (demand_value lists.now) rules.now.fixed.now rules.now.anew) admitted.now x.dump
         (map write_value x.writes.all.items) x.writes.closings (map denied_value x.denied.items)) }
     ensures refusal { IfErr result (λ e. IsEndedAfter admitted.now
-        (request admitted.now.roots (with_slots [] (demand_value lists.now)) fixed.now anew) e) }
+        (request admitted.now.roots (with_slots [] (demand_value lists.now)) rules.now.fixed.now rules.now.anew) e) }
 {
     // what it was admitted by: the contract speaks of the system that it makes
     let _outline = admitted.outline();
-    let table = flags_of(alloc, fixed)?;
+    let table = flags_of(alloc, rules.fixed)?;
     let flags = table.as_slice();
     let alone = without_slots(lists);
-    let without = settle_listed(alloc, admitted, &alone, fixed, flags, anew)?;
+    let without = settle_listed(alloc, admitted, &alone, rules, flags)?;
     if lists.slots.bridges.is_empty() {
         return Ok(unspared(alloc, without));
     }
     let asked = Asked {
         lists: *lists,
-        fixed,
+        rules: *rules,
         flags,
-        anew,
     };
     let settled = match with_spares(alloc, admitted, &asked, without.staying.as_slice())? {
         Some(spared) => settle_wished(alloc, admitted, &asked, lists, &spared)?,

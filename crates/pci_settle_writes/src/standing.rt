@@ -5,9 +5,9 @@ ghost use Rattle.settle_spec.specs.Kept.{as_it_stands};
 ghost use Rattle.pci_place.specs.Above.{system_in};
 ghost use Rattle.pci_settle.specs.Slots.{demand_value};
 ghost use Rattle.pci_stand.specs.Flags.{AreFlags};
-ghost use Rattle.pci_stand.specs.Known.{asked};
+ghost use Rattle.pci_stand.specs.Known.{asked_by};
 ghost use Rattle.pci_stay.specs.Staying.{AreStaying};
-ghost use Rattle.pci_settle_writes.specs.Requests.{IsAskedOf};
+ghost use Rattle.pci_settle_writes.specs.Requests.{IsAskedOf, CanStay};
 ghost use Rattle.pci_settle_writes.specs.Bounded.{HasBounds, AreBounds};
 ghost use Rattle.pci_settle_writes.specs.Ended.{ended_value, IsEnded};
 ghost use Rattle.pci_settle_writes.specs.Endings.{IsTooLargeAsked, IsEndedBy, kept_after, IsEndedAfter};
@@ -20,17 +20,18 @@ use crate::lack::SettleFault;
 use crate::settle::settle_held;
 use crate::told::{Told, copy_of, first_unreached};
 use pci_base::memory::Refused;
-use pci_base::slot::Slot;
 use pci_settle::kept::{Kept, nothing_kept};
 use pci_settle::list::Lists;
 use pci_settle::over::Left;
+use pci_stand::open_windows::open_windows;
 use pci_stand::pass::standing;
+use pci_stand::rules::Rules;
 use pci_stay::staying::staying;
-use pci_stay::windows::open_windows;
 use pci_tree::admitted::Admitted;
 use std::alloc::Allocator;
 
 /// Settles where all is placed anew, so that no window grows.
+#[inline(never)]
 pub fn settle_all<A: Allocator + Copy, B: Allocator>(
     alloc: A,
     admitted: &Admitted<B>,
@@ -88,64 +89,68 @@ pub fn settle_all<A: Allocator + Copy, B: Allocator>(
 
 /// Which parts stay where no window grows. Beside an open window of all addresses the bridge is named whose new window would be
 /// too large; where nothing is fixed or told, what has no place in I/O is named before.
+#[inline(never)]
 fn staying_parts<A: Allocator + Copy, B: Allocator>(
     alloc: A,
     admitted: &Admitted<B>,
     lists: &Lists,
-    fixed: &[Slot],
+    rules: &Rules,
 ) -> Result<Vec<Kept, A>, Refused<SettleFault>>
     ensures stay { IfOk result (λ table. AreStaying
-        (asked admitted.now.roots (demand_value lists.now) fixed.now) (system_in admitted.now)
+        (asked_by admitted.now.roots (demand_value lists.now) rules.now) (system_in admitted.now)
         table.items) }
     ensures fault { IfErr result (IsTooLargeAsked admitted.now
-        (asked admitted.now.roots (demand_value lists.now) fixed.now)) }
+        (asked_by admitted.now.roots (demand_value lists.now) rules.now)) }
 {
-    match staying(alloc, admitted, lists, fixed) {
+    match staying(alloc, admitted, lists, rules) {
         Ok(table) => Ok(table),
         Err(Refused::Memory) => Err(Refused::Memory),
         Err(Refused::Fault(window)) => {
-            place_io_unfixed(alloc, admitted, lists, fixed)?;
+            place_io_unfixed(alloc, admitted, lists, rules)?;
             Err(Refused::Fault(fault_of_window(admitted, window)))
         }
     }
 }
 
 /// Settles beside what stays as it stands: no window grows.
+#[inline(never)]
 pub fn settle_standing<A: Allocator + Copy, B: Allocator>(
     alloc: A,
     admitted: &Admitted<B>,
     lists: &Lists,
-    fixed: &[Slot],
+    rules: &Rules,
     bounds: &Bounds,
 ) -> Result<Ended<A>, Refused<SettleFault>>
     requires has { HasBounds bounds.now }
     requires told { bounds.now.told.ranges ≡ lists.now.told }
-    requires bounds { AreBounds (asked admitted.now.roots (demand_value lists.now) fixed.now)
+    requires bounds { AreBounds (asked_by admitted.now.roots (demand_value lists.now) rules.now)
         (system_in admitted.now) bounds.now }
+    // else `settle_all` settles
+    requires rest { CanStay (asked_by admitted.now.roots (demand_value lists.now) rules.now) }
     ensures titles { IfOk result
         (λ x. map (λ b. b.title) x.settled.dump ≡ map (λ b. b.title) admitted.now.dump) }
     ensures places { IfOk result (λ x. length x.places.items ≡ length (system_in admitted.now)) }
     ensures staying { IfOk result (λ x. length x.staying.items ≡ length (system_in admitted.now)) }
     ensures told { IfOk result (λ x. length x.standing.items ≡ length lists.now.told.ranges.now) }
     ensures ends { IfOk result (λ x. IsEnded
-        (asked admitted.now.roots (demand_value lists.now) fixed.now)
-        (as_it_stands (asked admitted.now.roots (demand_value lists.now) fixed.now)
+        (asked_by admitted.now.roots (demand_value lists.now) rules.now)
+        (as_it_stands (asked_by admitted.now.roots (demand_value lists.now) rules.now)
         (system_in admitted.now)) admitted.now (ended_value x)) }
     ensures refusal { IfErr result (λ e. IsEndedBy admitted.now
-        (asked admitted.now.roots (demand_value lists.now) fixed.now)
-        (as_it_stands (asked admitted.now.roots (demand_value lists.now) fixed.now)
+        (asked_by admitted.now.roots (demand_value lists.now) rules.now)
+        (as_it_stands (asked_by admitted.now.roots (demand_value lists.now) rules.now)
         (system_in admitted.now)) e) }
 {
     let outline = admitted.outline();
-    let over = open_windows(outline.records());
+    let over = open_windows(outline.records(), rules.anew);
     if let Some(fault) = first_unreached(&bounds.told) {
         return Err(Refused::Fault(fault));
     }
-    let stand = standing(alloc, admitted, lists, fixed)?;
+    let stand = standing(alloc, admitted, lists, rules)?;
     if let Some(fault) = fixed_without(admitted, lists, bounds.fixed, stand.as_slice()) {
         return Err(Refused::Fault(fault));
     }
-    let table = staying_parts(alloc, admitted, lists, fixed)?;
+    let table = staying_parts(alloc, admitted, lists, rules)?;
     let stay = table.as_slice();
     if let Some(fault) = first_without(admitted, lists, bounds, stay) {
         return Err(Refused::Fault(fault));

@@ -13,7 +13,7 @@ ghost use Rattle.pci_base.specs.Space.{space_of};
 ghost use Rattle.pci_tree.specs.Admission.{Admission, IsAdmitted};
 ghost use Rattle.pci_place.specs.Above.{system_in};
 ghost use Rattle.pci_settle.specs.Slots.{demand_value};
-ghost use Rattle.pci_stand.specs.Known.{asked};
+ghost use Rattle.pci_stand.specs.Known.{asked_by};
 ghost use Rattle.pci_settle_writes.specs.Told.{IsTableOf};
 ghost use Rattle.pci_settle_writes.specs.Dumps.{IsSettledDump};
 ghost use Rattle.pci_settle_writes.specs.declared.lack.SettleFault.TheVariants as fault;
@@ -31,6 +31,7 @@ use pci_settle::list::Lists;
 use pci_settle::told::ToldRanges;
 use pci_stand::pass::standing;
 use pci_stand::place::bridges_over;
+use pci_stand::rules::Rules;
 use pci_stand::standing_ranges::standing_ranges;
 use pci_stand::told_line::{ToldLine, told_lines};
 use pci_told::told_range::{Mark, ToldRange};
@@ -71,15 +72,16 @@ impl<A: Allocator> KnownRanges<A> {
 /// Which told ranges are on and which stand where they are. Where nothing is told, nothing is asked.
 ///
 /// Errors: 2 `OutOfMemory` where a growth was refused.
+#[inline(never)]
 pub fn known_ranges<A: Allocator + Copy, B: Allocator>(
     alloc: A,
     admitted: &Admitted<B>,
     lists: &Lists,
-    fixed: &[Slot],
+    rules: &Rules,
 ) -> Result<KnownRanges<A>, OutOfMemory>
     ensures flags { IfOk result (λ known. HasEachFlag (known_value known lists.now.told)) }
     ensures known { IfOk result (λ known. KnowsTold
-        (asked admitted.now.roots (demand_value lists.now) fixed.now) (system_in admitted.now)
+        (asked_by admitted.now.roots (demand_value lists.now) rules.now) (system_in admitted.now)
         (known_value known lists.now.told)) }
 {
     let ranges = lists.told.as_slice();
@@ -93,8 +95,8 @@ pub fn known_ranges<A: Allocator + Copy, B: Allocator>(
     let records = outline.records();
     let over = bridges_over(records);
     let lines = told_lines(alloc, records, &over, &outline.roots(), ranges)?;
-    let stand = standing(alloc, admitted, lists, fixed)?;
-    let standing = standing_ranges(alloc, admitted, lists, fixed, stand.as_slice())?;
+    let stand = standing(alloc, admitted, lists, rules)?;
+    let standing = standing_ranges(alloc, admitted, lists, rules, stand.as_slice())?;
     Ok(KnownRanges { lines, standing })
 }
 

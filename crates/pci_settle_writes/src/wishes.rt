@@ -179,6 +179,7 @@ fn grant_by<A: Allocator + Copy>(
 /// is without wishes.
 ///
 /// Errors: 2 `OutOfMemory` where a growth was refused.
+#[inline(never)]
 pub fn wishes_of<A: Allocator + Copy, B: Allocator>(
     alloc: A,
     admitted: &Admitted<B>,

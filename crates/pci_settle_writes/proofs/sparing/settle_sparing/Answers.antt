@@ -27,9 +27,6 @@ settle_wished-requires-clause-places g c = if_some (λ y. length y.places.items 
 pub settle_wished-requires-clause-staying : goal.settle_wished-requires-clause-staying
 settle_wished-requires-clause-staying g c = if_some (λ y. length y.staying.items ≡ length (system_in c.args.admitted.now)) c.in-Some.is c.in_ok-spared.ensures.staying
 
-pub settle_listed-requires-clause-anew : goal.settle_listed-requires-clause-anew
-settle_listed-requires-clause-anew g c = λ anew. ap (λ (x : Demand). x.told.ranges) c.without_slots-alone.ensures ∙ c.requires.anew anew
-
 pub settle_wished-requires-clause-told : goal.settle_wished-requires-clause-told
 settle_wished-requires-clause-told g c = if_some (λ y. length y.standing.items ≡ length c.args.lists.now.told.ranges.now) c.in-Some.is c.in_ok-spared.ensures.told
 
@@ -46,10 +43,10 @@ pub returns-then-is_empty-clause-spared : goal.returns-then-is_empty-clause-spar
 returns-then-is_empty-clause-spared g c =
     let a = c.args.admitted.now in
     let d = demand_value c.args.lists.now in
-    let q = request a.roots d c.args.fixed.now c.args.anew in
+    let q = request a.roots d c.args.rules.now.fixed.now c.args.rules.now.anew in
     let high = highest_of c.args.lists.now.pref.now c.requires.high in
     let o = ended_value c.in_ok-without.without in
-    let is = subst (λ (x : Demand). IsEnded (request a.roots x c.args.fixed.now c.args.anew) (kept_after (request a.roots x c.args.fixed.now c.args.anew) (system_in a)) a o) c.without_slots-alone.ensures c.in_ok-without.ensures.ends in
+    let is = subst (λ (x : Demand). IsEnded (request a.roots x c.args.rules.now.fixed.now c.args.rules.now.anew) (kept_after (request a.roots x c.args.rules.now.fixed.now c.args.rules.now.anew) (system_in a)) a o) c.without_slots-alone.ensures c.in_ok-without.ensures.ends in
     subst (λ dump. IsSpared q a dump (map write_value c.unspared.result.writes.all.items) c.unspared.result.writes.closings (map denied_value c.unspared.result.denied.items)) (sym c.unspared.ensures.dump)
     (subst (λ writes. IsSpared q a o.dump (map write_value writes.all.items) writes.closings (map denied_value c.unspared.result.denied.items)) (sym c.unspared.ensures.writes)
     (subst (λ denied. IsSpared q a o.dump o.writes o.closings (map denied_value denied)) (sym c.unspared.ensures.denied)
@@ -60,11 +57,11 @@ returns-clause-spared g c =
     let a = c.args.admitted.now in
     let s = system_in a in
     let d = demand_value c.args.lists.now in
-    let q = request a.roots d c.args.fixed.now c.args.anew in
+    let q = request a.roots d c.args.rules.now.fixed.now c.args.rules.now.anew in
     let w = without_slots q in
     let high = highest_of c.args.lists.now.pref.now c.requires.high in
     let o = ended_value c.in_ok-without.without in
-    let is = subst (λ (x : Demand). IsEnded (request a.roots x c.args.fixed.now c.args.anew) (kept_after (request a.roots x c.args.fixed.now c.args.anew) s) a o) c.without_slots-alone.ensures c.in_ok-without.ensures.ends in
+    let is = subst (λ (x : Demand). IsEnded (request a.roots x c.args.rules.now.fixed.now c.args.rules.now.anew) (kept_after (request a.roots x c.args.rules.now.fixed.now c.args.rules.now.anew) s) a o) c.without_slots-alone.ensures c.in_ok-without.ensures.ends in
     elim c.match-branch-4.branch [
       | goal.in-Some+in_ok-settled-in-Some x ↦
           let sparing = ended_value x.in-Some.spared in

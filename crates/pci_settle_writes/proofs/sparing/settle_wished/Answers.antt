@@ -4,6 +4,7 @@ use Rattle.settle_spec.specs.Kept.{Kept, unwished}
 use Rattle.settle_spec.specs.Wishes.{granted}
 use Rattle.settle_laws.proofs.Wishing.Alike.{granted_alike}
 use Rattle.pci_place.specs.Above.{system_in}
+use Rattle.pci_place.proofs.Records.{lent}
 use Rattle.pci_settling.specs.Live.{HasAllPlaces}
 use Rattle.pci_settling.specs.Answers.{AreFlagsOfTold}
 use Rattle.pci_settle.specs.Over.{AreOpenOver}
@@ -13,7 +14,7 @@ use Rattle.pci_settle_writes.specs.Dumps.{IsSettledDump}
 use Rattle.pci_settle_writes.specs.Sparing.{asked_value}
 use Rattle.pci_settle_writes.specs.Wishes.{behind_slots}
 use Rattle.pci_settle_writes.proofs.States.{same_titles}
-use Rattle.pci_settle_writes.proofs.Granted.{places_then, tells_then, plain_then, overs_open}
+use Rattle.pci_settle_writes.proofs.Granted.{places_then, tells_then, plain_then}
 use Rattle.pci_settle_writes.proofs.sparing.settle_wished.Goals as goal
 
 pub settled_wished-requires-clause-plain : goal.settled_wished-requires-clause-plain
@@ -34,8 +35,9 @@ returns-clause-wished g c = λ slots keep placed ends.
     let tells = subst (λ grown. TellsKeeping p s keep grown c.tables-tables.result.staying.now) (sym c.tables-tables.ensures.grown)
     (subst (TellsKeeping p s keep c.args.ended.now.grown.items) (sym c.tables-tables.ensures.staying) ends.tells) in
     let wishes = c.in_ok-wishes.ensures.granted q slots keep record { roots_are = refl; demands_are = refl } c.requires.flags places tells ends.unwished in
-    let overs = subst (AreOpenOver p s) (sym c.overs_of-overs.ensures)
-    (overs_open a p refl c.outline.ensures.admitted c.records.result.now c.records.ensures.value c.outline.ensures.records c.open_windows-over.result (c.open_windows-over.ensures p s) p.anew refl) in
+    let admitted = c.outline.ensures.admitted in
+    let records = c.records.result.now in
+    let overs : AreOpenOver p s c.open_windows-over.result = c.open_windows-over.ensures p s record { has = lent s records c.records.ensures.value c.outline.ensures.records; system = admitted.system; nested = admitted.nested } refl in
     record {
       by = c.in_ok-settled.ensures.settled p j record { roots_are = refl; demands_are = sym placed } (subst (AreFlagsOfTold p s) (sym c.tables-tables.ensures.standing) ends.stand) overs (places_then p s keep j alike c.tables-tables.result.places.now places)
           (tells_then p s keep j alike c.tables-tables.result.grown.now c.tables-tables.result.staying.now tells) (subst (TellsWishes s j) (sym c.as_slice.ensures.value) wishes.0)

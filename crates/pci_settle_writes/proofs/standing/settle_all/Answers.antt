@@ -14,7 +14,8 @@ use Rattle.pci_settled.proofs.NothingLeft.{can_be_left}
 use Rattle.pci_settle_writes.specs.Ended.{held_value, IsEnded}
 use Rattle.pci_settle_writes.specs.Endings.{kept_after}
 use Rattle.pci_settle_writes.proofs.Outcomes.{ended_anew, after_anew}
-use Rattle.pci_settle_writes.proofs.HeldTables.{stand_anew, told_anew, untold_ranges, nothing_known}
+use Rattle.pci_settle_writes.proofs.HeldTables.{stand_anew, told_anew, untold_ranges}
+use Rattle.pci_settle_writes.proofs.ToldTests.{nothing_known}
 use Rattle.pci_settle_writes.proofs.Endings.{none_told}
 use Rattle.pci_settle_writes.proofs.Refusals.{unstanding}
 use Rattle.pci_settle_writes.proofs.standing.settle_all.Goals as goal
