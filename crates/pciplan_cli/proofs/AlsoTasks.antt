@@ -1,22 +1,15 @@
 -- A task with what is told.
 use Rattle.std.proofs.Common.{◌≡◌, Bool, refl}
 use Rattle.pci_dump.specs.declared.read_fault.ReadFault.TheVariants.{Io}
-use Rattle.pciplan_tasks.specs.Also.{IsAlsoUnread, also_around}
+use Rattle.pciplan_tasks.specs.Also.{IsAlsoUnread}
 use Rattle.pciplan_tasks.specs.declared.task.Also.{Also}
 use Rattle.pciplan_tasks.specs.declared.task.Also.TheVariants.{Refused}
 use Rattle.pciplan_tasks.specs.declared.task.Beside.{Beside}
-use Rattle.pciplan_tasks.specs.declared.task.Placing.{Placing}
-use Rattle.pciplan_tasks.specs.declared.task.Placing.TheVariants.{Anew, Around}
 use Rattle.pciplan_tasks.specs.declared.task.Printed.{Printed}
 use Rattle.pciplan_tasks.specs.declared.task.SettleRequest.{SettleRequest}
 use Rattle.pciplan_tasks.specs.declared.task.Task.{Task}
 use Rattle.pciplan_tasks.specs.declared.task.Task.TheVariants as task
-use Rattle.pciplan_cli.specs.AlsoTexts.{placing_with, with_also}
-
--- all is placed anew without a third text
-unread_around : (placing : Placing) (also : Also) → also_around (placing_with placing also) ≡ Refused Io → also ≡ Refused Io
-unread_around Anew also unread = absurd (let no : ⊥ = cc unread in no)
-unread_around (Around untold) also unread = unread
+use Rattle.pciplan_cli.specs.AlsoTexts.{with_also}
 
 -- a third text that isn't read is that of the task
 pub unread_told : (t : Task) (also : Also) → IsAlsoUnread (with_also t also) → also ≡ Refused Io
@@ -26,7 +19,7 @@ unread_told task.Show also unread = absurd (let no : ⊥ = cc unread in no)
 unread_told (task.Check roots) also unread = absurd (let no : ⊥ = cc unread in no)
 unread_told task.Size also unread = absurd (let no : ⊥ = cc unread in no)
 unread_told (task.Plan pools writes why roots) also unread = absurd (let no : ⊥ = cc unread in no)
-unread_told (task.Settle request printed) also unread = unread_around request.placing also unread
+unread_told (task.Settle request printed) also unread = unread
 unread_told (task.Probe assuming) also unread = absurd (let no : ⊥ = cc unread in no)
 
 -- a task that has no third text takes nothing of it

@@ -8,8 +8,6 @@ use Rattle.pciplan_words.specs.declared.asked.Asked.TheVariants as asked
 use Rattle.pciplan_tasks.specs.Tasks.{IsFaultOfLeft}
 use Rattle.pciplan_tasks.specs.declared.task.Also.{Also}
 use Rattle.pciplan_tasks.specs.declared.task.Also.TheVariants.{Told, Refused}
-use Rattle.pciplan_tasks.specs.declared.task.Placing.{Placing}
-use Rattle.pciplan_tasks.specs.declared.task.Placing.TheVariants.{Anew, Around}
 use Rattle.pciplan_tasks.specs.declared.task.Task.{Task}
 use Rattle.pciplan_tasks.specs.declared.task.Task.TheVariants as task
 use Rattle.pciplan_cli.specs.CarriedOut.{TextsByPath}
@@ -34,15 +32,9 @@ IsAlsoAt texts (Some path) (Told ranges) = texts.stands path × AreToldBy (texts
 IsAlsoAt texts (Some path) (Refused fault) =
     IsFaultOfLeft IsToldTextFault (texts.bytes_at path) fault
 
--- what is told where all is placed anew is nothing: no third text is named then
-abbrev pub placing_with : Placing → Also → Placing
-placing_with Anew also = Anew
-placing_with (Around untold) also = Around also
-
 -- the task with what is told
 abbrev pub with_also : Task → Also → Task
 with_also (task.Faults beside why) also = task.Faults (record beside { also = also }) why
 with_also (task.Map beside) also = task.Map (record beside { also = also })
-with_also (task.Settle request printed) also =
-    task.Settle (record request { placing = placing_with request.placing also }) printed
+with_also (task.Settle request printed) also = task.Settle (record request { also = also }) printed
 with_also t also = t

@@ -1,5 +1,5 @@
 -- The settling that a command line asks for.
-use Rattle.std.specs.Prelude.{◌≡◌, ◌≢◌, ◌⊎◌, ℕ, Bool, true, false, List, [], Option, None, Some}
+use Rattle.std.specs.Prelude.{◌≡◌, ◌⊎◌, ℕ, Bool, true, false, List, [], Option, None, Some}
 use Rattle.std.specs.Borrow.{Bor}
 use Rattle.std.specs.Global.{Vec}
 use Rattle.pci_spec.specs.Slot.{Slot}
@@ -16,8 +16,6 @@ use Rattle.pciplan_words.specs.declared.forms.Form.{Form}
 use Rattle.pciplan_words.specs.declared.forms.Form.TheVariants.{Setpci, Grub}
 use Rattle.pciplan_cli.specs.OptionWords.{AreRootsOf, HasNoRoots}
 use Rattle.pciplan_tasks.specs.declared.task.Also.TheVariants.{Told}
-use Rattle.pciplan_tasks.specs.declared.task.Placing.{Placing}
-use Rattle.pciplan_tasks.specs.declared.task.Placing.TheVariants.{Anew, Around}
 use Rattle.pciplan_tasks.specs.declared.task.Printed.{Printed}
 use Rattle.pciplan_tasks.specs.declared.task.Printed.TheVariants.{Dump, Writes, Script}
 use Rattle.pciplan_tasks.specs.declared.task.SettleRequest.{SettleRequest}
@@ -25,13 +23,7 @@ use Rattle.pciplan_tasks.specs.declared.task.Task.{Task}
 use Rattle.pciplan_tasks.specs.declared.task.Task.TheVariants as task
 use Rattle.pciplan_tasks.specs.declared.failure.PoolOption.TheVariants.{Io, Mem, Pref}
 use Rattle.pciplan_tasks.specs.declared.failure.Failure.{Failure}
-use Rattle.pciplan_tasks.specs.declared.failure.Failure.TheVariants.{Usage, Root, Pool, Fixed, Spare, Slots, Memory}
-
--- what is left where it stands, by `--anew` and the path of a third text, which isn't read yet: both can't be said
-abbrev pub IsPlacingOf : Bool → Option (Bor (List ℕ)) → Placing → Type 0
-IsPlacingOf true None placing = placing ≡ Anew
-IsPlacingOf true (Some path) placing = ⊥
-IsPlacingOf false also placing = placing ≡ Around (Told [])
+use Rattle.pciplan_tasks.specs.declared.failure.Failure.TheVariants.{Root, Pool, Fixed, Spare, Slots, Memory}
 
 -- a list of ranges in this word
 abbrev pub IsListOf : Bor (List ℕ) → Vec RootRange → Type 0
@@ -72,7 +64,8 @@ pub record IsSettlingOf (form : Option Form) (asked : SettleWords) (t : Task) : 
   pub mem : IsListOf asked.mem request.lists.mem
   pub pref : IsListOf asked.pref request.lists.pref
   pub fixed : AreFixed asked.fixed request.fixed
-  pub placing : IsPlacingOf asked.anew asked.also request.placing
+  pub anew : request.anew ≡ asked.anew
+  pub untold : request.also ≡ Told []
   pub spares : AreSpares asked.spare request.spares
   pub slots : AreSlots asked.slots request.slots
   pub is : t ≡ task.Settle request (printed_of form asked.writes)
@@ -94,11 +87,8 @@ abbrev pub HasListWord : Bor (List ℕ) → Type 0
 HasListWord word = (list : List RootRange) × IsListWord word.now list
 
 -- the words before a list have their meaning
-abbrev pub HasPlacing : SettleWords → Type 0
-HasPlacing asked = (placing : Placing) × IsPlacingOf asked.anew asked.also placing
-
 abbrev pub HasSettleRoots : SettleWords → Type 0
-HasSettleRoots asked = HasPlacing asked × ((roots : Roots) × AreRootsOf asked.root roots)
+HasSettleRoots asked = (roots : Roots) × AreRootsOf asked.root roots
 
 abbrev pub HasSettleIo : SettleWords → Type 0
 HasSettleIo asked = HasSettleRoots asked × HasListWord asked.io
@@ -127,11 +117,10 @@ IsSettlingWant asked =
     ⊎ (HasSettleMem asked × HasRanges asked.pref.now) ⊎ (HasPref asked × SpellsSlots asked.fixed)
     ⊎ (HasSpare asked × SpellsSlots asked.slots)
 
--- `--anew` and `--also` exclude each other; then the root list is looked at, then the lists of I/O, memory and prefetchable
--- memory, then the fixed slots, then what is wanted behind hot-plug slots, and then the bridges that have one
+-- the root list is looked at, then the lists of I/O, memory and prefetchable memory, then the fixed slots, then what is wanted
+-- behind hot-plug slots, and then the bridges that have one
 abbrev pub IsSettlingRefused : SettleWords → Failure → Type 0
-IsSettlingRefused asked Usage = (asked.anew ≡ true) × (asked.also ≢ None)
-IsSettlingRefused asked Root = HasPlacing asked × HasNoRoots asked.root
+IsSettlingRefused asked Root = HasNoRoots asked.root
 IsSettlingRefused asked (Pool Io) = HasSettleRoots asked × HasNoListWord asked.io
 IsSettlingRefused asked (Pool Mem) = HasSettleIo asked × HasNoListWord asked.mem
 IsSettlingRefused asked (Pool Pref) = HasSettleMem asked × HasNoListWord asked.pref

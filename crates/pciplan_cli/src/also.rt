@@ -2,13 +2,13 @@
 ghost use Rattle.std.specs.Prelude.{◌≡◌, ◌+◌, None, option_map};
 ghost use Rattle.pci_dump.specs.declared.read_fault.ReadFault.{ReadFault};
 ghost use Rattle.pciplan_tasks.specs.declared.task.Also.{Also};
-ghost use Rattle.pciplan_cli.specs.AlsoTexts.{IsAlsoAt, also_path, placing_with, with_also};
+ghost use Rattle.pciplan_cli.specs.AlsoTexts.{IsAlsoAt, also_path, with_also};
 ghost use Rattle.pciplan_cli.specs.CarriedOut.{texts};
 
 use crate::opened::Opening;
 use pci_dump::read_fault::ReadFault;
 use pci_told::reader::read_told;
-use pciplan_tasks::task::{Also, Beside, Placing, SettleRequest, Task};
+use pciplan_tasks::task::{Also, Beside, SettleRequest, Task};
 use pciplan_words::asked::Asked;
 use std::alloc::Global;
 
@@ -58,16 +58,6 @@ pub fn also_told<T: Opening>(alloc: Global, asked: &Asked<'_>, text: &mut T) -> 
     also_at(alloc, also_path(asked), text)
 }
 
-/// What is left where it stands, with what is told: nothing is where all is placed anew.
-fn placing_with(placing: Placing, also: Also) -> Placing
-    ensures { result ≡ placing_with placing also }
-{
-    match placing {
-        Placing::Anew => Placing::Anew,
-        Placing::Around(_) => Placing::Around(also),
-    }
-}
-
 /// The task with what is told.
 #[tactic(auto, using(crate::proofs::AlsoTasks::others_told))]
 pub fn with_also(task: Task, also: Also) -> Task
@@ -82,10 +72,7 @@ pub fn with_also(task: Task, also: Also) -> Task
             beside: Beside { also, ..beside },
         },
         Task::Settle { request, printed } => Task::Settle {
-            request: SettleRequest {
-                placing: placing_with(request.placing, also),
-                ..request
-            },
+            request: SettleRequest { also, ..request },
             printed,
         },
         task => task,

@@ -1,6 +1,6 @@
 //! The settling that a command line asks for.
-ghost use Rattle.std.specs.Prelude.{◌≡◌, ◌≢◌, ◌⊎◌, true, None, MatchOption, MatchResult};
-ghost use Rattle.pciplan_cli.specs.SettleAsked.{AreFixed, AreSlots, AreSpares, HasNoListWord, HasNoSlotsWord, HasNoSpareWord, IsListOf, IsPlacingOf, IsSettlingOf, IsSettlingRefused, SpellsSlots, printed_of};
+ghost use Rattle.std.specs.Prelude.{◌≡◌, ◌⊎◌, MatchResult};
+ghost use Rattle.pciplan_cli.specs.SettleAsked.{AreFixed, AreSlots, AreSpares, HasNoListWord, HasNoSlotsWord, HasNoSpareWord, IsListOf, IsSettlingOf, IsSettlingRefused, SpellsSlots, printed_of};
 ghost use Rattle.pciplan_lists.specs.ListWords.{HasRanges};
 ghost use Rattle.pciplan_tasks.specs.declared.failure.Failure.{Failure};
 
@@ -13,7 +13,7 @@ use pciplan_lists::list_word::list_of_word;
 use pciplan_lists::slot_list::slots_of_word;
 use pciplan_lists::spare_word::spares_of_word;
 use pciplan_tasks::failure::{Failure, PoolOption};
-use pciplan_tasks::task::{Also, Placing, Printed, SettleLists, SettleRequest, Task};
+use pciplan_tasks::task::{Also, Printed, SettleLists, SettleRequest, Task};
 use pciplan_words::asked::SettleWords;
 use pciplan_words::forms::Form;
 use std::alloc::Global;
@@ -81,19 +81,6 @@ fn printed_of(form: Option<Form>, writes: bool) -> Printed
     }
 }
 
-/// What is left where it stands, by `--anew` and the path of a third text, of which one alone may be said. That text isn't read
-/// yet.
-fn placing_of(alloc: Global, anew: bool, also: Option<&str>) -> Option<Placing>
-    ensures { MatchOption result ((anew ≡ true) × (also.entry ≢ None))
-        (IsPlacingOf anew also.entry) }
-{
-    match (anew, also) {
-        (true, Some(_)) => None,
-        (true, None) => Some(Placing::Anew),
-        (false, _) => Some(Placing::Around(Also::nothing(alloc))),
-    }
-}
-
 /// The settling that is asked for. What a third text tells isn't read yet.
 pub fn settling_of(
     alloc: Global,
@@ -102,7 +89,6 @@ pub fn settling_of(
 ) -> Result<Task, Failure>
     ensures { MatchResult result (IsSettlingOf form asked.now) (IsSettlingRefused asked.now) }
 {
-    let placing = placing_of(alloc, asked.anew, asked.also).ok_or(Failure::Usage)?;
     let roots = roots_of(asked.root).ok_or(Failure::Root)?;
     let lists = SettleLists {
         io: list_of(alloc, asked.io, PoolOption::Io)?,
@@ -113,7 +99,8 @@ pub fn settling_of(
         roots,
         lists,
         fixed: fixed_of(alloc, asked.fixed)?,
-        placing,
+        anew: asked.anew,
+        also: Also::nothing(alloc),
         spares: spares_of(asked.spare)?,
         slots: slots_of(alloc, asked.slots)?,
     };

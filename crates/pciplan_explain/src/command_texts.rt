@@ -86,12 +86,11 @@ pciplan faults DUMP PROBE [--root LIST] [--model WORDS] [--host-io LIST]
   --also FILE
     faults judges, and map and picture show, what functions answer that no BAR
     shows: of virtual functions, of Enhanced Allocation, or of a chipset. settle
-    places nothing there, and keeps the windows over it, or lets them grow. It
-    doesn't take this option together with --anew. A line of the file is S SPACE
-    A-B MARK, and a name where one is wanted. SPACE is io, mem or pref. MARK is
-    command (while Command of the function enables the space), always, or held
-    (somebody there answers it). A range is named by its slot and line, as in
-    01:00.0 +1.
+    places nothing there, and keeps the windows over it, or lets them grow. A
+    line of the file is S SPACE A-B MARK, and a name where one is wanted. SPACE
+    is io, mem or pref. MARK is command (while Command of the function enables
+    the space), always, or held (somebody there answers it). A range is named by
+    its slot and line, as in 01:00.0 +1.
   --why
     faults tells with what ranges each fault 60 to 63 is there, and which BARs
     are off. Behind a fault 72 plan prints a second line: how many addresses the
@@ -142,12 +141,11 @@ pciplan map DUMP PROBE [--root LIST] [--model WORDS] [--host-io LIST]
   --also FILE
     faults judges, and map and picture show, what functions answer that no BAR
     shows: of virtual functions, of Enhanced Allocation, or of a chipset. settle
-    places nothing there, and keeps the windows over it, or lets them grow. It
-    doesn't take this option together with --anew. A line of the file is S SPACE
-    A-B MARK, and a name where one is wanted. SPACE is io, mem or pref. MARK is
-    command (while Command of the function enables the space), always, or held
-    (somebody there answers it). A range is named by its slot and line, as in
-    01:00.0 +1.
+    places nothing there, and keeps the windows over it, or lets them grow. A
+    line of the file is S SPACE A-B MARK, and a name where one is wanted. SPACE
+    is io, mem or pref. MARK is command (while Command of the function enables
+    the space), always, or held (somebody there answers it). A range is named by
+    its slot and line, as in 01:00.0 +1.
 ";
 
 pub const SIZE: &str = "\
@@ -188,7 +186,7 @@ pciplan plan DUMP PROBE --io A-B --mem A-B --pref A-B [--root LIST] [--writes]
 
 pub const SETTLE: &str = "\
 pciplan settle DUMP PROBE --io LIST --mem LIST --pref LIST [--root LIST]
-    [--fixed SLOTS] [--anew | --also FILE] [--spare WORDS [--slots SLOTS]]
+    [--fixed SLOTS] [--anew] [--also FILE] [--spare WORDS [--slots SLOTS]]
     [--writes[=FORM]]
   Leaves what works where it is, and places the rest in three lists of ranges,
   each of all root buses or of one, with windows that are as large as what is in
@@ -210,12 +208,11 @@ pciplan settle DUMP PROBE --io LIST --mem LIST --pref LIST [--root LIST]
   --also FILE
     faults judges, and map and picture show, what functions answer that no BAR
     shows: of virtual functions, of Enhanced Allocation, or of a chipset. settle
-    places nothing there, and keeps the windows over it, or lets them grow. It
-    doesn't take this option together with --anew. A line of the file is S SPACE
-    A-B MARK, and a name where one is wanted. SPACE is io, mem or pref. MARK is
-    command (while Command of the function enables the space), always, or held
-    (somebody there answers it). A range is named by its slot and line, as in
-    01:00.0 +1.
+    places nothing there, and keeps the windows over it, or lets them grow. A
+    line of the file is S SPACE A-B MARK, and a name where one is wanted. SPACE
+    is io, mem or pref. MARK is command (while Command of the function enables
+    the space), always, or held (somebody there answers it). A range is named by
+    its slot and line, as in 01:00.0 +1.
   --io A-B
   --mem A-B
   --pref A-B
@@ -230,8 +227,9 @@ pciplan settle DUMP PROBE --io LIST --mem LIST --pref LIST [--root LIST]
     bridge that is named don't grow. A slot that the dump doesn't have says
     nothing.
   --anew
-    settle leaves nothing where it stands. It doesn't take this option together
-    with --also.
+    settle leaves nothing where it stands but what --also tells, and what leads
+    to it: a window over such a range, or a BAR of a bridge above one that is
+    marked always.
   --spare WORDS
     settle keeps so many addresses free behind each bridge with a hot-plug slot,
     for a card that comes later: io:1000,mem:200000,pref:200000. Of the three
@@ -328,12 +326,11 @@ pciplan picture DUMP PROBE [--root LIST] [--model WORDS] [--host-io LIST]
   --also FILE
     faults judges, and map and picture show, what functions answer that no BAR
     shows: of virtual functions, of Enhanced Allocation, or of a chipset. settle
-    places nothing there, and keeps the windows over it, or lets them grow. It
-    doesn't take this option together with --anew. A line of the file is S SPACE
-    A-B MARK, and a name where one is wanted. SPACE is io, mem or pref. MARK is
-    command (while Command of the function enables the space), always, or held
-    (somebody there answers it). A range is named by its slot and line, as in
-    01:00.0 +1.
+    places nothing there, and keeps the windows over it, or lets them grow. A
+    line of the file is S SPACE A-B MARK, and a name where one is wanted. SPACE
+    is io, mem or pref. MARK is command (while Command of the function enables
+    the space), always, or held (somebody there answers it). A range is named by
+    its slot and line, as in 01:00.0 +1.
 ";
 
 pub const EXPLAIN: &str = "\

@@ -361,8 +361,8 @@ pub const NO_ROOM: &str = "\
   Mostly, of settle: What was placed before leaves no room for the part: each
     item has its first place, the most aligned first. Another order, by hand,
     may fit.
-  Do, of settle: A larger list; --anew (without --also), which also moves what
-    stands.
+  Do, of settle: A larger list; --anew, which also moves what stands, but for
+    what leads to a told range.
 ";
 
 pub const NOT_ACCEPTED: &str = "\
@@ -397,8 +397,9 @@ pub const TOLD: &str = "\
     or has no room for what is behind it; or a bridge above an always range
     would be shut; or a function would be switched on whose range clashes.
   Do, of another range: Lists with the ranges in which these windows stand, and
-    with room beside them; or switch the virtual functions off (sriov_numvfs 0),
-    settle, and switch them on again.
+    with room beside them; --anew where such a window has no room for the rest;
+    or switch the virtual functions off (sriov_numvfs 0), settle, and switch
+    them on again.
 ";
 
 pub const ASSUMED: &str = "\

@@ -1,5 +1,5 @@
 -- What is answered where something is settled, and where nothing is.
-use Rattle.std.proofs.Common.{◌≡◌, ◌==◌, ℕ, List, [], ◌∷◌, Bool, true, IsTrue, Result, length, map, inl, inr, refl, eqb-true, arith}
+use Rattle.std.proofs.Common.{◌≡◌, ◌==◌, ℕ, List, [], ◌∷◌, Bool, true, Result, length, map, inl, inr, refl, eqb-true, arith}
 use Rattle.std.specs.Result.{IfOk}
 use Rattle.std.proofs.lemmas.Result.{IfOk-weaker}
 use Rattle.pci_spec.specs.Slot.{Slot}
@@ -20,13 +20,10 @@ use Rattle.pci_settle_writes.specs.Endings.{IsRefusal, HasNoAssumed}
 use Rattle.pci_settle_writes.specs.FaultText.{settle_fault_text}
 use Rattle.pci_settle_writes.specs.declared.lack.SettleFault.{SettleFault}
 use Rattle.pci_tree.specs.Admission.{Admission, IsAdmitted}
-use Rattle.pciplan_tasks.specs.Also.{also_around, is_anew, ranges_told}
 use Rattle.pciplan_tasks.specs.Answers.{answer_of, done_with, fault_answer_line, refused}
 use Rattle.pciplan_tasks.specs.MapAnswers.{IsFirstLine}
 use Rattle.pciplan_tasks.specs.SettleAnswers.{SettleAsked, IsReadyAsTold, IsSettlingOfPair, IsSettlingTold, settled_text, spare_remarks}
 use Rattle.pciplan_tasks.specs.declared.reply.Reply.{Reply}
-use Rattle.pciplan_tasks.specs.declared.task.Placing.{Placing}
-use Rattle.pciplan_tasks.specs.declared.task.Placing.TheVariants.{Anew, Around}
 use Rattle.pciplan_tasks.specs.declared.task.Printed.{Printed}
 
 pub settled_is_told : {A E : Type 0} (a : Admission) (d : Demand) (fixed : List Slot) (anew : Bool) (printed : Printed) (after : List Block) (writes : List Write) (closings : ℕ)
@@ -74,8 +71,3 @@ not_ready_is_told asked dump probe faults r before told =
 pub none_told : (ranges : List ToldRange) → (length ranges == 0) ≡ true → ranges ≡ []
 none_told [] none = refl
 none_told (r ∷ ranges) none = absurd (let same : length (r ∷ ranges) ≡ 0 = eqb-true _ _ none in let no : ⊥ = omega (arith, same) in no)
-
--- where all is placed anew nothing is told
-pub none_anew : (placing : Placing) → IsTrue (is_anew placing) → ranges_told (also_around placing) ≡ []
-none_anew Anew anew = refl
-none_anew (Around also) anew = absurd (let no : ⊥ = cc anew in no)

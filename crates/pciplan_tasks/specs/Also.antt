@@ -1,30 +1,18 @@
 -- What a third text tells of ranges, as a task has it.
-use Rattle.std.specs.Prelude.{◌≡◌, Bool, true, false, List, []}
+use Rattle.std.specs.Prelude.{◌≡◌, List, []}
 use Rattle.given_spec.specs.Told.{ToldRange}
 use Rattle.pci_dump.specs.declared.read_fault.ReadFault.{ReadFault}
 use Rattle.pci_dump.specs.declared.read_fault.ReadFault.TheVariants.{Io}
 use Rattle.pciplan_tasks.specs.declared.task.Also.{Also}
 use Rattle.pciplan_tasks.specs.declared.task.Also.TheVariants.{Told, Refused}
-use Rattle.pciplan_tasks.specs.declared.task.Placing.{Placing}
-use Rattle.pciplan_tasks.specs.declared.task.Placing.TheVariants.{Anew, Around}
 use Rattle.pciplan_tasks.specs.declared.task.Task.{Task}
 use Rattle.pciplan_tasks.specs.declared.task.Task.TheVariants as task
-
--- settling leaves nothing where it stands
-abbrev pub is_anew : Placing → Bool
-is_anew Anew = true
-is_anew (Around also) = false
-
--- nothing is told where all is placed anew
-abbrev pub also_around : Placing → Also
-also_around Anew = Told []
-also_around (Around also) = also
 
 -- a task that has no such text is told nothing
 abbrev pub also_of : Task → Also
 also_of (task.Faults beside why) = beside.also
 also_of (task.Map beside) = beside.also
-also_of (task.Settle request printed) = also_around request.placing
+also_of (task.Settle request printed) = request.also
 also_of _ = Told []
 
 -- the text is read, or there is none

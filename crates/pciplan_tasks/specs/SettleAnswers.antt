@@ -25,7 +25,7 @@ use Rattle.pci_settle_writes.specs.FaultText.{settle_fault_text}
 use Rattle.pci_settle_writes.specs.declared.lack.SettleFault.{SettleFault}
 use Rattle.pci_tree.specs.Admission.{Admission, IsAdmitted}
 use Rattle.pci_tree.specs.Roots.{buses_of}
-use Rattle.pciplan_tasks.specs.Also.{also_around, is_anew, ranges_told}
+use Rattle.pciplan_tasks.specs.Also.{ranges_told}
 use Rattle.pciplan_tasks.specs.Answers.{Answer}
 use Rattle.pciplan_tasks.specs.Answers as told
 use Rattle.pciplan_tasks.specs.MapAnswers.{IsFirstLine}
@@ -50,12 +50,12 @@ demand_said r dump = record {
   lists = lists_said r.lists;
   slots = slots_for r.spares (option_map (λ s. s.items) r.slots) dump;
   spares = spares_said r.spares;
-  told = record { ranges = ranges_told (also_around r.placing); asleep = [] };
+  told = record { ranges = ranges_told r.also; asleep = [] };
 }
 
 -- what is asked of settling a dump
 abbrev pub request_said : SettleRequest → List Block → Request
-request_said r dump = request (buses_of r.roots) (demand_said r dump) r.fixed.items (is_anew r.placing)
+request_said r dump = request (buses_of r.roots) (demand_said r dump) r.fixed.items r.anew
 
 -- what is asked for: how two texts are settled, and what is printed
 pub record SettleAsked : Type 0 where

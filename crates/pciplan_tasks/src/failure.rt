@@ -22,8 +22,7 @@ pub enum PoolOption {
 /// Why a command line isn't carried out.
 #[derive(Clone, Copy, Debug, PartialEq, Eq)]
 pub enum Failure {
-    /// The words are no command line, or name two options that exclude each other: `--exact` and `--least`, or `--anew` and
-    /// `--also`.
+    /// The words are no command line, or name two options that exclude each other: `--exact` and `--least`.
     Usage,
     /// The list of root buses is none.
     Root,

@@ -145,7 +145,7 @@ fn also_fault(task: &Task) -> Option<ReadFault>
 {
     match task {
         Task::Faults { beside, .. } | Task::Map { beside } => beside.also.fault(),
-        Task::Settle { request, .. } => request.placing.fault(),
+        Task::Settle { request, .. } => request.also.fault(),
         _ => None,
     }
 }

@@ -7,7 +7,7 @@ ghost use Rattle.pci_tree.specs.Admission.{IsAdmitted};
 ghost use Rattle.pci_tree.specs.Roots.{buses_of};
 ghost use Rattle.pci_settle.specs.Slots.{demand_value};
 ghost use Rattle.pci_settle_writes.specs.Denied.{denied_value};
-ghost use Rattle.pci_settle_writes.specs.Requests.{request, MayAsk};
+ghost use Rattle.pci_settle_writes.specs.Requests.{request};
 ghost use Rattle.pciplan_tasks.specs.Answers.{answer_of, done_with, text_bytes};
 ghost use Rattle.pciplan_tasks.specs.SettleAnswers.{IsSettlingOfPair, IsSettlingTold, demand_said, request_said, settled_text, spare_remark, spare_remarks};
 
@@ -131,7 +131,6 @@ fn settle_admitted<A: Allocator + Copy>(
     printed: Printed,
 ) -> Result<Reply<A>, OutOfMemory>
     requires admitted { IsAdmitted admitted.now }
-    requires anew { MayAsk anew lists.now }
     ensures { IfOk result (λ reply. IsSettlingOfPair record {
       request = request admitted.now.roots (demand_value lists.now) fixed.now anew;
       printed = printed;
@@ -169,11 +168,10 @@ fn settle_behind<'a, A: Allocator + Copy>(
         mem,
         pref,
         slots,
-        told: request.placing.told(),
+        told: request.also.told(),
     };
     let fixed = request.fixed.as_slice();
-    let anew = request.placing.is_anew();
-    settle_admitted(alloc, admitted, &lists, fixed, anew, printed)
+    settle_admitted(alloc, admitted, &lists, fixed, request.anew, printed)
 }
 
 /// Settles what was admitted as it is asked for.
@@ -229,7 +227,7 @@ fn settle_told<A: Allocator + Copy>(
     } dump probe (answer_of reply)) }
 {
     let told = Told {
-        ranges: request.placing.ranges(),
+        ranges: request.also.ranges(),
         asleep: &[],
     };
     let found = before_judging(alloc, &dump, &probe, request.roots, &told)?;
@@ -253,7 +251,7 @@ pub fn settle_pair<A: Allocator + Copy>(
       printed = printed;
     } dump probe (answer_of reply)) }
 {
-    if request.placing.ranges().is_empty() {
+    if request.also.ranges().is_empty() {
         settle_texts(alloc, dump, probe, request, printed)
     } else {
         settle_told(alloc, dump, probe, request, printed)

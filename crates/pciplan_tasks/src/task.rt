@@ -1,7 +1,7 @@
 //! The tasks.
 ghost use Rattle.std.specs.Prelude.{◌≡◌, [], MatchOption};
 ghost use Rattle.given_spec.specs.Told.{IsTold as AreRanges};
-ghost use Rattle.pciplan_tasks.specs.Also.{IsTold, also_around, is_anew, ranges_told};
+ghost use Rattle.pciplan_tasks.specs.Also.{IsTold, ranges_told};
 ghost use Rattle.pciplan_tasks.specs.declared.task.Also.{Also};
 
 use pci_base::range::RootRange;
@@ -96,57 +96,6 @@ pub struct SettleLists {
     pub pref: Vec<RootRange>,
 }
 
-/// What settling leaves where it stands.
-#[derive(Drop)]
-pub enum Placing {
-    /// Nothing: all is placed anew, and nothing is told.
-    Anew,
-    /// What stands with room for what is behind it. Nothing is placed on what this third text tells.
-    Around(Also),
-}
-
-impl Placing {
-    /// Whether nothing is left where it stands.
-    pub fn is_anew(&self) -> bool
-        ensures { result ≡ is_anew self.now }
-    {
-        matches!(self, Placing::Anew)
-    }
-
-    /// The fault of the third text, where there is one that has a fault or can't be read.
-    pub fn fault(&self) -> Option<ReadFault>
-        ensures { MatchOption result (IsTold (also_around self.now))
-            (λ fault. also_around self.now ≡ Also.Refused fault) }
-    {
-        match self {
-            Placing::Anew => None,
-            Placing::Around(also) => also.fault(),
-        }
-    }
-
-    /// The ranges that the third text tells; none where there is no such text, or it isn't read.
-    pub fn ranges(&self) -> &[ToldRange]
-        ensures value { result.now ≡ ranges_told (also_around self.now) }
-        // judging finds those of a slot by halving
-        ensures lawful { AreRanges result.now }
-    {
-        match self {
-            Placing::Anew => &[],
-            Placing::Around(also) => also.ranges(),
-        }
-    }
-
-    /// The same, as settling takes them.
-    pub fn told(&self) -> ToldRanges<'_>
-        ensures { result.ranges.now ≡ ranges_told (also_around self.now) }
-    {
-        match self {
-            Placing::Anew => ToldRanges::none(),
-            Placing::Around(also) => also.told(),
-        }
-    }
-}
-
 /// What is to be settled, and how.
 #[derive(Drop)]
 pub struct SettleRequest {
@@ -154,8 +103,10 @@ pub struct SettleRequest {
     pub lists: SettleLists,
     /// The slots whose functions may not be written. One that the dump doesn't have says nothing.
     pub fixed: Vec<Slot>,
-    /// What is left where it stands.
-    pub placing: Placing,
+    /// Whether nothing is left where it stands, but for told ranges and what leads to them.
+    pub anew: bool,
+    /// What a third text tells. Nothing is placed on its ranges.
+    pub also: Also,
     /// How many addresses of each class are wanted behind each hot-plug slot: 0 where none are.
     pub spares: ByKind<u64>,
     /// The bridges that have such a slot; None: those of the dump whose registers say so. One that the dump doesn't have says
