@@ -163,13 +163,14 @@ def settle(dump, probe, io='none', mem='none', pref='none', fixed='', anew=False
     """The plan that leaves what works and places the rest in lists, in words as on the command line.
 
     io, mem and pref are lists as '1000-ffff' or '00:e0000000-e7ffffff,e8000000-e8ffffff'. fixed lists the slots of which no
-    register may be written, as '00:1f.0,01:00.0'. Where anew is true, nothing stays where it is.
+    register may be written, as '00:1f.0,01:00.0'. Where anew is true, nothing stays where it is but told ranges and what leads
+    to them.
 
     spare says what is wanted behind each hot-plug slot, as 'io:1000,mem:200000'. slots lists the bridges that have one, as
     '00:1c.0'; where it is empty, they are those of the dump whose registers say so.
 
     also is a text of ranges that functions answer beside their BARs and ROMs: the bytes of the file of `--also`. Nothing is
-    placed on these. It is empty where anew is true.
+    placed on these.
     """
     words = _SettleWords(*_words(io, mem, pref, fixed, spare, slots), _Text(also, len(also)), anew)
     room = _WINDOWS * (len(dump) // _FUNCTION + 1)

@@ -60,6 +60,12 @@ class Machines(unittest.TestCase):
         got = pciplan.settle(*PLUGGED, mem='e0000000-e02fffff', also=also)
         self.assertEqual(got.writes[0], pciplan.Write(2, 0, 0, 0x10, 4, 0xe0104000))
 
+    def test_settle_anew_beside_told_ranges(self):
+        """Virtual functions have the beginning of the card's window, so the window stays."""
+        also = b'02:00.0 mem 00000000e0100000-00000000e0103fff always vf0\n'
+        got = pciplan.settle(*PLUGGED, mem='e0000000-e02fffff', anew=True, also=also)
+        self.assertEqual(got.writes[0], pciplan.Write(2, 0, 0, 0x10, 4, 0xe0104000))
+
     def test_nothing_to_settle(self):
         dump, probe = (MACHINES / 'old.dump').read_bytes(), (MACHINES / 'old.probe').read_bytes()
         got = pciplan.settle(dump, probe, io='700-ffff', mem='80000000-febfffff')
@@ -147,7 +153,7 @@ class NoAnswer(unittest.TestCase):
                 ('spare', pciplan.settle, [b'', b'', 'none', 'none', 'none', '', False, (0,), 'mem:0', '00:00.8']),
                 ('slots', pciplan.settle, [b'', b'', 'none', 'none', 'none', '', False, (0,), 'mem:1', '00:00.8']),
                 ('slots', pciplan.settle, [b'', b'', 'none', 'none', 'none', '', False, (0,), '', '00:00.0']),
-                ('also', partial(pciplan.settle, also=b'00:'), [b'', b'00:', 'none', 'none', 'none', '', True]),
+                ('also: 9 Ended 1', partial(pciplan.settle, also=b'00:'), [b'', b'', 'none', 'none', 'none', '', True]),
                 ('dump: 9 Ended 1', partial(pciplan.settle, also=b'00:'), [b'00:', b'00:']),
                 ('probe: 9 Ended 1', partial(pciplan.settle, also=b'00:'), [b'', b'00:']),
                 ('also: 9 Ended 1', partial(pciplan.settle, also=b'00:'), [b'', b''])):

@@ -12,7 +12,7 @@
      CMPXCHG16B). pciplan_supported says whether the processor has them. Firmware switches SSE on first (CR0.EM clear,
      CR0.MP set, CR4.OSFXSR set), or the first call is an invalid opcode.
      `rt lib --backend rattle --cpu x86-64` builds it for every x86-64 processor; then pciplan_supported needn't be asked.
-   - Stack: 32 KB for each call, but 64 KB for pciplan_faults, and 352 KB for pciplan_settle, which keeps tables of all
+   - Stack: 32 KB for each call, but 64 KB for pciplan_faults, and 240 KB for pciplan_settle, which keeps tables of all
      buses there. 128 bytes below the stack pointer are in use: what interrupts on the same stack leaves them alone
      (firmware is built with -mno-red-zone for that; this library isn't). In a build with `--backend rattle` nothing was
      found that does so, and pciplan_plan needs 80 KB (docs/C.md).
@@ -161,7 +161,8 @@ uint8_t pciplan_plan(const uint8_t *dump, size_t dump_len,
    also is a text of ranges that functions answer beside their BARs and ROMs: the bytes of the file of `--also`. It has no byte
    where there is no such text. Nothing is placed on these ranges, and the windows over them stay, or grow.
 
-   anew is 0 where what stands stays where it is, else all is placed anew. also has a byte only where anew is 0. */
+   anew is 0 where what stands stays where it is, else all is placed anew. Then told ranges stay all the same, and what leads to
+   one: a window over it, or a BAR of a bridge above one that is marked always. */
 struct pciplan_settle_words {
     struct pciplan_text io, mem, pref, fixed, spare, slots, also;
     uint8_t anew;
@@ -185,8 +186,8 @@ struct pciplan_denied {
    docs/FORMATS.md means nothing. Of told ranges it is "no 34 NotListed 02:00.0" or "no 58 Orphan 40:00.0" in the place that
    these have among the faults of the texts, or "no 75 Told 02:00.0 +1" of line 1 of also, where a range isn't reached or can't
    be kept. At REFUSED a message stands in line: "root", else "pool io", "pool mem", "pool pref", "fixed", "spare" or "slots"
-   for the first word without a meaning, else "also" where also has a byte and anew isn't 0, else a message of pciplan_check,
-   else the fault of the text also, as "also: 5 BadLine 17". At both denied isn't changed, and *denied_used is 0.
+   for the first word without a meaning, else a message of pciplan_check, else the fault of the text also, as
+   "also: 5 BadLine 17". At both denied isn't changed, and *denied_used is 0.
 
    At MEMORY nothing is changed. At SHORT all is as pciplan_plan leaves it, denied isn't changed, and *denied_used is 0; or
    *denied_used, above denied_len, is the number of these windows, and *writes_used and *line_used are 0: writes may have no

@@ -19,7 +19,7 @@ enum { STACK = 512 * 1024, TEXT = 1 << 22, WRITES = 4096, PAINT = 0xa5 };
 #define FAULTS_NEEDS (64 * 1024)
 #endif
 #ifndef SETTLE_NEEDS
-#define SETTLE_NEEDS (352 * 1024)
+#define SETTLE_NEEDS (240 * 1024)
 #endif
 
 static _Alignas(16) uint8_t stack[STACK];

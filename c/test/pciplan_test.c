@@ -362,6 +362,13 @@ static const struct pciplan_write off[] = {
     {0x02, 0x00, 0, 0x10, 4, 0xe0104000}, {0x02, 0x00, 0, 0x04, 2, 0x0002},
 };
 
+/* The device and the card, which are placed anew, keep off it. */
+static const struct pciplan_write off_anew[] = {
+    {0x00, 0x1f, 0, 0x04, 2, 0x0004},     {0x00, 0x02, 0, 0x20, 4, 0x0000fff0}, {0x00, 0x02, 0, 0x20, 4, 0xe020e020},
+    {0x00, 0x1f, 0, 0x10, 4, 0xe0100000}, {0x02, 0x00, 0, 0x10, 4, 0xe0200000}, {0x00, 0x1f, 0, 0x04, 2, 0x0006},
+    {0x02, 0x00, 0, 0x04, 2, 0x0002},
+};
+
 #define SETTLED MEM, "", NULL, 1, ROOM, PCIPLAN_LINE
 #define BEHIND " mem 00000000e0100000-00000000e0103fff "
 #define OUTSIDE " mem 00000000e0200000-00000000e0203fff "
@@ -380,7 +387,11 @@ static const struct told_call told_calls[] = {
     {{"cut told range", SETTLED, PCIPLAN_REFUSED, NULL, 0, 0, "also: 9 Ended 1"}, "02:01.0" BEHIND, 0},
     {{"line too short for a told range", MEM, "", NULL, 1, ROOM, 21, PCIPLAN_SHORT, NULL, 0, 0, "no 75 Told 01:00.0 +1\n"},
      "01:00.0" OUTSIDE "always\n", 0},
-    {{"told range where all is placed anew", SETTLED, PCIPLAN_REFUSED, NULL, 0, 0, "also"}, "02:01.0" BEHIND "held\n", 1},
+    {{"all anew off a held range", SETTLED, PCIPLAN_YES, off_anew, COUNT(off_anew), 0, ""}, "02:01.0" BEHIND "held\n", 1},
+    {{"all anew but the window over a told range", SETTLED, PCIPLAN_YES, off, COUNT(off), 0, ""},
+     "02:00.0" BEHIND "always vf0\n", 1},
+    {{"told range that isn't reached, all anew", SETTLED, PCIPLAN_NO, NULL, 0, 0, "no 75 Told 01:00.0 +1\n"},
+     "01:00.0" OUTSIDE "always\n", 1},
 };
 
 static struct pciplan_text word(const char *text)

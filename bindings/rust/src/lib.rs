@@ -96,9 +96,9 @@ pub struct Settle<'a> {
     /// The bridges that have such a slot, as `00:1c.0`; where it is empty, those of the dump whose registers say so.
     pub slots: &'a str,
     /// A text of ranges that functions answer beside their BARs and ROMs, as the file of `--also`; nothing is told where it is
-    /// empty. It is empty where `anew` is true.
+    /// empty.
     pub also: &'a [u8],
-    /// Whether all is placed anew, and nothing stays where it is.
+    /// Whether all is placed anew, and nothing stays where it is but told ranges and what leads to them.
     pub anew: bool,
 }
 

@@ -119,8 +119,10 @@ fn settlings_off_told_ranges() {
     ] {
         assert_eq!(told(also), Err(why));
     }
-    let anew = Settle { also: b"\n", anew: true, ..Settle::default() };
-    assert_eq!(settle(b"", b"", &[0], &anew), Err(Refusal::Refused("also".into())));
+    // all else is placed anew, and the window over a told range stays
+    let also = b"02:00.0 mem 00000000e0100000-00000000e0103fff always vf0\n";
+    let anew = Settle { mem: "e0000000-e02fffff", also, anew: true, ..Settle::default() };
+    assert_eq!(settle(&dump, &probe, &[0], &anew).unwrap().writes, off.writes);
 }
 
 #[test]

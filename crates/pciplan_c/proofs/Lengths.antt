@@ -106,7 +106,6 @@ word_short word.Pref = let bytes : length (settle_word_text word.Pref) ≡ 9 = r
 word_short word.Fixed = let bytes : length (settle_word_text word.Fixed) ≡ 5 = refl in omega (arith, bytes)
 word_short word.Spare = let bytes : length (settle_word_text word.Spare) ≡ 5 = refl in omega (arith, bytes)
 word_short word.Slots = let bytes : length (settle_word_text word.Slots) ≡ 5 = refl in omega (arith, bytes)
-word_short word.Also = let bytes : length (settle_word_text word.Also) ≡ 4 = refl in omega (arith, bytes)
 
 unready_short : (why : Unready) → length (unready_text why) ≤ 60
 unready_short (unready.NotListed slot) = let bytes : length (unready_text (unready.NotListed slot)) ≡ 20 = refl in omega (arith, bytes)

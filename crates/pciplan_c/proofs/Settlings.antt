@@ -23,7 +23,7 @@ use Rattle.pciplan_held.specs.declared.register_write.RegisterWrite.{RegisterWri
 use Rattle.pciplan_held.specs.declared.unread.Unread.{Unread}
 use Rattle.pciplan_held.specs.declared.unread.Unread.TheVariants as unread
 use Rattle.pciplan_c.specs.DeniedSpares.{denied_value_of}
-use Rattle.pciplan_c.specs.SettleWords.{HaveMeaning, IsAskedBy, IsRequestOf, said_demand, said_of, told_around}
+use Rattle.pciplan_c.specs.SettleWords.{HaveMeaning, IsAskedBy, IsRequestOf, said_demand, said_of}
 use Rattle.pciplan_c.specs.SettleAnswers.{asked_request, AreSettled, IsAskedWith, IsNotSettled, IsSettledBy, IsSettleSafeFrom, IsUnreadBehind}
 use Rattle.pciplan_c.specs.declared.denied_spare.DeniedSpare.{DeniedSpare}
 use Rattle.pciplan_c.specs.declared.ending.HeldBack.{HeldBack}
@@ -47,7 +47,7 @@ unread_behind roots dump probe words asked (unread.Refused Root) asks is = is
 unread_behind roots dump probe words asked (unread.Refused (Dump fault)) asks is = (have_meaning words asked asks.by, is)
 unread_behind roots dump probe words asked (unread.Refused (Probe fault)) asks is = (have_meaning words asked asks.by, is)
 unread_behind roots dump probe words asked (unread.NotAdmitted fault) asks is =
-    (have_meaning words asked asks.by, is, none_also roots dump probe words.also.now (told_around asked.placing) fault asks.told is)
+    (have_meaning words asked asks.by, is, none_also roots dump probe words.also.now asked.told fault asks.told is)
 
 -- ---- what is admitted
 
@@ -57,9 +57,9 @@ request_of_words : {A : Type 0} (roots dump probe : List ℕ) (a : Admission) (w
 request_of_words roots dump probe a words asked asks = record {
   said = said_of asked;
   are = asks.by.said;
-  told = told_around asked.placing;
+  told = asked.told;
   told_text = asks.told.text;
-  is = ap (λ anew. request a.roots (said_demand (said_of asked) (told_around asked.placing) a.dump) asked.fixed.items anew) asks.by.anew;
+  is = ap (λ anew. request a.roots (said_demand (said_of asked) asked.told a.dump) asked.fixed.items anew) asks.by.anew;
 }
 
 -- the two are ready to be judged with what is told
@@ -67,8 +67,8 @@ ready_as_told : {A : Type 0} (roots dump probe : List ℕ) (a : Admission) (word
     → IsAskedWith roots dump probe words asked → IsReadyAsTold (asked_request a asked).told a.roots a.dump a.probe
 ready_as_told roots dump probe a words asked texts asks = elim asks.told.ready [
   | inl none ↦ inl none
-  | inr ready ↦ inr (subst (λ buses. AreReady (told_ranges (told_around asked.placing)) buses a.dump a.probe) (sym texts.buses)
-      (ready_with roots dump probe (told_around asked.placing) a.dump a.probe texts.dump_text texts.probe_text ready))
+  | inr ready ↦ inr (subst (λ buses. AreReady (told_ranges asked.told) buses a.dump a.probe) (sym texts.buses)
+      (ready_with roots dump probe asked.told a.dump a.probe texts.dump_text texts.probe_text ready))
 ]
 
 -- a stop is sound once all that close are made, and from a sound start at any time

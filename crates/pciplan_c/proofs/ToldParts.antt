@@ -1,6 +1,5 @@
 -- What is told beside two texts, and what stands in the way of it.
 use Rattle.std.proofs.Common.{◌≡◌, ℕ, ◌<◌, List, [], ◌∷◌, map, refl, sym, ◌∙◌, ap, subst, inl, inr, arith}
-use Rattle.std.specs.Prelude.{IsTrue}
 use Rattle.std.specs.List.{Contains}
 use Rattle.pci_spec.specs.Fault as plain
 use Rattle.pci_spec.specs.Fault.{Orphan, SlotsDiffer, Unreached, Clash, Split, IsThere, fault_number}
@@ -15,7 +14,7 @@ use Rattle.given_spec.specs.Told.{ToldRange}
 use Rattle.given_spec.specs.ToldClaims.{Told}
 use Rattle.given_spec.specs.ToldFault.{Fault, Known, NotListed}
 use Rattle.given_spec.specs.ToldFaultLines.{AreOfSlots, IsEarlyThere}
-use Rattle.given_spec.specs.ToldText.{IsToldTextOf, told_text}
+use Rattle.given_spec.specs.ToldText.{told_text}
 use Rattle.given_spec.proofs.DeterminedTexts.{same_slots}
 use Rattle.pci_function.specs.declared.fault.Fault as code
 use Rattle.pci_function.specs.Fault.{fault_of}
@@ -24,13 +23,11 @@ use Rattle.pciplan_held.specs.Texts.{IsNotAdmitted}
 use Rattle.pciplan_held.specs.declared.refusal.Refusal.TheVariants.{Root, Dump, Probe}
 use Rattle.pciplan_held.specs.declared.unread.Unread.TheVariants as unread
 use Rattle.pciplan_c.specs.SettleAnswers.{IsAskedWith, IsNoSettlingOf}
-use Rattle.pciplan_c.specs.SettleWords.{HaveMeaning, IsAskedBy, MayTell, asked_with_told, is_anew, leaves_nothing, told_around, with_told}
+use Rattle.pciplan_c.specs.SettleWords.{HaveMeaning, IsAskedBy, asked_with_told}
 use Rattle.pciplan_c.specs.ToldTexts.{AreReadyTexts, AreTold, IsEarlyFirst, IsUntold, told_ranges}
 use Rattle.pciplan_c.specs.declared.no_writes.NoWrites.{NoWrites}
 use Rattle.pciplan_c.specs.declared.no_writes.NoWrites.TheVariants.{BadWord, Unread, Also, NotReady, NotPlanned, NotSettled}
 use Rattle.pciplan_c.specs.declared.settle_words.Asked.{Asked}
-use Rattle.pciplan_c.specs.declared.settle_words.Placing.{Placing}
-use Rattle.pciplan_c.specs.declared.settle_words.Placing.TheVariants.{Anew, Around}
 use Rattle.pciplan_c.specs.declared.settle_words.SettleWords.{SettleWords}
 
 -- ---- a fault before judging is the first
@@ -99,29 +96,11 @@ none_also roots dump probe also told fault are has = elim are.ready [
 
 -- ---- what is told where words have a meaning
 
-pub none_anew : {A : Type 0} (placing : Placing A) → IsTrue (leaves_nothing placing) → told_around placing ≡ []
-none_anew Anew anew = refl
-none_anew (Around told) anew = absurd (let impossible : ⊥ = cc anew in impossible)
-
-nothing_told : IsToldTextOf [] []
-nothing_told = (record { each = λ k d below. absurd (let no : ⊥ = omega (arith, below) in no); order = λ i j d less below. absurd (let no : ⊥ = omega (arith, below) in no); room = omega arith }, refl)
-
-same_anew : {A : Type 0} (placing : Placing A) (told : List ToldRange) → leaves_nothing (with_told placing told) ≡ leaves_nothing placing
-same_anew Anew told = refl
-same_anew (Around none) told = refl
-
--- nothing is told where all is placed anew, as there is no text then
-told_with : {A : Type 0} (roots dump probe also : List ℕ) (anew : ℕ) (placing : Placing A) (told : List ToldRange) → leaves_nothing placing ≡ is_anew anew → MayTell anew also
-    → AreTold roots dump probe also told → AreTold roots dump probe also (told_around (with_told placing told))
-told_with roots dump probe also anew Anew told same may are =
-    subst (λ bytes. AreTold roots dump probe bytes []) (sym (may (subst (λ b. IsTrue b) same refl))) (record { text = nothing_told; ready = inl refl })
-told_with roots dump probe also anew (Around none) told same may are = are
-
 pub asked_with : {A : Type 0} (roots dump probe : List ℕ) (words : SettleWords) (asked : Asked A) (told : List ToldRange) → IsAskedBy words asked
     → AreTold roots dump probe words.also.now told → IsAskedWith roots dump probe words (asked_with_told asked told)
 asked_with roots dump probe words asked told by are = record {
-  by = record { said = by.said; anew = same_anew asked.placing told ∙ by.anew };
-  told = told_with roots dump probe words.also.now words.anew asked.placing told by.anew by.said.may_tell are;
+  by = record { said = by.said; anew = by.anew };
+  told = are;
 }
 
 pub untold_settling : (roots dump probe : List ℕ) (words : SettleWords) (why : NoWrites) → HaveMeaning words

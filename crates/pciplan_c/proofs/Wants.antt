@@ -53,7 +53,6 @@ said_meaning words said are = (
   ((said.io, are.io_list), (said.mem, are.mem_list), (said.pref, are.pref_list), (said.fixed, are.fixed_slots)),
   (said.spares, are.spares),
   (said.slots, are.slots),
-  are.may_tell,
 )
 
 pub settle_wants : (roots dump probe : List ℕ) (words : SettleWords) (why : NoWrites)

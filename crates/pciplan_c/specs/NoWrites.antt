@@ -25,7 +25,6 @@ settle_word_text word.Pref = codes "pool pref"
 settle_word_text word.Fixed = codes "fixed"
 settle_word_text word.Spare = codes "spare"
 settle_word_text word.Slots = codes "slots"
-settle_word_text word.Also = codes "also"
 
 -- the line of a fault
 abbrev pub no_text_line : List ℕ → List ℕ

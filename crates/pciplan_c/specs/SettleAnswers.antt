@@ -26,7 +26,7 @@ use Rattle.pciplan_held.specs.Puts.{IsPutInto}
 use Rattle.pciplan_tasks.specs.SettleAnswers.{IsReadyAsTold}
 use Rattle.pciplan_c.specs.DeniedSpares.{denied_value_of}
 use Rattle.pciplan_c.specs.Endings.{ArePut, IsHeldBack, IsNotPut}
-use Rattle.pciplan_c.specs.SettleWords.{leaves_nothing, said_demand, said_of, told_around, IsAskedBy, IsRequestOf, IsBadWord, IsWordWant, HaveMeaning}
+use Rattle.pciplan_c.specs.SettleWords.{said_demand, said_of, IsAskedBy, IsRequestOf, IsBadWord, IsWordWant, HaveMeaning}
 use Rattle.pciplan_c.specs.ToldTexts.{AreTold, IsAlsoFault, IsNotReady}
 use Rattle.pciplan_c.specs.declared.denied_spare.DeniedSpare.{DeniedSpare}
 use Rattle.pciplan_c.specs.declared.ending.Ending.{Ending}
@@ -62,14 +62,13 @@ pub record AreWritesFor (q : Request) (a : Admission) (denied : List DeniedSpare
 -- what is asked for, as it was read
 abbrev pub asked_request : {A : Type 0} → Admission → Asked A → Request
 asked_request a asked =
-    request a.roots (said_demand (said_of asked) (told_around asked.placing) a.dump) asked.fixed.items
-    (leaves_nothing asked.placing)
+    request a.roots (said_demand (said_of asked) asked.told a.dump) asked.fixed.items asked.anew
 
 -- the words ask for it, and the text of the ranges that are told was read beside the two
 pub record IsAskedWith {A : Type 0} (roots dump probe : List ℕ) (words : SettleWords)
     (asked : Asked A) : Type 0 where
   pub by : IsAskedBy words asked
-  pub told : AreTold roots dump probe words.also.now (told_around asked.placing)
+  pub told : AreTold roots dump probe words.also.now asked.told
 
 -- what settling what is admitted comes to, as this is asked for
 pub record IsSettledBy {A B : Type 0} (a : Admission) (asked : Asked A)

@@ -1,5 +1,5 @@
 -- What words ask of settling.
-use Rattle.std.specs.Prelude.{◌≡◌, ◌⊎◌, ℕ, ◌==◌, Bool, true, false, not, IsTrue, List, [], ◌∷◌, map, Option, None, Some}
+use Rattle.std.specs.Prelude.{◌≡◌, ◌⊎◌, ℕ, ◌==◌, Bool, not, List, [], ◌∷◌, map, Option, None, Some}
 use Rattle.std.specs.Option.{option_map}
 use Rattle.pci_spec.specs.Slot.{Slot}
 use Rattle.pci_spec.specs.Text.{Block}
@@ -18,10 +18,8 @@ use Rattle.pciplan_lists.specs.SlotWords.{IsSlotList as SpellsSlots, IsSlotListW
 use Rattle.pciplan_lists.specs.SpareWords.{IsSpareWord}
 use Rattle.pciplan_tasks.specs.Slots.{slots_for, spares_said}
 use Rattle.pciplan_c.specs.declared.settle_words.Asked.{Asked}
-use Rattle.pciplan_c.specs.declared.settle_words.Placing.{Placing}
-use Rattle.pciplan_c.specs.declared.settle_words.Placing.TheVariants.{Anew, Around}
 use Rattle.pciplan_c.specs.declared.settle_words.SettleWord.{SettleWord}
-use Rattle.pciplan_c.specs.declared.settle_words.SettleWord.TheVariants.{Io, Mem, Pref, Fixed, Spare, Slots, Also}
+use Rattle.pciplan_c.specs.declared.settle_words.SettleWord.TheVariants.{Io, Mem, Pref, Fixed, Spare, Slots}
 use Rattle.pciplan_c.specs.declared.settle_words.SettleWords.{SettleWords}
 use Rattle.pciplan_c.specs.ToldTexts.{told_ranges}
 
@@ -45,10 +43,6 @@ AreSlotsBy (first ∷ rest) (byte ∷ more) (Some slots) = IsSlotListWord (byte 
 abbrev pub is_anew : ℕ → Bool
 is_anew anew = not (anew == 0)
 
--- a text is told of only where not all is placed anew
-abbrev pub MayTell : ℕ → List ℕ → Type 0
-MayTell anew also = IsTrue (is_anew anew) → also ≡ []
-
 -- what words say
 pub record Said : Type 0 where
   pub io : List RootRange
@@ -66,7 +60,6 @@ pub record AreSaid (words : SettleWords) (said : Said) : Type 0 where
   pub fixed_slots : AreFixedBy words.fixed.now said.fixed
   pub spares : AreSparesBy words.spare.now said.spares
   pub slots : AreSlotsBy words.spare.now words.slots.now said.slots
-  pub may_tell : MayTell words.anew words.also.now
 
 abbrev pub settle_lists : List RootRange → List RootRange → List RootRange → Lists
 settle_lists io mem pref = record {
@@ -118,18 +111,13 @@ HasNoHotPlugSlots spare word = (slots : Option (List Slot)) → AreSlotsBy spare
 abbrev pub HasHotPlugSlots : List ℕ → List ℕ → Type 0
 HasHotPlugSlots spare word = (slots : Option (List Slot)) × AreSlotsBy spare word slots
 
--- all is placed anew, and there is a text
-abbrev pub IsToldAnew : ℕ → List ℕ → Type 0
-IsToldAnew anew also = IsTrue (is_anew anew) × (also ≡ [] → ⊥)
-
 -- the words before that of spares have a meaning
 abbrev pub HaveListsAndFixed : SettleWords → Type 0
 HaveListsAndFixed words =
     HasList words.io.now × HasList words.mem.now × HasList words.pref.now
     × HasSlots words.fixed.now
 
--- the lists are looked at in their order, then the fixed slots, the spares, the bridges that have hot-plug slots, and whether
--- a text is told of where all is placed anew
+-- the lists are looked at in their order, then the fixed slots, the spares, and the bridges that have hot-plug slots
 abbrev pub IsBadWord : SettleWords → SettleWord → Type 0
 IsBadWord words Io = HasNoList words.io.now
 IsBadWord words Mem = HasList words.io.now × HasNoList words.mem.now
@@ -141,15 +129,12 @@ IsBadWord words Spare = HaveListsAndFixed words × HasNoSpares words.spare.now
 IsBadWord words Slots =
     HaveListsAndFixed words × HasSpares words.spare.now
     × HasNoHotPlugSlots words.spare.now words.slots.now
-IsBadWord words Also =
-    HaveListsAndFixed words × HasSpares words.spare.now
-    × HasHotPlugSlots words.spare.now words.slots.now × IsToldAnew words.anew words.also.now
 
 -- all words have a meaning
 abbrev pub HaveMeaning : SettleWords → Type 0
 HaveMeaning words =
     HaveListsAndFixed words × HasSpares words.spare.now
-    × HasHotPlugSlots words.spare.now words.slots.now × MayTell words.anew words.also.now
+    × HasHotPlugSlots words.spare.now words.slots.now
 
 -- ---- what is read of them
 
@@ -166,26 +151,8 @@ abbrev pub AreNoHotPlugSlots : List ℕ → List ℕ → Refused SettleWord → 
 AreNoHotPlugSlots spare word (refused.Fault bad) = (bad ≡ Slots) × HasNoHotPlugSlots spare word
 AreNoHotPlugSlots spare word refused.Memory = SpellsSlots word
 
--- settling leaves nothing where it stands
-abbrev pub leaves_nothing : {A : Type 0} → Placing A → Bool
-leaves_nothing Anew = true
-leaves_nothing (Around told) = false
-
--- nothing is told where all is placed anew
-abbrev pub told_around : {A : Type 0} → Placing A → List ToldRange
-told_around Anew = []
-told_around (Around told) = told
-
-abbrev pub with_told : {A : Type 0} → Placing A → List ToldRange → Placing A
-with_told Anew told = Anew
-with_told (Around none) told = Around told
-
 abbrev pub asked_with_told : {A : Type 0} → Asked A → List ToldRange → Asked A
-asked_with_told asked told = record asked { placing = with_told asked.placing told }
-
-pub record IsPlacingBy {A : Type 0} (anew : ℕ) (also : List ℕ) (placing : Placing A) : Type 0 where
-  pub anew_is : leaves_nothing placing ≡ is_anew anew
-  pub may_tell : MayTell anew also
+asked_with_told asked told = record asked { told = told }
 
 -- what is read says this
 abbrev pub said_of : {A : Type 0} → Asked A → Said
@@ -201,7 +168,7 @@ said_of asked = record {
 -- what they ask for, whatever the text tells
 pub record IsAskedBy {A : Type 0} (words : SettleWords) (asked : Asked A) : Type 0 where
   pub said : AreSaid words (said_of asked)
-  pub anew : leaves_nothing asked.placing ≡ is_anew words.anew
+  pub anew : asked.anew ≡ is_anew words.anew
 
 -- a growth was refused for what a word spells: those before it have a meaning
 abbrev pub IsWordWant : SettleWords → Type 0

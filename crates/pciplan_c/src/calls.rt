@@ -178,7 +178,8 @@ pub extern "C" fn pciplan_plan(
 
 /// Settles the texts of a dump and of its probe as these words ask for it, with the root buses that `roots` lists: what
 /// stands stays where it is, where `anew` is 0, and all else is placed in the lists of ranges. Where `spare` says so, room is
-/// kept free behind hot-plug slots. Nothing is placed on the ranges that the text `also` tells of.
+/// kept free behind hot-plug slots. Nothing is placed on the ranges that the text `also` tells of, and what leads to one of
+/// these stays with any `anew`.
 ///
 /// It answers 0 and puts the writes, in their order, at the front of `writes`; `writes_used` is how many they are, and a
 /// stop after `safe_from` of them or more leaves a sound system: 0 where it is sound at the start, else as many as close
@@ -187,9 +188,8 @@ pub extern "C" fn pciplan_plan(
 ///
 /// It answers 1 and the line `no ..` where the texts, also with what is told, or the settling have a fault. It answers 2 and a
 /// message where `roots` is empty or doesn't rise, else where a word has no meaning (`pool io`, `pool mem`, `pool pref`, `fixed`,
-/// `spare`, `slots`), else where `also` has a byte and `anew` isn't 0 (`also`), else where the dump's text has a fault, else where
-/// the probe's has, else where that of `also` has (`also: 5 BadLine 2`). `line_used` is its length, and `writes_used` and
-/// `denied_used` are 0.
+/// `spare`, `slots`), else where the dump's text has a fault, else where the probe's has, else where that of `also` has
+/// (`also: 5 BadLine 2`). `line_used` is its length, and `writes_used` and `denied_used` are 0.
 ///
 /// It answers 3 where a growth was refused; then nothing was changed. `roots` is a list of root buses then. Each word has a
 /// meaning, or one has ranges or slots and those before it have a meaning. It answers 4 where `denied`, `writes` or `line` has no

@@ -117,8 +117,9 @@ type Call<'a> = (
     &'a str,
 );
 
-/// Whether a call answers this status and these counts, and puts exactly the card's writes and this line.
-fn is_as_said(alloc: Global, texts: &Pair, call: &Call) -> bool {
+/// Whether a call, with all placed anew or not, answers this status and these counts, and puts exactly the card's writes and this
+/// line.
+fn is_as_said(alloc: Global, texts: &Pair, call: &Call, anew: u8) -> bool {
     let (mem, fixed, also, few, bytes, status, count, used, text) = *call;
     let mut put = [NONE; 4];
     let mut line = [b'.'; 64];
@@ -133,7 +134,7 @@ fn is_as_said(alloc: Global, texts: &Pair, call: &Call) -> bool {
         texts.dump.as_bytes(),
         texts.probe.as_bytes(),
         &[0],
-        &asked(mem, fixed, also, 0),
+        &asked(mem, fixed, also, anew),
         &mut put[..few],
         &mut writes_used,
         &mut safe_from,
@@ -193,7 +194,7 @@ fn a_settling_is_put_as_a_whole_or_not_at_all(rt: HostRuntime) -> Result<(), Fai
         (b"\xff", b"", b"", 4, 64, 2, 0, 8, "pool mem"),
     ];
     for call in cases {
-        assert!(rt; is_as_said(rt.alloc(), &texts, &call), "{call:?}");
+        assert!(rt; is_as_said(rt.alloc(), &texts, &call, 0), "{call:?}");
     }
     Ok(())
 }
@@ -223,7 +224,8 @@ fn a_settling_is_told_of_ranges(rt: HostRuntime) -> Result<(), Fail> {
         ),
     ];
     for call in cases {
-        assert!(rt; is_as_said(rt.alloc(), &texts, &call), "{call:?}");
+        assert!(rt; is_as_said(rt.alloc(), &texts, &call, 0), "{call:?}");
+        assert!(rt; is_as_said(rt.alloc(), &texts, &call, 1), "{call:?}");
     }
     Ok(())
 }
@@ -236,7 +238,7 @@ fn a_settling_by_an_assumed_size_is_refused(rt: HostRuntime) -> Result<(), Fail>
     };
     let assumed = "no 76 Assumed 02:00.0 10\n";
     let call: Call = (b"e0000000-e02fffff", b"", b"", 4, 64, 1, 0, 25, assumed);
-    assert!(rt; is_as_said(rt.alloc(), &texts, &call));
+    assert!(rt; is_as_said(rt.alloc(), &texts, &call, 0));
     Ok(())
 }
 

@@ -2,13 +2,12 @@
 ghost use Rattle.std.specs.Prelude.{◌≡◌, IfOk, IfErr, MatchOption, MatchResult};
 ghost use Rattle.std.specs.Option.{option_map};
 ghost use Rattle.pciplan_lists.specs.ListWords.{IsListWord};
-ghost use Rattle.pciplan_c.specs.SettleWords.{AreFixedBy, AreNoHotPlugSlots, AreNoSlots, AreSlotsBy, AreSparesBy, HasNoSpares, IsAskedBy, IsNoList, IsNotAsked, IsPlacingBy, IsToldAnew, asked_with_told, leaves_nothing, told_around, with_told};
+ghost use Rattle.pciplan_c.specs.SettleWords.{AreFixedBy, AreNoHotPlugSlots, AreNoSlots, AreSlotsBy, AreSparesBy, HasNoSpares, IsAskedBy, IsNoList, IsNotAsked, asked_with_told};
 
 use pci_base::memory::Refused;
 use pci_base::range::RootRange;
 use pci_base::slot::Slot;
 use pci_base::window_kind::ByKind;
-use pci_settle::told::ToldRanges;
 use pci_told::told_list::ToldList;
 use pciplan_lists::list_word::list_of_word;
 use pciplan_lists::slot_list::slots_of_word;
@@ -34,10 +33,9 @@ pub struct SettleWords<'a> {
     /// The slots of the bridges that have such a slot, as `fixed` lists its own: where it is empty, those of the dump whose
     /// registers say so. It is said beside `spare` alone.
     pub slots: &'a [u8],
-    /// A text of ranges that functions answer beside their BARs and ROMs; nothing is told where it is empty. It is said where
-    /// `anew` is 0 alone.
+    /// A text of ranges that functions answer beside their BARs and ROMs; nothing is told where it is empty.
     pub also: &'a [u8],
-    /// 0 where what stands keeps its place, else all is placed anew.
+    /// 0 where what stands keeps its place, else all is placed anew but what leads to a told range.
     pub anew: u8,
 }
 
@@ -50,8 +48,6 @@ pub enum SettleWord {
     Fixed,
     Spare,
     Slots,
-    /// The text of ranges, where all is placed anew.
-    Also,
 }
 
 impl SettleWord {
@@ -69,7 +65,6 @@ impl SettleWord {
             SettleWord::Fixed => "fixed",
             SettleWord::Spare => "spare",
             SettleWord::Slots => "slots",
-            SettleWord::Also => "also",
         }
     }
 }
@@ -87,44 +82,6 @@ impl fmt::Display for SettleWord {
     }
 }
 
-/// What settling leaves where it stands.
-#[derive(Drop)]
-pub enum Placing<A: Allocator> {
-    /// Nothing: all is placed anew, and nothing is told.
-    Anew,
-    /// What stands with room for what is behind it. Nothing is placed on these ranges.
-    Around(ToldList<A>),
-}
-
-impl<A: Allocator> Placing<A> {
-    /// Whether nothing is left where it stands.
-    pub fn is_anew(&self) -> bool
-        ensures { result ≡ leaves_nothing self.now }
-    {
-        matches!(self, Placing::Anew)
-    }
-
-    /// The ranges that are told.
-    pub fn told(&self) -> ToldRanges<'_>
-        ensures { result.ranges.now ≡ told_around self.now }
-    {
-        match self {
-            Placing::Anew => ToldRanges::none(),
-            Placing::Around(list) => ToldRanges::of(list),
-        }
-    }
-
-    /// The same with these ranges, which aren't told where all is placed anew.
-    fn with_told(self, told: ToldList<A>) -> Placing<A>
-        ensures { result ≡ with_told self told }
-    {
-        match self {
-            Placing::Anew => Placing::Anew,
-            Placing::Around(_) => Placing::Around(told),
-        }
-    }
-}
-
 /// What is asked of settling.
 #[derive(Drop)]
 pub struct Asked<A: Allocator> {
@@ -137,18 +94,18 @@ pub struct Asked<A: Allocator> {
     pub spares: ByKind<u64>,
     /// The bridges that have such a slot; None: those of the dump whose registers say so.
     pub slots: Option<Vec<Slot, A>>,
-    pub placing: Placing<A>,
+    /// Nothing is placed on these ranges.
+    pub told: ToldList<A>,
+    /// Whether all is placed anew, but for told ranges and what leads to them.
+    pub anew: bool,
 }
 
 impl<A: Allocator> Asked<A> {
-    /// The same with these ranges, which aren't told where all is placed anew.
+    /// The same with these ranges.
     pub fn with_told(self, told: ToldList<A>) -> Asked<A>
         ensures { result ≡ asked_with_told self told }
     {
-        Asked {
-            placing: self.placing.with_told(told),
-            ..self
-        }
+        Asked { told, ..self }
     }
 }
 
@@ -227,19 +184,6 @@ fn hot_plug_slots_of<A: Allocator>(
     }
 }
 
-/// What is left where it stands. Nothing is told so far, and none can be told where all is placed anew.
-fn placing_of<A: Allocator>(alloc: A, anew: u8, also: &[u8]) -> Option<Placing<A>>
-    ensures { MatchOption result (IsToldAnew anew also.now) (IsPlacingBy anew also.now) }
-{
-    if anew == 0 {
-        return Some(Placing::Around(ToldList::empty(alloc)));
-    }
-    if also.is_empty() {
-        return Some(Placing::Anew);
-    }
-    None
-}
-
 /// What words ask of settling. The text of ranges isn't read, so nothing is told so far.
 ///
 /// # Errors
@@ -260,9 +204,6 @@ pub fn asked_of<A: Allocator + Copy>(
         return Err(Refused::Fault(SettleWord::Spare));
     };
     let slots = hot_plug_slots_of(alloc, words.spare, words.slots)?;
-    let Some(placing) = placing_of(alloc, words.anew, words.also) else {
-        return Err(Refused::Fault(SettleWord::Also));
-    };
     Ok(Asked {
         io,
         mem,
@@ -270,6 +211,7 @@ pub fn asked_of<A: Allocator + Copy>(
         fixed,
         spares,
         slots,
-        placing,
+        told: ToldList::empty(alloc),
+        anew: words.anew != 0,
     })
 }

@@ -2,7 +2,7 @@
 ghost use Rattle.std.specs.Prelude.{◌≡◌, ◌≤◌, ℕ, List, IfOk, IfErr};
 ghost use Rattle.pci_tree.specs.Roots.{IsRootList, buses_of};
 ghost use Rattle.pciplan_held.specs.Texts.{AreTexts};
-ghost use Rattle.pciplan_c.specs.SettleWords.{said_demand, said_of, told_around};
+ghost use Rattle.pciplan_c.specs.SettleWords.{said_demand, said_of};
 ghost use Rattle.pciplan_c.specs.SettleAnswers.{AreAllPut, AreSettledSome, IsAskedWith, IsNoSettlingOf, IsNotAskedWith, IsSettleEnding, IsSettleHeldBack, IsSettleSafeFrom, IsSettledBy, IsUnput, MayWant, arrays, asked_request};
 ghost use Rattle.pciplan_c.specs.Endings.{IsEnding, lent};
 ghost use Rattle.pciplan_c.specs.declared.ending.HeldBack.TheVariants as held_back;
@@ -21,6 +21,7 @@ use pci_base::slot::Slot;
 use pci_check::check::check;
 use pci_check::verdict::Verdict;
 use pci_settle::list::Lists;
+use pci_settle::told::ToldRanges;
 use pci_settle_writes::lack::SettleFault;
 use pci_settle_writes::settle::{Settled, settle};
 use pci_settle_writes::writes::Writes;
@@ -89,7 +90,7 @@ fn settled_behind<'a, A: Allocator + Copy>(
     bridges: &'a [Slot],
 ) -> Result<Settled<A>, Refused<SettleFault>>
     requires { bridges.now
-        ≡ (said_demand (said_of asked.now) (told_around asked.now.placing) admitted.now.dump).slots }
+        ≡ (said_demand (said_of asked.now) asked.now.told admitted.now.dump).slots }
     ensures settled { IfOk result (IsSettledBy admitted.now asked.now) }
     ensures refusal { IfErr result
         (IsRefusal admitted.now (without_slots (asked_request admitted.now asked.now))) }
@@ -103,10 +104,10 @@ fn settled_behind<'a, A: Allocator + Copy>(
         mem,
         pref,
         slots,
-        told: asked.placing.told(),
+        told: ToldRanges::of(&asked.told),
     };
     let fixed = asked.fixed.as_slice();
-    settle(alloc, admitted, &lists, fixed, asked.placing.is_anew())
+    settle(alloc, admitted, &lists, fixed, asked.anew)
 }
 
 /// Settles what is admitted.
