@@ -208,19 +208,44 @@ fn a_third_text_of_a_settling_is_refused_like_that(rt: HostRuntime) -> Result<()
     Ok(())
 }
 
+/// The words of a settling in 4 MB where all is placed anew beside what a third text tells.
+const SETTLE_ANEW: &[&str] = &[
+    "settle",
+    "d",
+    "p",
+    "--io",
+    "none",
+    "--mem",
+    "fe000000-fe3fffff",
+    "--pref",
+    "none",
+    "--anew",
+    "--also",
+    "t",
+    "--writes",
+];
+
+/// The writes of that settling where somebody is at the beginning of the 4 MB.
+const MOVED: &str = "00:02.0 04.2 0000
+00:02.0 10.4 fe100008
+00:02.0 04.2 0002
+";
+
 #[test]
-fn nothing_is_placed_anew_beside_a_third_text(rt: HostRuntime) -> Result<(), Fail> {
-    // no text can be opened, and a list of root buses that is none goes behind
-    for more in [
-        &["--anew"].as_slice(),
-        &["--root", "0", "--anew"].as_slice(),
-    ] {
-        let mut words = words_of(&rt, SETTLE)?;
-        for word in *more {
-            words.push(String::from_str(rt.alloc(), word)?)?;
-        }
-        let got = answer(&rt, Ok(words), &[]);
-        assert!(rt; is_left(&got, "", "pciplan: usage\n", 2));
-    }
+fn all_is_placed_anew_beside_a_third_text(rt: HostRuntime) -> Result<(), Fail> {
+    let held = "00:1f.0 mem 00000000fe000000-00000000fe000fff held\n";
+    let texts = [("d", DUMP), ("p", PROBE), ("t", held)];
+    let got = answer(&rt, Ok(words_of(&rt, SETTLE_ANEW)?), &texts);
+    assert!(rt; is_left(&got, MOVED, "", 0));
+    Ok(())
+}
+
+#[test]
+fn a_third_text_of_that_is_refused_behind_the_other_two(rt: HostRuntime) -> Result<(), Fail> {
+    let texts = [("d", DUMP), ("p", PROBE), ("t", "00:01.0")];
+    let got = answer(&rt, Ok(words_of(&rt, SETTLE_ANEW)?), &texts);
+    assert!(rt; is_left(&got, "", "pciplan: also: 9 Ended 1\n", 2));
+    let got = answer(&rt, Ok(words_of(&rt, SETTLE_ANEW)?), &texts[..1]);
+    assert!(rt; is_left(&got, "", "pciplan: probe: 1 Io\n", 4));
     Ok(())
 }

@@ -6,7 +6,7 @@ use pci_base::slot::Slot;
 use pci_base::window_kind::ByKind;
 use pci_script::form::Form;
 use pci_tree::roots::Roots;
-use pciplan_tasks::task::{Also, Placing, Printed, SettleLists, SettleRequest, Task};
+use pciplan_tasks::task::{Also, Printed, SettleLists, SettleRequest, Task};
 use std::alloc::{AllocError, Global};
 use std::test::Fail;
 use test_support::row::Row::{Bridge, Device};
@@ -52,15 +52,12 @@ fn no_spares() -> ByKind<u64> {
 /// Settling in these lists, with the function at this device of bus 00 not to be written, where one is named, and else all
 /// placed anew.
 fn task_to(alloc: Global, last: u64, fixed: Option<u8>, printed: Printed) -> Made {
-    let placing = match fixed {
-        Some(_) => Placing::Around(Also::nothing(alloc)),
-        None => Placing::Anew,
-    };
     let request = SettleRequest {
         roots: Roots::host(),
         lists: lists_to(alloc, last)?,
         fixed: fixed_at(alloc, fixed)?,
-        placing,
+        anew: fixed.is_none(),
+        also: Also::nothing(alloc),
         spares: no_spares(),
         slots: None,
     };
@@ -182,7 +179,8 @@ fn task_with_spare(alloc: Global, memory: u64, printed: Printed) -> Made {
         roots: Roots::host(),
         lists: lists_to(alloc, LAST)?,
         fixed: Vec::new(alloc),
-        placing: Placing::Around(Also::nothing(alloc)),
+        anew: false,
+        also: Also::nothing(alloc),
         spares: ByKind {
             memory,
             ..no_spares()

@@ -6,6 +6,7 @@ use pci_settle::kept::Kept;
 use pci_settle::list::Lists;
 use pci_settle::slots::Slots;
 use pci_settle::told::ToldRanges;
+use pci_stand::rules::Rules;
 use pci_stay::staying::staying;
 use pci_tree::admitted::Admitted;
 use std::alloc::Global;
@@ -39,7 +40,11 @@ fn stay_in(alloc: Global, admitted: &Admitted, mem: &[RootRange], wanted: &[Stay
         slots: Slots::none(),
         told: ToldRanges::none(),
     };
-    match staying(alloc, admitted, &lists, &[]) {
+    let rules = Rules {
+        fixed: &[],
+        anew: false,
+    };
+    match staying(alloc, admitted, &lists, &rules) {
         Ok(table) => are_kept(table.as_slice(), wanted),
         Err(_) => false,
     }
