@@ -19,9 +19,8 @@ those of spare_rows.py. The program is asked for the same writes and denied spar
 that no register shows. Laws are tried of what the slow judge and the slow map say there, and of the boards of also_rows.py
 they say what stands there. The program is asked for the same. Boards of `told` are settled with ranges that are told
 beside them. Laws are tried of what the slow settler does there, and it settles the boards of told_settling_rows.py. The
-program is asked for the same writes and denied spares. Where all is placed anew, the slow settler settles what the
-definitions say beside told ranges, and the program has to refuse the words. Of one of these four kinds no program is asked
-without a PROGRAM.
+program is asked for the same writes and denied spares, also where all is placed anew. Of one of these four kinds no program
+is asked without a PROGRAM.
 
 The status is 1 where boards disagree or a sort is lacking. `show` prints the board of a seed. RT_JOBS sets how many
 processes run at a time (as many as there are cores if not said).

@@ -6,7 +6,7 @@ on a line. A range that is told as `always` is reached all the time. A line that
 Where nothing is told all is as ever.
 
 - `compare(seed, program, folder)`: what doesn't hold on the board of a seed, or None, and the sorts of boards. A program is
-  asked for the same writes and denied spares, and has to refuse the words where all is placed anew.
+  asked for the same writes and denied spares.
 - `show(seed)`: the board of a seed, what is told, and the writes.
 - `SORTS`: the sorts that a run over many seeds has to meet.
 """
@@ -85,6 +85,18 @@ def empty_fault(case, plainly):
     return None
 
 
+def is_settled_anew(case):
+    """Whether all is placed anew, and a window may lead to a told range: such a window stands, so it can grow down."""
+    return case.request.anew and any(line.slot[0] not in case.roots for line in case.told_ranges())
+
+
+def second_fault(case, plan):
+    """What is settled once more is sound with what is told, and so is each stop."""
+    if not is_sound(plan.functions, case.roots, case.told):
+        return 'what is settled again is not sound'
+    return stop_fault(case.plan.functions, case.roots, plan, lambda state, done: None, case.told)
+
+
 def again_fault(case):
     """Settled again with the same text nothing is written, and the same spares are denied."""
     again = settle_sparing(case.plan.functions, case.request, case.wanted, case.makers)
@@ -96,6 +108,9 @@ def again_fault(case):
         if case.request.anew and case.wanted.spare and again.plan.text.startswith('75 '):
             return None
         return 'settled again there is ' + again.plan.text
+    if again.plan.writes and is_settled_anew(case):
+        # what was placed before a window that grew down changes places
+        return second_fault(case, again.plan)
     if again.plan.writes or again.denied != case.sparing.denied:
         return 'settled again: %s, denied %s' % (written(again.plan), again.denied)
     return None
@@ -442,9 +457,6 @@ def program_fault(made, answered, program, folder):
     words = ['settle'] + files[:2] + roots_words(board.roots) + request_words(request)
     words += spare_words(wanted.spare, wanted.slots) if wanted.spare else []
     words += ['--also', files[2], '--writes']
-    if request.anew:
-        # the program takes one of the two options alone
-        answered = 2, '', 'pciplan: usage\n'
     found = run(program, words)
     return None if found == answered else '%s:\nwanted %r\nfound  %r' % (' '.join(words), answered, found)
 
