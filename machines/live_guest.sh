@@ -10,7 +10,7 @@ set -u
 export LC_ALL=C
 
 devices=/sys/bus/pci/devices
-root='' words=''
+root='' words='' also=''
 
 # told NAME STATUS: prints the case's line; STATUS says whether all was as wanted.
 told() {
@@ -50,12 +50,14 @@ bar() {
     od -An -v -tx1 -j $((0x$2)) -N4 "$devices/0000:$1/config" | awk '{ print "0x" $4 $3 $2 $1 }'
 }
 
-# plug SLOT WORDS: asks for a device, and waits until Linux has found it.
+# plug SLOT WORDS [rescan]: asks for a device, and waits until Linux has found it. With `rescan` Linux looks for it, as its
+# bus tells nothing.
 plug() {
     echo "monitor: device_add $2"
     tries=0
     until [ -e "$devices/0000:$1" ] || [ $tries -eq 60 ]; do
         sleep 1
+        [ $# -eq 2 ] || echo 1 >/sys/bus/pci/rescan
         tries=$((tries + 1))
     done
     sleep 2
@@ -81,7 +83,7 @@ unseen() {
 faulty() {
     name=$1
     shift
-    typed "pciplan faults dump.txt probe.txt $root --why"
+    typed "pciplan faults dump.txt probe.txt $root --why$also"
     for line; do
         grep -q "^$line" out || break
         shift
@@ -108,7 +110,7 @@ apart() {
 # settled [BRIDGE]: makes the writes of `settle`, with the lists of this machine; a window of BRIDGE doesn't grow.
 settled() {
     typed 'words=$(machines/lists.sh); echo "$words"' && { [ $# -eq 0 ] || apart "$1"; } &&
-        typed 'pciplan settle dump.txt probe.txt $words --writes > writes.txt; cat writes.txt' && [ -s writes.txt ]
+        typed "pciplan settle dump.txt probe.txt \$words$also --writes > writes.txt; cat writes.txt" && [ -s writes.txt ]
     told 'settle has writes' $?
 }
 
@@ -169,11 +171,11 @@ rescanned() {
 # as_settled: whether the machine has the registers of the settled dump, and all of them are reached.
 as_settled() {
     # shellcheck disable=SC2086
-    pciplan settle dump.txt probe.txt $words >settled.txt
+    pciplan settle dump.txt probe.txt $words$also >settled.txt
     mkdir -p after
-    (cd after && ../machines/capture.sh >words) && cmp settled.txt after/dump.txt
+    (cd after && ../machines/capture.sh >words 2>err) && cmp settled.txt after/dump.txt
     told 'the registers are those of the settled dump' $?
-    typed 'pciplan faults after/dump.txt probe.txt --why' && [ "$(cat out)" = yes ]
+    typed "pciplan faults after/dump.txt probe.txt --why$also" && [ "$(cat out)" = yes ]
     told 'all is on and reached' $?
 }
 
@@ -312,6 +314,99 @@ virtual() {
     cat err
     grep -q '^lists.sh: 0000:01:00.[012] answers mem .*, and no register shows it$' err
     told 'lists.sh names their addresses' $?
+}
+
+# version ADDRESS: whether an NVMe controller answers there: its register 08h has the version, 1.4.
+version() {
+    typed "devmem $(printf '0x%08x' $(($1 + 8))) 32"
+    [ "$(cat out)" = 0x00010400 ]
+}
+
+# online: brings two virtual functions of an NVMe drive online. `first` and `second` are their addresses.
+online() {
+    loaded nvme
+    drive=$devices/0000:02:00.0
+    typed "echo 0 > $drive/sriov_drivers_autoprobe; echo 2 > $drive/sriov_numvfs; echo 1 > $drive/sriov_drivers_autoprobe"
+    # Each gets an interrupt and two queues first.
+    for controller in 1 2; do
+        typed "nvme virt-mgmt /dev/nvme0 -c $controller -r 1 -a 8 -n 1"
+        typed "nvme virt-mgmt /dev/nvme0 -c $controller -r 0 -a 8 -n 2"
+        typed "nvme virt-mgmt /dev/nvme0 -c $controller -r 0 -a 9 -n 0"
+    done
+    first=$(sed -n '1s/ .*//p' "$devices/0000:02:00.1/resource")
+    second=$(sed -n '1s/ .*//p' "$devices/0000:02:00.2/resource")
+}
+
+# filled: a device is plugged in beside the drive. Linux has no place for it, as the virtual functions take the room.
+filled() {
+    plug 02:01.0 edu,bus=up,addr=1 rescan
+    typed "dmesg | grep '02:01.0: BAR'"
+    unseen 02:01.0 0
+    captured
+    typed 'machines/told.sh > told.txt; cat told.txt'
+    grep -q "^02:00.0 mem ${first#0x}-[0-9a-f]* always vf0\$" told.txt
+    told 'told.sh tells where they answer' $?
+    faulty 'faults lists its BAR, which is off and has no place' 'off 02:01.0 10 bar mem 0000000000000000-00000000000fffff 1M$'
+    settled
+    typed 'pciplan settle dump.txt probe.txt $words > settled.txt'
+    typed 'pciplan faults settled.txt probe.txt --also told.txt'
+    grep -q "^61 Clash bus 02 mem ${second#0x} 02:00.0 +[0-9]* 02:01.0 10\$" out
+    told 'without --also it is put onto the second virtual function' $?
+}
+
+# asks NAME LINE: types a line again and again while the file `asking` is there, and keeps each status in the file NAME.
+asks() {
+    while [ -e asking ]; do
+        eval "$2" >/dev/null 2>&1
+        echo $? >>"$1"
+    done
+}
+
+# answered NAME: whether each status of such a file is 0.
+answered() {
+    echo "$1: asked $(wc -l <"$1") times, answered $(grep -c '^0$' "$1") times"
+    [ -s "$1" ] && ! grep -qv '^0$' "$1"
+}
+
+# The first virtual function has a driver, and the second has none. Both are asked while the writes are made. Linux isn't
+# told of the device's address.
+kept() {
+    online
+    typed "echo 0000:02:00.1 > /sys/bus/pci/drivers/nvme/bind; echo 1 > $devices/0000:02:00.2/enable"
+    has_driver 02:00.1 nvme && typed "nvme id-ctrl /dev/nvme1 | grep cntlid" && grep -q ': 0x1$' out && version "$second"
+    told 'both virtual functions answer' $?
+    filled
+    also=' --also told.txt'
+    settled
+    : >asking
+    asks 02:00.1 "nvme id-ctrl /dev/nvme1 | grep '^cntlid *: 0x1\$'" &
+    asks 02:00.2 "devmem $(printf '0x%08x' $((second + 8))) 32 | grep '^0x00010400\$'" &
+    ends 0 'machines/apply.sh --yes dump.txt writes.txt' && cmp -s out writes.txt
+    told 'apply.sh makes the writes' $?
+    rm asking
+    wait
+    answered 02:00.1 && answered 02:00.2
+    told 'both virtual functions answered all the while' $?
+    edu 02:01.0
+    told 'the device answers' $?
+    as_settled
+    typed 'grep 0000:02: /proc/iomem' && ! grep -q 02:01.0 out
+    told 'Linux has no line for it' $?
+}
+
+# The same, settled without what is told. Neither virtual function has a driver.
+taken() {
+    online
+    typed "for slot in 02:00.1 02:00.2; do echo 1 > $devices/0000:\$slot/enable; done"
+    version "$first" && version "$second"
+    told 'both virtual functions answer' $?
+    filled
+    ends 0 'machines/apply.sh --yes dump.txt writes.txt' && cmp -s out writes.txt
+    told 'apply.sh makes the writes' $?
+    edu 02:01.0
+    told 'the device answers' $?
+    version "$first" && ! version "$second"
+    told 'the first virtual function answers, and the second does no more' $?
 }
 
 # EDK2 leaves an I/O window of a root port over two I/O BARs of the root bus.

@@ -11,6 +11,8 @@
 #   made      a device that is plugged in behind a bridge with a window too small, beside a card with a driver; apply.sh
 #   off       the same; rescan.sh
 #   virtual   a drive with two virtual functions: what capture.sh and lists.sh say of them
+#   kept      a device that is plugged in beside virtual functions, and for whose BAR Linux has no place; --also, apply.sh
+#   taken     the same without --also: the device is put onto a virtual function; apply.sh
 #   io_clash  an I/O window that EDK2 leaves over two I/O BARs; apply.sh
 #
 # Usage: live_test.sh [PROGRAM], by default crates/pciplan/out/pciplan. From the environment:
@@ -82,7 +84,7 @@ initrd() {
             program_of "$(command -v $name)" $name
         done
     fi
-    for name in lspci setpci; do
+    for name in lspci setpci nvme; do
         ! command -v $name >/dev/null || program_of "$(command -v $name)" $name
     done
     program_of "$program" pciplan
@@ -173,6 +175,15 @@ machine() {
             guest virtual '' -M q35 -device pcie-root-port,id=rp,chassis=1,addr=4 -device nvme-subsys,id=subsystem \
                 -device nvme,bus=rp,serial=1,subsys=subsystem,sriov_max_vfs=2,sriov_vq_flexible=4,sriov_vi_flexible=2
             ;;
+        kept | taken)
+            has "$1" nvme || return
+            command -v nvme >/dev/null || { echo "skipped: $1: no nvme" && return; }
+            # With so many queues the BARs of the drive and of its virtual functions have 512 KB each. QEMU 7.2 puts them
+            # where they belong as long as all have one size.
+            guest "$1" '' -M q35 -device pcie-root-port,id=rp,chassis=1,addr=4 -device x3130-upstream,id=up,bus=rp \
+                -device nvme-subsys,id=subsystem -device nvme,bus=up,serial=1,subsys=subsystem,sriov_max_vfs=2,\
+max_ioqpairs=63002,msix_qsize=8,sriov_vq_flexible=63000,sriov_vi_flexible=4
+            ;;
         made | off)
             has "$1" e1000 || return
             guest "$1" '' -M pc -device pci-bridge,id=br,chassis_nr=1,addr=5 -device e1000,bus=br,addr=1
@@ -195,7 +206,7 @@ for name in "$qemu" cpio ldd; do
     command -v "$name" >/dev/null || lacking "no $name"
 done
 initrd
-for name in ${MACHINES:-narrow roots hand plugged made off virtual io_clash}; do
+for name in ${MACHINES:-narrow roots hand plugged made off virtual kept taken io_clash}; do
     machine "$name"
 done
 echo "$passed passed, $failed failed"
