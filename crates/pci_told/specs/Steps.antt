@@ -1,7 +1,8 @@
 -- What a byte makes of a line, as the definitions have it.
-use Rattle.std.specs.Prelude.{◌≡◌, ◌≢◌, ℕ, ◌<◌, ◌≤◌, List, length, drop}
+use Rattle.std.specs.Prelude.{◌≡◌, ◌≢◌, ℕ, ◌+◌, ◌-◌, ◌<◌, ◌≤◌, List, length, drop, slice_index_or, None}
+use Rattle.pci_spec.specs.System.{Space}
 use Rattle.given_spec.specs.Told.{ToldRange}
-use Rattle.given_spec.specs.ToldForm.{Field, Bus, Device, Function, First, Last, Begun, IsBegun, Step, Wrong, Goes, Ends, ToldSoFar, take_bytes}
+use Rattle.given_spec.specs.ToldForm.{Field, Bus, Device, Function, First, Last, Place, Digits, Begun, IsBegun, Step, Wrong, Goes, Ends, ToldSoFar, digit_in, digits_of, take_bytes}
 use Rattle.pci_told.specs.declared.line.Next.{Next}
 use Rattle.pci_told.specs.declared.line.Next.TheVariants as next
 
@@ -40,3 +41,19 @@ so_far ranges line = record { ranges = ranges; line = line }
 pub record AreTakenWithin (old : Begun) (bytes : List ℕ) (k : ℕ) (new : Begun) : Type 0 where
   pub count : k ≤ length bytes
   pub taken : (ranges : List ToldRange) → length ranges ≢ 4096 → AreTaken (so_far ranges old) bytes k (so_far ranges new)
+
+-- ---- digits of an address
+
+-- how many digits of an address come yet before its last one
+abbrev pub inner_digits : Place → Space → ℕ
+inner_digits (Digits First k) space = digits_of First space - (k + 1)
+inner_digits (Digits Last k) space = digits_of Last space - (k + 1)
+inner_digits place space = 0
+
+-- bytes behind a line begin with so many digits of an address before its last one, and with no more of them
+pub record BeginWithDigits (line : Begun) (bytes : List ℕ) (n : ℕ) : Type 0 where
+  pub count : n ≤ length bytes
+  pub inner : n ≤ inner_digits line.place line.range.space
+  pub digits : (i : ℕ) → i < n → digit_in (slice_index_or bytes i 0) ≢ None
+  pub ends : n < length bytes → n < inner_digits line.place line.range.space
+      → digit_in (slice_index_or bytes n 0) ≡ None

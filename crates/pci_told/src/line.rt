@@ -2,7 +2,7 @@
 ghost use Rattle.std.specs.Prelude.{◌≡◌, ◌<◌, Some, IsTrue, false};
 ghost use Rattle.given_spec.specs.ToldForm.{no_line, with_number, digit_step, step, is_of_slot, IsFit, IsBegun, Digits, goes_at, Bus, space_begins, space_step, mark_begins, mark_step, name_step};
 ghost use Rattle.pci_told.specs.Places.{field_of, place_of};
-ghost use Rattle.pci_told.specs.Steps.{IsStep, IsOfField, IsAddressField, AreTakenWithin};
+ghost use Rattle.pci_told.specs.Steps.{IsStep, IsOfField, IsAddressField, AreTakenWithin, BeginWithDigits};
 
 use super::place::{Field, Place, behind, digits_of, greatest_digit, is_of_slot, separator};
 use super::told_range::{Mark, ToldRange};
@@ -126,21 +126,23 @@ impl Line {
     /// text are such digits.
     pub(crate) fn take_digits(&mut self, bytes: &[u8]) -> usize
         requires { IsBegun self.old }
-        ensures { AreTakenWithin self.old bytes.now result self.new }
+        ensures count { BeginWithDigits self.old bytes.now result }
+        ensures taken { AreTakenWithin self.old bytes.now result self.new }
     {
         match self.place {
-            Place::Digits(Field::First, read) => self.address(Field::First, read, bytes),
-            Place::Digits(Field::Last, read) => self.address(Field::Last, read, bytes),
+            Place::Digits(Field::First, read) => self.take_more_digits(Field::First, read, bytes),
+            Place::Digits(Field::Last, read) => self.take_more_digits(Field::Last, read, bytes),
             _ => 0,
         }
     }
 
     /// The same behind so many digits of an address.
-    fn address(&mut self, field: Field, read: u8, bytes: &[u8]) -> usize
+    fn take_more_digits(&mut self, field: Field, read: u8, bytes: &[u8]) -> usize
         requires place { self.old.place ≡ Digits (field_of field) read }
         requires address { IsAddressField (field_of field) }
         requires begun { IsBegun self.old }
-        ensures { AreTakenWithin self.old bytes.now result self.new }
+        ensures count { BeginWithDigits self.old bytes.now result }
+        ensures taken { AreTakenWithin self.old bytes.now result self.new }
     {
         let most = digits_of(field, self.range.space) - 1;
         let mut number = self.number;

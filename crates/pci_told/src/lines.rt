@@ -1,9 +1,9 @@
 //! Lines one after the other.
-ghost use Rattle.std.specs.Prelude.{◌≡◌, ◌+◌, ◌≤◌, length, OnOk, IfOk, IfErr};
+ghost use Rattle.std.specs.Prelude.{◌≡◌, ◌≢◌, ◌+◌, ◌≤◌, length, OnOk, IfOk, IfErr};
 ghost use Rattle.given_spec.specs.Told.{IsTold};
 ghost use Rattle.given_spec.specs.ToldForm.{Bus, Digits, nothing_read, IsBegun, is_in_order, slot_follows, Reading, take_byte, take_bytes};
 ghost use Rattle.pci_told.specs.Faults.{StopsWith};
-ghost use Rattle.pci_told.specs.Steps.{AreTaken};
+ghost use Rattle.pci_told.specs.Steps.{AreTaken, BeginWithDigits};
 
 use super::line::{Line, Next};
 use super::place::{Field, Place};
@@ -114,6 +114,10 @@ impl<A: Allocator> Lines<A> {
     fn take_digits(&mut self, bytes: &[u8]) -> usize
         requires { IsBegun self.old.line }
         ensures count { result ≤ length bytes.now }
+        // behind 4,096 lines no byte is taken
+        ensures over { length self.old.ranges ≡ 4096 → result ≡ 0 }
+        ensures digits { length self.old.ranges ≢ 4096
+            → BeginWithDigits self.old.line bytes.now result }
         ensures taken { AreTaken self.old bytes.now result self.new }
     {
         if self.ranges.len() == LINES_MAX {
