@@ -99,16 +99,16 @@ module _ (roots : List ℕ) (s : System) (system : IsSystem s) (space : Space) (
               ends = are_ending q0 s k0 system space bus candidates here told grown wanted (wanted_own q0 k0 known.stay) places lack no_candidate (subst (λ xs. IfNone lack (AreEnding xs places (length xs))) ws_are ends);
             }
 
-        module _ (records : List Record) (has : HasRecords s (map record_value records)) (behind bs : List (List Range)) (bs_is : bs ≡ behind) (behind_are : AreBehindEach records st.lines.now candidates behind) where
-          pub places_in : (n : ℕ) → n ≡ cond (is_root rs bus) 0 (bus + 1) → All HasAddressAndAlignment candidates → (lists : List (List Range)) (taken : List Range) → AreTakenAt st n space taken
+        module _ (records : List Record) (has : HasRecords s (map record_value records)) (behind bs : List (List Range)) (bs_is : bs ≡ behind) (lists : List (List Range)) (vs : List Wanted) (vs_are : vs ≡ wanted) (behind_are : AreBehindEach records st.lines.now lists vs candidates behind) where
+          pub places_in : (n : ℕ) → n ≡ cond (is_root rs bus) 0 (bus + 1) → All HasAddressAndAlignment candidates → (taken : List Range) → AreTakenAt st n space taken
               → ((find : ItemValue → List DecodedRange → Option ℕ) (items : List ItemValue) → AreWanted lists bs find items ws → place_each find (map decoded_range_of taken) items ≡ placing_of items places lack)
               → ArePlacesIn (pass roots s space t st w) bus lists grown (bus_placing s candidates final lack)
-          places_in n n_is lawful lists taken is_taken placing q keep placed stay windows for =
+          places_in n n_is lawful taken is_taken placing q keep placed stay windows for =
               let items = are q keep stay windows in
               let values = map (candidate_value s) candidates in
               let find = place_beside q s keep placed in
               let parts : All (HasPart s) candidates = are_parts q s keep system space bus candidates items in
-              let each = subst (AreBehindTo q s candidates (length candidates)) (sym bs_is) (behind_are q s has stay.lines_are parts) in
+              let each = subst (λ ws. AreBehindTo q s lists ws candidates (length candidates) bs) vs_are (subst (AreBehindTo q s lists vs candidates (length candidates)) (sym bs_is) (behind_are q s has stay.lines_are parts)) in
               let want = subst (AreWanted lists bs find values) (sym ws_are) (are_wanted q s keep system space bus candidates items told grown wanted (wanted_own q keep stay) placed lists bs for lawful each no_candidate) in
               ap (λ ps. bus_placing s candidates ps lack) final_is
               ∙ sym (placing find values want)

@@ -2,6 +2,8 @@ pub mod Added
 pub mod Parts
 pub mod Notes
 pub mod Told
+pub mod Stretching
+pub mod BehindRows
 pub mod TakenBeside
 pub mod Wanted
 pub mod Columns

@@ -1,5 +1,5 @@
 -- What is taken on a bus is what the definitions say: lines, and what stays.
-use Rattle.std.proofs.Common.{◌≡◌, ℕ, ◌+◌, ◌-◌, ◌<◌, ◌≤◌, inl, inr, List, [], ◌∷◌, ◌++◌, map, length, get_or, append-nil, Bool, true, false, cond, ◌&&◌, arith, refl, sym, ◌∙◌, ap, subst, None, Some}
+use Rattle.std.proofs.Common.{◌≡◌, ℕ, ◌+◌, ◌-◌, ◌<◌, ◌≤◌, inl, inr, List, [], ◌∷◌, ◌++◌, map, length, get_or, Bool, true, false, cond, ◌&&◌, arith, refl, sym, ◌∙◌, ap, subst, None, Some}
 use Rattle.std.specs.Option.{is_some}
 use Rattle.std.specs.List.{Contains, filter}
 use Rattle.std.specs.List.Sorted.{IsPermutation}
@@ -7,12 +7,11 @@ use Rattle.std.proofs.lemmas.Bool.{cases_lt, both_ways}
 use Rattle.std.proofs.lemmas.List.{get_or_append_left, get_or-append_right, get_or_default}
 use Rattle.std.proofs.lemmas.Option.{slice_get-get_or, get_or_from_slice_get}
 use Rattle.std.proofs.lemmas.List.Elements.{Contains-append_left, Contains-append_right, Contains-append_cases}
-use Rattle.std.proofs.lemmas.List.Sorted.{IsPermutation-refl, IsPermutation-sym, All-permutation, Contains-permutation}
-use Rattle.pci_spec.specs.Window.{WindowKind}
+use Rattle.std.proofs.lemmas.List.Sorted.{IsPermutation-sym, All-permutation, Contains-permutation}
 use Rattle.pci_spec.specs.Decoded.{Range as DecodedRange, HasRecords}
 use Rattle.pci_spec.specs.Decoded as decoded
 use Rattle.pci_spec.specs.System.{System, Function, Space, Part, Bar, Rom, Window, is_bridge, is_window, has_part, space_of, window_space}
-use Rattle.pci_spec.specs.Bus.{secondary, subordinate, is_behind, are_siblings}
+use Rattle.pci_spec.specs.Bus.{is_behind, are_siblings}
 use Rattle.pci_spec.proofs.Members.{in_nil, in_head, in_map_to, in_map_from, IsMade}
 use Rattle.given_spec.specs.Told.{ToldRange}
 use Rattle.given_spec.specs.ToldRegion.{regions_from, told_regions}
@@ -27,6 +26,7 @@ use Rattle.pci_base.specs.declared.range.Range.{Range}
 use Rattle.pci_base.specs.declared.window_kind.WindowKind.{WindowKind as Class}
 use Rattle.pci_base.specs.WindowKinds.{kind_value}
 use Rattle.pci_base.specs.Ranges.{decoded_range_of}
+use Rattle.pci_base.specs.Space as code
 use Rattle.pci_function.specs.declared.record.Bridge.{Bridge}
 use Rattle.pci_function.specs.declared.record.Record.{Record}
 use Rattle.pci_function.specs.Values.{record_value}
@@ -38,6 +38,7 @@ use Rattle.pci_settle.specs.declared.extent.Extent.{Extent}
 use Rattle.pci_settle.specs.declared.item.Part.{Part as CodePart}
 use Rattle.pci_settle.specs.declared.item.Part.TheVariants as parts
 use Rattle.pci_settle.specs.declared.lines.Line.{Line}
+use Rattle.pci_settle.specs.declared.placing.Wanted.{Wanted}
 use Rattle.pci_settle.specs.Lines.{row_of, told_row, rows_from, AreForwardRanges, AreLines, AreAdded}
 use Rattle.pci_settle.specs.Spots.{FirstsRise, AreRisingRanges}
 use Rattle.pci_stand.specs.Held.{held_range, is_level_on}
@@ -45,7 +46,10 @@ use Rattle.pci_stand.proofs.Helds.{same_parts}
 use Rattle.pci_settled.specs.declared.candidate.Candidate.{Candidate}
 use Rattle.pci_settled.specs.declared.staying.Staying.{Staying}
 use Rattle.pci_settled.specs.Candidates.{candidate_value}
-use Rattle.pci_settled.specs.Taken.{AreListed, AreTakenAt, AreAddedBehind, AreBehindTo}
+use Rattle.pci_settled.specs.declared.stretch.Sought.{Sought}
+use Rattle.pci_settled.specs.Stretches.{AreSought}
+use Rattle.pci_settled.specs.Taken.{AreListed, AreTakenAt, AreNearListed, AreBehindOne, AreBehindTo}
+use Rattle.pci_settled.proofs.BehindRows.{near_behind}
 
 -- ---- the same ranges
 
@@ -61,18 +65,6 @@ same_after before xs ys same = record {
   back = λ t listed. elim (Contains-append_cases before ys t listed) [
     | inl first ↦ Contains-append_left before xs t first
     | inr later ↦ Contains-append_right before xs t (same.back t later)
-  ];
-}
-
-pub same_behind : (xs ys rest : List DecodedRange) → IsPermutation xs ys → HaveSame (xs ++ rest) (ys ++ rest)
-same_behind xs ys rest same = record {
-  to = λ t listed. elim (Contains-append_cases xs rest t listed) [
-    | inl first ↦ Contains-append_left ys rest t (Contains-permutation xs ys t same first)
-    | inr later ↦ Contains-append_right ys rest t later
-  ];
-  back = λ t listed. elim (Contains-append_cases ys rest t listed) [
-    | inl first ↦ Contains-append_left xs rest t (Contains-permutation ys xs t (IsPermutation-sym xs ys same) first)
-    | inr later ↦ Contains-append_right xs rest t later
   ];
 }
 
@@ -160,68 +152,66 @@ not_behind q f p off =
     ap (map line_range) (none_pass (is_line_behind r)
     (λ x. ap (λ b. b && is_behind f (line_bus x) && are_same_space (space_of f p) x.told.space) off) (told_regions q.told))
 
-nothing_added : (old : List Range) (more : List DecodedRange) → more ≡ [] → AreAdded old old more
-nothing_added old more none = record {
-  added = [];
-  put = sym (append-nil old);
-  same = subst (λ xs. IsPermutation xs []) (sym none) (IsPermutation-refl []);
+none_near : (ranges : List Range) (more : List DecodedRange) (found : List Range) → more ≡ [] → found ≡ [] → AreNearListed ranges more found
+none_near ranges more found none empty = record {
+  of = λ t listed. absurd (in_nil t (subst (λ xs. Contains (map decoded_range_of xs) t) empty listed));
+  near = λ t listed. absurd (in_nil t (subst (λ xs. Contains xs t) none listed));
 }
 
-module _ (records : List Record) (lines : List Line) (class : Class) (k : ℕ) (extent : Extent) (old : List Range) where
+module _ (records : List Record) (lines : List Line) (ranges : List Range) (class : Class) (k : ℕ) (extent : Extent) (found : List Range) where
   abbrev pub as_part : CodePart → Candidate
   as_part p = record { class = class; item = record { function = k; part = p; extent = extent } }
 
-  pub added_no_bar : (n : ℕ) → AreAddedBehind records lines (as_part (parts.Bar n)) old old
-  added_no_bar n q s has are there = nothing_added old (lines_behind q (record { function = function_in s k; part = Bar n })) (not_behind q (function_in s k) (Bar n) refl)
+  pub behind_no_bar : (n : ℕ) → found ≡ [] → AreBehindOne records lines ranges (as_part (parts.Bar n)) found
+  behind_no_bar n empty q s has are there = none_near ranges (lines_behind q (record { function = function_in s k; part = Bar n })) found (not_behind q (function_in s k) (Bar n) refl) empty
 
-  pub added_no_rom : AreAddedBehind records lines (as_part parts.Rom) old old
-  added_no_rom q s has are there = nothing_added old (lines_behind q (record { function = function_in s k; part = Rom })) (not_behind q (function_in s k) Rom refl)
+  pub behind_no_rom : found ≡ [] → AreBehindOne records lines ranges (as_part parts.Rom) found
+  behind_no_rom empty q s has are there = none_near ranges (lines_behind q (record { function = function_in s k; part = Rom })) found (not_behind q (function_in s k) Rom refl) empty
 
   module _ (r : Record) (within : k < length records) (read : r ≡ get_or records k r) where
     here : (s : System) → HasRecords s (map record_value records) → FunctionAt s r k
     here s has = function_at s records has k r (slice_get-get_or records k r within ∙ ap Some (sym read))
 
     -- a window is a bridge's
-    pub added_no_bridge : r.bridge ≡ None → AreAddedBehind records lines (as_part parts.Window) old old
-    added_no_bridge none q s has are there =
+    pub behind_no_bridge : r.bridge ≡ None → AreBehindOne records lines ranges (as_part parts.Window) found
+    behind_no_bridge none q s has are there =
         let found = here s has in
         let at = get_or_from_slice_get s k found.f no_function found.at in
         let off : is_bridge found.f ≡ false = sym (same_bridge r found.f found.is.value) ∙ ap is_some none in
         absurd (both_ways (is_bridge found.f) off (subst (λ f. has_part f (Window (kind_value class)) ≡ true) at there))
 
-    pub added_bridge : (b : Bridge) → r.bridge ≡ Some b → (new : List Range)
-        → ((q : Request) (f : Function) (c : WindowKind) → AreLines q.roots q.told.ranges lines → secondary f ≡ b.secondary → subordinate f ≡ b.subordinate → window_space c ≡ window_space (kind_value class) → AreAdded old new (lines_behind q (window_part c f)))
-        → AreAddedBehind records lines (as_part parts.Window) old new
-    added_bridge b is new add q s has are there =
-        let found = here s has in
-        let at = get_or_from_slice_get s k found.f no_function found.at in
-        let to = same_bridge_of r found.f b found.is.value is in
-        subst (λ f. AreAdded old new (lines_behind q (window_part (kind_value class) f))) (sym at)
-        (add q found.f (kind_value class) are (sym (ap (λ (x : decoded.Bridge). x.secondary) to)) (sym (ap (λ (x : decoded.Bridge). x.subordinate) to)) refl)
+    pub behind_bridge : (b : Bridge) → r.bridge ≡ Some b → (w : Sought) → w.bridge.now ≡ b → code.space_of w.space ≡ window_space (kind_value class) → w.ranges.now ≡ ranges → AreSought w lines found
+        → AreBehindOne records lines ranges (as_part parts.Window) found
+    behind_bridge b is w bridge_is space_is ranges_is sought q s has are there =
+        let it = here s has in
+        let at = get_or_from_slice_get s k it.f no_function it.at in
+        let to = same_bridge_of r it.f b it.is.value is in
+        subst (λ f. AreNearListed ranges (lines_behind q (window_part (kind_value class) f)) found) (sym at)
+        (subst (λ rs. AreNearListed rs (lines_behind q (window_part (kind_value class) it.f)) found) ranges_is
+        (near_behind q it.f (kind_value class) w lines are
+        (sym (ap (λ (x : decoded.Bridge). x.secondary) to) ∙ sym (ap (λ (x : Bridge). x.secondary) bridge_is))
+        (sym (ap (λ (x : decoded.Bridge). x.subordinate) to) ∙ sym (ap (λ (x : Bridge). x.subordinate) bridge_is))
+        (sym space_is) found sought))
 
 -- ---- behind one item after another
 
-module _ (q : Request) (s : System) (candidates : List Candidate) where
-  pub behind_none : (lines : List Line) → lines ≡ [] → AreLines q.roots q.told.ranges lines → (n : ℕ) (behind : List (List Range)) → behind ≡ [] → AreBehindTo q s candidates n behind
-  behind_none lines none are n behind empty k d low =
-      subst (λ xs. IsPermutation xs (map decoded_range_of (get_or behind k []))) (sym (none_behind q lines are none (candidate_value s (get_or candidates k d)).region))
-      (subst (λ xs. IsPermutation [] (map decoded_range_of (get_or xs k []))) (sym empty) (IsPermutation-refl []))
+module _ (q : Request) (s : System) (lists : List (List Range)) (wanted : List Wanted) (candidates : List Candidate) where
+  pub behind_none : (lines : List Line) → lines ≡ [] → AreLines q.roots q.told.ranges lines → (n : ℕ) (behind : List (List Range)) → behind ≡ [] → AreBehindTo q s lists wanted candidates n behind
+  behind_none lines none are n behind empty k d w low =
+      none_near (get_or lists (get_or wanted k w).list []) (lines_behind q (candidate_value s (get_or candidates k d)).region) (get_or behind k [])
+      (none_behind q lines are none (candidate_value s (get_or candidates k d)).region) (ap (λ xs. get_or xs k []) empty)
 
-  pub behind_more : (n : ℕ) (old new : List (List Range)) → length old ≡ n → AreBehindTo q s candidates n old → n < length candidates → (c : Candidate) (b : List Range) → new ≡ old ++ b ∷ []
-      → IsPermutation (lines_behind q (candidate_value s (get_or candidates n c)).region) (map decoded_range_of b) → AreBehindTo q s candidates (n + 1) new
-  behind_more n old new long was within c b put is k d low = elim (cases_lt k n) [
+  pub behind_more : (n : ℕ) (old new : List (List Range)) → length old ≡ n → AreBehindTo q s lists wanted candidates n old → n < length candidates → n < length wanted → (c : Candidate) (v : Wanted) (b : List Range) → new ≡ old ++ b ∷ []
+      → AreNearListed (get_or lists (get_or wanted n v).list []) (lines_behind q (candidate_value s (get_or candidates n c)).region) b → AreBehindTo q s lists wanted candidates (n + 1) new
+  behind_more n old new long was within inside c v b put is k d w low = elim (cases_lt k n) [
     | inl less ↦
-        subst (λ xs. IsPermutation (lines_behind q (candidate_value s (get_or candidates k d)).region) (map decoded_range_of xs))
-        (sym (get_or_append_left old (b ∷ []) [] k (omega (arith, less, long))) ∙ ap (λ xs. get_or xs k []) (sym put)) (was k d less)
+        subst (λ xs. AreNearListed (get_or lists (get_or wanted k w).list []) (lines_behind q (candidate_value s (get_or candidates k d)).region) xs)
+        (sym (get_or_append_left old (b ∷ []) [] k (omega (arith, less, long))) ∙ ap (λ xs. get_or xs k []) (sym put)) (was k d w less)
     | inr past ↦
         let same : n ≡ k = omega (arith, past, low) in
         let last : get_or (old ++ b ∷ []) n [] ≡ b = get_or-append_right old (b ∷ []) n n [] long (omega arith) ∙ ap (λ m. get_or (b ∷ []) m []) (let e : n - n ≡ 0 = omega arith in e) in
-        subst (λ m. IsPermutation (lines_behind q (candidate_value s (get_or candidates m d)).region) (map decoded_range_of (get_or new m []))) same
-        (subst (λ (x : Candidate). IsPermutation (lines_behind q (candidate_value s x).region) (map decoded_range_of (get_or new n []))) (get_or_default candidates n c d within)
-        (subst (λ xs. IsPermutation (lines_behind q (candidate_value s (get_or candidates n c)).region) (map decoded_range_of xs)) (sym last ∙ ap (λ xs. get_or xs n []) (sym put)) is))
+        subst (λ m. AreNearListed (get_or lists (get_or wanted m w).list []) (lines_behind q (candidate_value s (get_or candidates m d)).region) (get_or new m [])) same
+        (subst (λ xs. AreNearListed (get_or lists (get_or wanted n w).list []) (lines_behind q (candidate_value s (get_or candidates n d)).region) xs) (sym last ∙ ap (λ xs. get_or xs n []) (sym put))
+        (subst (λ e. AreNearListed (get_or lists (get_or wanted n w).list []) (lines_behind q (candidate_value s e).region) b) (get_or_default candidates n c d within)
+        (subst (λ (e : Wanted). AreNearListed (get_or lists e.list []) (lines_behind q (candidate_value s (get_or candidates n c)).region) b) (get_or_default wanted n v w inside) is)))
   ]
-
--- what is added to nothing
-pub added_alone : (old new : List Range) (more : List DecodedRange) → old ≡ [] → AreAdded old new more → IsPermutation more (map decoded_range_of new)
-added_alone old new more none are =
-    subst (λ xs. IsPermutation more (map decoded_range_of xs)) (sym (are.put ∙ ap (λ xs. xs ++ are.added) none)) are.same

@@ -20,7 +20,6 @@ use Rattle.settle_spec.specs.Items.{Item as ItemValue, Placed}
 use Rattle.settle_spec.specs.Lines.{lines_behind}
 use Rattle.settle_spec.specs.Kept.{Kept}
 use Rattle.settle_spec.specs.Keeping.Places.{space_items}
-use Rattle.settle_spec.proofs.SameTaken.{same_first_place}
 use Rattle.settle_laws.proofs.Keeping.Buses.{of_space}
 use Rattle.pci_function.specs.declared.record.Record.{Record}
 use Rattle.pci_function.specs.Values.{record_value}
@@ -42,8 +41,8 @@ use Rattle.pci_settled.specs.Candidates.{candidate_value, HasAddressAndAlignment
 use Rattle.pci_settled.specs.Columns.{kind_number, column, list_number, told_place, candidate_wanted, list_at, AreListsFor}
 use Rattle.pci_settled.specs.Places.{AreEndingAt}
 use Rattle.pci_settled.specs.BusPlaces.{place_beside}
-use Rattle.pci_settled.specs.Taken.{AreBehindTo}
-use Rattle.pci_settled.proofs.TakenBeside.{same_behind}
+use Rattle.pci_settled.specs.Taken.{AreNearListed, AreBehindTo}
+use Rattle.pci_settled.proofs.BehindRows.{same_place}
 use Rattle.pci_settled.proofs.Parts.{real_in}
 
 -- the function of a record is on its bus
@@ -55,6 +54,9 @@ bus_is s records has k r within is =
 -- what an index past the end is read as
 abbrev pub no_candidate : Candidate
 no_candidate = record { class = classes.Io; item = record { function = 0; part = Bar 0; extent = record { size = 0; alignment = 0; highest = 0 } } }
+
+abbrev pub no_wanted : Wanted
+no_wanted = record { extent = no_candidate.item.extent; list = 0; at = None }
 
 -- one more is wanted
 pub wanted_more : (roots : List ℕ) (s : System) (records : List Record) → HasRecords s (map record_value records) → (places : List Places) (grown : ByKind (Option Range)) (c : Candidate) → c.item.function < length records → (r : Record) → r ≡ get_or records c.item.function r
@@ -134,7 +136,7 @@ module _ (q : Request) (s : System) (keep : Kept) (system : IsSystem s) (space :
           ends = ending (get_or candidates k d) (listed_at k d within);
         })
 
-    pub are_wanted : (placed : ℕ → List Placed) (lists behind : List (List Range)) → AreListsFor q s keep space placed bus lists places grown → All HasAddressAndAlignment candidates → AreBehindTo q s candidates (length candidates) behind
+    pub are_wanted : (placed : ℕ → List Placed) (lists behind : List (List Range)) → AreListsFor q s keep space placed bus lists places grown → All HasAddressAndAlignment candidates → AreBehindTo q s lists wanted candidates (length candidates) behind
         → (d : Candidate) → AreWanted lists behind (place_beside q s keep placed) (map (candidate_value s) candidates) wanted
     are_wanted placed lists behind for lawful are d = record {
       count = length-map candidates (candidate_value s) ∙ sym count_is;
@@ -151,8 +153,8 @@ module _ (q : Request) (s : System) (keep : Kept) (system : IsSystem s) (space :
                 let held = map decoded_range_of (get_or behind k []) in
                 ap (λ j. place_beside q s keep placed j taken) here
                 ∙ for c (listed_at k d within) (lines_behind q value.region ++ taken)
-                ∙ ap (else_at (told_place places grown c)) (same_first_place (list_at lists (list_number q.roots value)) (lines_behind q value.region ++ taken) (held ++ taken) value.extent (lawful k d within).alignment
-                (same_behind (lines_behind q value.region) held taken (are k d within)))
+                ∙ ap (else_at (told_place places grown c)) (same_place (get_or lists (list_number q.roots value) []) (lines_behind q value.region) (get_or behind k [])
+                (subst (λ (x : Wanted). AreNearListed (get_or lists x.list []) (lines_behind q value.region) (get_or behind k [])) own (are k d w within)) taken value.extent (lawful k d within).alignment)
                 ∙ ap (λ (x : Wanted). else_at x.at (first_place (list_at lists x.list) (held ++ taken) (extent_value x.extent))) (sym own);
           });
     }

@@ -1,3 +1,4 @@
+pub mod Stretches
 pub mod Staying
 pub mod Candidates
 pub mod Taken

@@ -1,7 +1,6 @@
 -- What is taken where an item is placed: what stays on its bus, what lines hold there, and what they hold behind a new window.
-use Rattle.std.specs.Prelude.{◌≡◌, ℕ, ◌<◌, List, [], map, length, slice_index_or}
+use Rattle.std.specs.Prelude.{◌≡◌, ℕ, ◌<◌, ◌⊎◌, List, [], map, length, slice_index_or}
 use Rattle.std.specs.List.{All, Contains}
-use Rattle.std.specs.List.Sorted.{IsPermutation}
 use Rattle.pci_spec.specs.Decoded.{HasRecords}
 use Rattle.pci_spec.specs.Decoded.{Range as DecodedRange}
 use Rattle.pci_spec.specs.System.{System, Space}
@@ -15,11 +14,13 @@ use Rattle.pci_base.specs.Ranges.{decoded_range_of}
 use Rattle.pci_function.specs.declared.record.Record.{Record}
 use Rattle.pci_function.specs.Values.{record_value}
 use Rattle.pci_settle.specs.declared.lines.Line.{Line}
-use Rattle.pci_settle.specs.Lines.{AreLines, AreAdded}
+use Rattle.pci_settle.specs.Lines.{AreLines}
+use Rattle.pci_settle.specs.declared.placing.Wanted.{Wanted}
 use Rattle.pci_stand.specs.Held.{AreHeld}
 use Rattle.pci_settled.specs.declared.candidate.Candidate.{Candidate}
 use Rattle.pci_settled.specs.declared.staying.Staying.{Staying}
 use Rattle.pci_settled.specs.Candidates.{candidate_value, HasPart}
+use Rattle.pci_settled.specs.Stretches.{IsFar}
 
 -- the same ranges are listed, in some order
 pub record AreListed (ranges : List DecodedRange) (listed : List Range) : Type 0 where
@@ -32,21 +33,27 @@ AreTakenAt st n space taken =
     (q : Request) (s : System) (keep : Kept) (bus : ℕ) → AreHeld q s keep st.held.now
     → AreLines q.roots q.told.ranges st.lines.now → n ≡ level q bus → AreListed (taken_at q s keep space bus) taken
 
--- to ranges those are added that lines hold behind an item
-abbrev pub AreAddedBehind : List Record → List Line → Candidate → List Range → List Range → Type 0
-AreAddedBehind records lines c old new =
-    (q : Request) (s : System) → HasRecords s (map record_value records) → AreLines q.roots q.told.ranges lines
-    → HasPart s c → AreAdded old new (lines_behind q (candidate_value s c).region)
+-- of some ranges these are listed: all that share an address with one of the ranges in which a place is looked for, and no others
+-- than those
+pub record AreNearListed (ranges : List Range) (more : List DecodedRange) (listed : List Range) : Type 0 where
+  pub of : (t : DecodedRange) → Contains (map decoded_range_of listed) t → Contains more t
+  pub near : (t : DecodedRange) → Contains more t → Contains (map decoded_range_of listed) t ⊎ IsFar ranges t
 
--- the first of some items have theirs in a table
-abbrev pub AreBehindTo : Request → System → List Candidate → ℕ → List (List Range) → Type 0
-AreBehindTo q s candidates n behind =
-    (k : ℕ) (d : Candidate) → k < n
-    → IsPermutation (lines_behind q (candidate_value s (slice_index_or candidates k d)).region)
-    (map decoded_range_of (slice_index_or behind k []))
+-- what lines hold behind an item
+abbrev pub AreBehindOne : List Record → List Line → List Range → Candidate → List Range → Type 0
+AreBehindOne records lines ranges c found =
+    (q : Request) (s : System) → HasRecords s (map record_value records) → AreLines q.roots q.told.ranges lines
+    → HasPart s c → AreNearListed ranges (lines_behind q (candidate_value s c).region) found
+
+-- the first of some items have theirs in a table, each near to the list in which it is wanted
+abbrev pub AreBehindTo : Request → System → List (List Range) → List Wanted → List Candidate → ℕ → List (List Range) → Type 0
+AreBehindTo q s lists wanted candidates n behind =
+    (k : ℕ) (d : Candidate) (w : Wanted) → k < n
+    → AreNearListed (slice_index_or lists (slice_index_or wanted k w).list [])
+    (lines_behind q (candidate_value s (slice_index_or candidates k d)).region) (slice_index_or behind k [])
 
 -- and so has each of them
-abbrev pub AreBehindEach : List Record → List Line → List Candidate → List (List Range) → Type 0
-AreBehindEach records lines candidates behind =
+abbrev pub AreBehindEach : List Record → List Line → List (List Range) → List Wanted → List Candidate → List (List Range) → Type 0
+AreBehindEach records lines lists wanted candidates behind =
     (q : Request) (s : System) → HasRecords s (map record_value records) → AreLines q.roots q.told.ranges lines
-    → All (HasPart s) candidates → AreBehindTo q s candidates (length candidates) behind
+    → All (HasPart s) candidates → AreBehindTo q s lists wanted candidates (length candidates) behind

@@ -11,11 +11,13 @@ ghost use Rattle.pci_place.specs.Above.{AreAboves, system_in};
 ghost use Rattle.pci_settled.specs.Candidates.{AreSpaceWindows, KnowsWindows, IsWithin, pass_value};
 ghost use Rattle.pci_stand.specs.Held.{AreByLevel};
 ghost use Rattle.pci_settle.specs.Lines.{AreLineRows};
+ghost use Rattle.pci_settled.specs.Stretches.{AreStretches};
 ghost use Rattle.pci_settled.specs.Columns.{kind_number, column, told_place, candidate_wanted};
 ghost use Rattle.pci_settled.specs.BusPlaces.{bus_placing, ArePlacesIn, AreToldEnding, AreInTable};
 
+use crate::behind::{Asked, behind_each};
 use crate::candidate::{Candidate, candidates_on};
-use crate::lines::{behind_each, taken_at};
+use crate::lines::taken_at;
 use crate::setting::Pass;
 use pci_base::memory::OutOfMemory;
 use pci_base::range::Range;
@@ -126,6 +128,7 @@ pub fn place_bus<A: Allocator + Copy, B: Allocator>(
     // what stays on a bus, and what lines hold there, is found by halving
     requires held { AreByLevel pass.now.setting.now.staying.held.now }
     requires lines { AreLineRows pass.now.setting.now.staying.lines.now }
+    requires stretches { AreStretches pass.now.setting.now.staying.lines.now pass.now.setting.now.staying.stretches.now }
     // places are looked for by sizes and alignments
     requires lawful { AreSpaceWindows pass.now.windows.now }
     // a new window is as large as what is behind it, which is worked out before
@@ -154,11 +157,15 @@ pub fn place_bus<A: Allocator + Copy, B: Allocator>(
         grown,
     };
     let wanted = wanted_of(alloc, &roots, records, &told, candidates.as_slice())?;
-    let lines = setting.staying.lines;
-    let behind = behind_each(alloc, records, lines, candidates.as_slice())?;
+    let asked = Asked {
+        lists,
+        wanted: wanted.as_slice(),
+    };
+    let staying = &setting.staying;
+    let behind = behind_each(alloc, records, staying, candidates.as_slice(), &asked)?;
     let mut places = vec![in alloc; 0; candidates.len()]?;
     let level = level(&roots, bus);
-    let mut taken = taken_at(alloc, &setting.staying, level, pass.space)?;
+    let mut taken = taken_at(alloc, staying, level, pass.space)?;
     let search = Search {
         lists,
         behind: behind.as_slice(),

@@ -6,6 +6,7 @@
 #![tactic(auto)]
 
 pub mod anew;
+mod behind;
 pub mod bus;
 pub mod candidate;
 pub mod column;
@@ -15,4 +16,5 @@ pub mod places;
 pub mod setting;
 pub mod space;
 pub mod staying;
+pub mod stretch;
 pub mod window;

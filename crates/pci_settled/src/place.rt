@@ -10,6 +10,7 @@ ghost use Rattle.pci_settle.specs.Buses.{AreWindows};
 ghost use Rattle.pci_settled.specs.Candidates.{AreSpaceWindows, HasWindowsIn, KnowsRequest};
 ghost use Rattle.pci_stand.specs.Held.{AreByLevel};
 ghost use Rattle.pci_settle.specs.Lines.{AreLineRows};
+ghost use Rattle.pci_settled.specs.Stretches.{AreStretches};
 ghost use Rattle.pci_settled.specs.Spaces.{HasNone, KeepsOtherSpace};
 ghost use Rattle.pci_settled.specs.Placed.{HasClassWindows, IsClassTooLarge, IsSpaceTooLarge, IsUnplacedIn, HasPlacesIn, AreAllNone, CanBeLeft, ArePlacesOff, IsUnplacedOff};
 ghost use Rattle.pci_settled.specs.Staying.{setting_value};
@@ -20,6 +21,7 @@ use crate::places::Places;
 use crate::setting::{Pass, Setting};
 use crate::space::place_space;
 use crate::staying::Staying;
+use crate::stretch::stretches;
 use pci_base::memory::{OutOfMemory, Refused};
 use pci_base::slot::BUSES;
 use pci_base::space::Space;
@@ -104,6 +106,7 @@ fn place_in<A: Allocator + Copy, B: Allocator>(
     requires terms { AreTerms (demand_value lists.now) setting.now.terms }
     requires held { AreByLevel setting.now.staying.held.now }
     requires lines { AreLineRows setting.now.staying.lines.now }
+    requires stretches { AreStretches setting.now.staying.lines.now setting.now.staying.stretches.now }
     requires known { KnowsRequest (setting_value setting.now) (lists_value lists.now) }
     requires count { length table.old ≡ length (system_in setting.now.admitted.now) }
     requires none { HasNone (system_in setting.now.admitted.now) (space_of space) table.old }
@@ -160,10 +163,12 @@ pub fn place<A: Allocator + Copy, B: Allocator>(
     let held = held_parts(alloc, admitted, lists, left.kept, left.grown)?;
     let outline = admitted.outline();
     let rows = lines(alloc, lists.told, &outline.roots())?;
+    let stretches = stretches(alloc, rows.as_slice())?;
     let staying = Staying {
         left: *left,
         held: held.as_slice(),
         lines: rows.as_slice(),
+        stretches: stretches.as_slice(),
     };
     let setting = Setting {
         admitted,

@@ -9,6 +9,7 @@ ghost use Rattle.pci_settle.specs.Slots.{demand_value};
 ghost use Rattle.pci_settle.specs.Own.{AreTerms};
 ghost use Rattle.pci_stand.specs.Held.{AreByLevel};
 ghost use Rattle.pci_settle.specs.Lines.{AreLineRows};
+ghost use Rattle.pci_settled.specs.Stretches.{AreStretches};
 ghost use Rattle.pci_settled.specs.Candidates.{AreSpaceWindows, HasWindowsIn, KnowsWindows, KnowsRequest, pass_value};
 ghost use Rattle.pci_settled.specs.BusPlaces.{AreToldEnding};
 ghost use Rattle.pci_settled.specs.Spaces.{grown_by, IsFirstRoot, AreNotedOnRoots, AreNotedBehind, HasNone, KeepsOtherSpace, AreSpacePlacesIn};
@@ -55,6 +56,7 @@ fn place_on_roots<A: Allocator + Copy, B: Allocator>(
     requires terms { AreTerms (demand_value lists.now) pass.now.setting.now.terms }
     requires held { AreByLevel pass.now.setting.now.staying.held.now }
     requires lines { AreLineRows pass.now.setting.now.staying.lines.now }
+    requires stretches { AreStretches pass.now.setting.now.staying.lines.now pass.now.setting.now.staying.stretches.now }
     requires lawful { AreSpaceWindows pass.now.windows.now }
     requires known { KnowsWindows (pass_value pass.now) }
     requires count { length table.old ≡ length (system_in pass.now.setting.now.admitted.now) }
@@ -89,6 +91,7 @@ fn place_behind<A: Allocator + Copy, B: Allocator>(
         pass.now.setting.now.aboves.now }
     requires held { AreByLevel pass.now.setting.now.staying.held.now }
     requires lines { AreLineRows pass.now.setting.now.staying.lines.now }
+    requires stretches { AreStretches pass.now.setting.now.staying.lines.now pass.now.setting.now.staying.stretches.now }
     requires lawful { AreSpaceWindows pass.now.windows.now }
     requires known { KnowsWindows (pass_value pass.now) }
     requires count { length table.old ≡ length (system_in pass.now.setting.now.admitted.now) }
@@ -137,6 +140,7 @@ pub fn place_space<A: Allocator + Copy, B: Allocator>(
     // what stays on a bus, and what lines hold there, is found by halving
     requires held { AreByLevel pass.now.setting.now.staying.held.now }
     requires lines { AreLineRows pass.now.setting.now.staying.lines.now }
+    requires stretches { AreStretches pass.now.setting.now.staying.lines.now pass.now.setting.now.staying.stretches.now }
     // places are looked for by sizes and alignments
     requires lawful { AreSpaceWindows pass.now.windows.now }
     // a new window is as large as what is behind it, which is worked out before

@@ -1,4 +1,5 @@
 //! What stays where it is, while all else is placed.
+use crate::stretch::Stretch;
 use pci_settle::lines::Line;
 use pci_settle::over::Left;
 use pci_stand::held::Held;
@@ -11,4 +12,6 @@ pub struct Staying<'a> {
     pub held: &'a [Held],
     /// What lines hold, by rising levels.
     pub lines: &'a [Line],
+    /// The same lines, many at a time.
+    pub stretches: &'a [Stretch<'a>],
 }

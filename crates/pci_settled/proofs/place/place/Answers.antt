@@ -29,7 +29,7 @@ place_in-requires-clause-none g c =
 pub returns-in_err-place_in-clause-fault : goal.returns-in_err-place_in-clause-fault
 returns-in_err-place_in-clause-fault g c =
     let p = err_from_is_err_and c.from_residual-in_err-place_in.result c.from_residual-in_err-place_in.ensures.1 in
-    rw (p.1, p.2) (io_unplaced c.args.admitted.now.roots (system_in c.args.admitted.now) (demand_value c.args.lists.now) _ c.of-terms.ensures c.args.left.now _ c.in_ok-held.ensures.held _ (subst (λ rs. AreLines rs (demand_value c.args.lists.now).told.ranges c.in_ok-rows.rows.items) (c.roots.ensures ∙ c.outline-outline.ensures.roots) c.in_ok-rows.ensures.lines) _ refl c.as_slice.ensures.value c.as_slice-2.ensures.value c.in_err-place_in.field-0.0 c.in_err-place_in.ensures.fault)
+    rw (p.1, p.2) (io_unplaced c.args.admitted.now.roots (system_in c.args.admitted.now) (demand_value c.args.lists.now) _ c.of-terms.ensures c.args.left.now _ c.in_ok-held.ensures.held _ (subst (λ rs. AreLines rs (demand_value c.args.lists.now).told.ranges c.in_ok-rows.rows.items) (c.roots.ensures ∙ c.outline-outline.ensures.roots) c.in_ok-rows.ensures.lines) _ refl c.as_slice-2.ensures.value c.as_slice-3.ensures.value c.in_err-place_in.field-0.0 c.in_err-place_in.ensures.fault)
 
 pub place_in-requires-2-clause-none : goal.place_in-requires-2-clause-none
 place_in-requires-2-clause-none g c =
@@ -42,7 +42,7 @@ pub returns-in_err-place_in-2-clause-fault : goal.returns-in_err-place_in-2-clau
 returns-in_err-place_in-2-clause-fault g c =
     let p = err_from_is_err_and c.from_residual-in_err-place_in-2.result c.from_residual-in_err-place_in-2.ensures.1 in
     rw (p.1, p.2)
-    (memory_unplaced c.args.admitted.now.roots (system_in c.args.admitted.now) (demand_value c.args.lists.now) _ c.of-terms.ensures c.args.left.now _ c.in_ok-held.ensures.held _ (subst (λ rs. AreLines rs (demand_value c.args.lists.now).told.ranges c.in_ok-rows.rows.items) (c.roots.ensures ∙ c.outline-outline.ensures.roots) c.in_ok-rows.ensures.lines) _ refl c.as_slice.ensures.value c.as_slice-2.ensures.value c.place_in.new.table c.in_ok-place_in.ensures.placed c.in_err-place_in-2.field-0.0 c.in_err-place_in-2.ensures.fault)
+    (memory_unplaced c.args.admitted.now.roots (system_in c.args.admitted.now) (demand_value c.args.lists.now) _ c.of-terms.ensures c.args.left.now _ c.in_ok-held.ensures.held _ (subst (λ rs. AreLines rs (demand_value c.args.lists.now).told.ranges c.in_ok-rows.rows.items) (c.roots.ensures ∙ c.outline-outline.ensures.roots) c.in_ok-rows.ensures.lines) _ refl c.as_slice-2.ensures.value c.as_slice-3.ensures.value c.place_in.new.table c.in_ok-place_in.ensures.placed c.in_err-place_in-2.field-0.0 c.in_err-place_in-2.ensures.fault)
 
 pub returns-clause-places : goal.returns-clause-places
 returns-clause-places g c =
@@ -51,12 +51,12 @@ returns-clause-places g c =
     let long = c.in_ok-table.table.ok.0 in
     let even = c.in_ok-place_in-2.ensures.others.count ∙ c.in_ok-place_in.ensures.others.count ∙ ap length c.as_mut_slice-entries.ensures.value in
     subst (ArePlacesOff c.args.admitted.now.roots s (demand_value c.args.lists.now) c.args.left.now) (sym (slice_back c.in_ok-table.table.len c.place_in-2.new.table c.in_ok-table.table.items even (omega (arith, long))))
-    (both_placed c.args.admitted.now.roots (system_in c.args.admitted.now) (demand_value c.args.lists.now) _ c.of-terms.ensures c.args.left.now _ c.in_ok-held.ensures.held _ (subst (λ rs. AreLines rs (demand_value c.args.lists.now).told.ranges c.in_ok-rows.rows.items) (c.roots.ensures ∙ c.outline-outline.ensures.roots) c.in_ok-rows.ensures.lines) _ refl c.as_slice.ensures.value c.as_slice-2.ensures.value c.place_in.new.table c.place_in-2.new.table (even ∙ count) c.in_ok-place_in.ensures.placed c.in_ok-place_in-2.ensures.others c.in_ok-place_in-2.ensures.placed)
+    (both_placed c.args.admitted.now.roots (system_in c.args.admitted.now) (demand_value c.args.lists.now) _ c.of-terms.ensures c.args.left.now _ c.in_ok-held.ensures.held _ (subst (λ rs. AreLines rs (demand_value c.args.lists.now).told.ranges c.in_ok-rows.rows.items) (c.roots.ensures ∙ c.outline-outline.ensures.roots) c.in_ok-rows.ensures.lines) _ refl c.as_slice-2.ensures.value c.as_slice-3.ensures.value c.place_in.new.table c.place_in-2.new.table (even ∙ count) c.in_ok-place_in.ensures.placed c.in_ok-place_in-2.ensures.others c.in_ok-place_in-2.ensures.placed)
 
 pub place_in-requires-clause-known : goal.place_in-requires-clause-known
 place_in-requires-clause-known g c =
-    request_known c.args.admitted.now.roots (system_in c.args.admitted.now) (demand_value c.args.lists.now) _ c.of-terms.ensures c.args.left.now _ c.in_ok-held.ensures.held _ (subst (λ rs. AreLines rs (demand_value c.args.lists.now).told.ranges c.in_ok-rows.rows.items) (c.roots.ensures ∙ c.outline-outline.ensures.roots) c.in_ok-rows.ensures.lines) _ refl c.as_slice.ensures.value c.as_slice-2.ensures.value c.requires
+    request_known c.args.admitted.now.roots (system_in c.args.admitted.now) (demand_value c.args.lists.now) _ c.of-terms.ensures c.args.left.now _ c.in_ok-held.ensures.held _ (subst (λ rs. AreLines rs (demand_value c.args.lists.now).told.ranges c.in_ok-rows.rows.items) (c.roots.ensures ∙ c.outline-outline.ensures.roots) c.in_ok-rows.ensures.lines) _ refl c.as_slice-2.ensures.value c.as_slice-3.ensures.value c.requires
 
 pub place_in-requires-2-clause-known : goal.place_in-requires-2-clause-known
 place_in-requires-2-clause-known g c =
-    request_known c.args.admitted.now.roots (system_in c.args.admitted.now) (demand_value c.args.lists.now) _ c.of-terms.ensures c.args.left.now _ c.in_ok-held.ensures.held _ (subst (λ rs. AreLines rs (demand_value c.args.lists.now).told.ranges c.in_ok-rows.rows.items) (c.roots.ensures ∙ c.outline-outline.ensures.roots) c.in_ok-rows.ensures.lines) _ refl c.as_slice.ensures.value c.as_slice-2.ensures.value c.requires
+    request_known c.args.admitted.now.roots (system_in c.args.admitted.now) (demand_value c.args.lists.now) _ c.of-terms.ensures c.args.left.now _ c.in_ok-held.ensures.held _ (subst (λ rs. AreLines rs (demand_value c.args.lists.now).told.ranges c.in_ok-rows.rows.items) (c.roots.ensures ∙ c.outline-outline.ensures.roots) c.in_ok-rows.ensures.lines) _ refl c.as_slice-2.ensures.value c.as_slice-3.ensures.value c.requires
