@@ -1,7 +1,7 @@
 -- Which parts lead to told ranges, as lines tell them.
-use Rattle.std.proofs.Common.{◌≡◌, ℕ, ◌+◌, ◌<◌, ◌≤◌, inl, inr, List, length, get_or, Bool, true, false, ◌&&◌, ◌||◌, not, arith, sym, ◌∙◌, ap, subst, refl, Some, None}
+use Rattle.std.proofs.Common.{◌≡◌, ℕ, ◌+◌, ◌<◌, ◌≤◌, inl, inr, List, [], length, get_or, Bool, true, false, ◌&&◌, ◌||◌, not, arith, sym, ◌∙◌, ap, subst, refl, Some, None}
 use Rattle.std.specs.Option.{is_some}
-use Rattle.std.specs.List.{AllWithin}
+use Rattle.std.specs.List.{AllWithin, Contains}
 use Rattle.std.proofs.lemmas.Bool.{cases_Bool, cases_lt, and_parts, and_from, both_ways, false_from_ne_true}
 use Rattle.std.proofs.lemmas.List.{get_or_default}
 use Rattle.std.proofs.lemmas.Option.{slice_get-get_or, get_or_from_slice_get}
@@ -9,6 +9,7 @@ use Rattle.pci_spec.specs.Decoded.{Bridge as DecodedBridge}
 use Rattle.pci_spec.specs.System.{System, Function, Window, is_bridge, space_of}
 use Rattle.pci_spec.specs.Bus.{secondary, subordinate, is_behind}
 use Rattle.pci_spec.proofs.BusRanges.{any_gives, any_from, within_of_behind, behind_of_within}
+use Rattle.pci_spec.proofs.Members.{in_nil}
 use Rattle.plan_spec.specs.Plan.{is_open, same_class}
 use Rattle.plan_spec.specs.Planning.Layout.{range_of}
 use Rattle.given_spec.specs.Told.{ToldRange}
@@ -36,7 +37,7 @@ use Rattle.pci_stand.specs.declared.told_line.ToldLine.{ToldLine}
 use Rattle.pci_stand.specs.Known.{Known, region_value}
 use Rattle.pci_stand.specs.Boards.{IsTree, IsKnown}
 use Rattle.pci_stand.specs.ToldLines.{IsToldLine, AreToldLines, part_leads_to, leads_to_line}
-use Rattle.pci_stand.specs.Leads.{leads_to_lines}
+use Rattle.pci_stand.specs.Leads.{leads_to_lines, AreReachable}
 use Rattle.pci_stand.specs.RangePass.{no_range, no_line}
 use Rattle.pci_stand.proofs.ToldIndexes.{told_at, told_by}
 
@@ -93,6 +94,21 @@ module _ (any : Bool) (q : Request) (s : System) (r : Region) (is : IsKnown q s 
       grouped : (a b c : Bool) → (a && b && c) ≡ (a && (b && c))
       grouped true b c = refl
       grouped false b c = refl
+
+  -- where all told ranges are held, it leads nowhere
+  pub all_held : (ranges : List ToldRange) → q.told.ranges ≡ ranges → (indexes : List ℕ) → indexes ≡ [] → AreReachable ranges indexes → false ≡ leads_to_lines any q s v
+  all_held ranges same indexes none are = sym (false_from_ne_true (leads_to_lines any q s v) (λ leads.
+      let of = any_gives (λ y. (any || is_line_on q s y) && leads_to_range q s v y) (told_regions q.told) leads in
+      let y = of.0 in
+      let to_it = (and_parts (any || is_line_on q s y) (leads_to_range q s v y) of.2).1 in
+      let two = (and_parts (not (is_held_line y) && is_bridge f && is_behind f (line_bus y)) (leads_by q s f v.part y) to_it).0 in
+      let one = (and_parts (not (is_held_line y) && is_bridge f) (is_behind f (line_bus y)) two).0 in
+      let not_held = (and_parts (not (is_held_line y)) (is_bridge f) one).0 in
+      let free : is_held_line y ≡ false = false_from_ne_true (is_held_line y) (λ held. both_ways (not (is_held_line y)) (ap not held) not_held) in
+      let at = told_at 256 q.told.ranges y of.1 in
+      let there : get_or ranges at.k y.told ≡ y.told = subst (λ xs. get_or xs at.k y.told ≡ y.told) same at.is in
+      let listed = are.all at.k y.told (subst (λ xs. at.k < length xs) same at.within) (subst (λ (t : ToldRange). is_marked_held t.mark ≡ false) (sym there) free) in
+      in_nil at.k (subst (λ xs. Contains xs at.k) none listed)))
 
   module _ (records : List Record) (tree : IsTree q s records) (lines : List ToldLine) (are : AreToldLines q s lines) (within : r.function < length records) (d : Record) where
     abbrev x : Record

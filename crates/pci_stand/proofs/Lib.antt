@@ -19,6 +19,7 @@ pub mod Passing
 pub mod RangePassing
 pub mod RangeSteps
 pub mod RangesFree
+pub mod Reaching
 pub mod RowOrders
 pub mod RowsApart
 pub mod Steps

@@ -1,7 +1,9 @@
 -- The parts of a system with what they lead to, and whether they can stand.
-use Rattle.std.specs.Prelude.{◌≡◌, Bool, ◌&&◌, ◌||◌, not, List}
-use Rattle.std.specs.List.{All, list_any}
+use Rattle.std.specs.Prelude.{◌≡◌, ℕ, ◌<◌, Bool, ◌&&◌, ◌||◌, not, IsFalse, List, length, slice_index_or}
+use Rattle.std.specs.List.{All, AllPairs, Contains, list_any}
 use Rattle.pci_spec.specs.System.{System}
+use Rattle.given_spec.specs.Told.{ToldRange}
+use Rattle.given_spec.specs.ToldClaims.{is_marked_held}
 use Rattle.given_spec.specs.ToldRegion.{told_regions}
 use Rattle.settle_spec.specs.Lists.{Request}
 use Rattle.settle_spec.specs.Parts.{FunctionPart}
@@ -13,6 +15,13 @@ use Rattle.pci_stand.specs.Known.{region_value, AreParts}
 abbrev pub leads_to_lines : Bool → Request → System → FunctionPart → Bool
 leads_to_lines any q s r =
     list_any (λ x. (any || is_line_on q s x) && leads_to_range q s r x) (told_regions q.told)
+
+-- the indexes of told ranges that a part can lead to, rising: of all that aren't held
+pub record AreReachable (ranges : List ToldRange) (indexes : List ℕ) : Type 0 where
+  pub rising : AllPairs (λ j k. j < k) indexes
+  pub within : All (λ k. k < length ranges) indexes
+  pub all : (k : ℕ) (t : ToldRange) → k < length ranges
+      → IsFalse (is_marked_held (slice_index_or ranges k t).mark) → Contains indexes k
 
 -- a part with what is noted of it
 abbrev pub noted : Bool → Bool → Region → Region

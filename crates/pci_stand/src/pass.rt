@@ -16,7 +16,7 @@ ghost use Rattle.pci_stand.specs.LineRows.{AreSearched, AreOffRows};
 ghost use Rattle.pci_stand.specs.Passing.{CanBeNoted, AreOrdered, AreFirstPassed, AreStanding};
 
 use crate::collect::regions;
-use crate::leads::{Told, note_leads};
+use crate::leads::{Reachable, Told, note_leads, reachable_indexes};
 use crate::off::{Off, is_kept_off, line_rows};
 use crate::order::sort_regions;
 use crate::place::{bridges_over, is_in_place};
@@ -140,7 +140,12 @@ fn ordered_regions<A: Allocator + Copy, B: Allocator>(
 {
     let records = admitted.outline().records();
     let mut regions = regions(alloc, admitted, lists, rules)?;
-    note_leads(records, told, rules.anew, regions.as_mut_slice());
+    let indexes = reachable_indexes(alloc, told.ranges)?;
+    let reachable = Reachable {
+        told: *told,
+        indexes: indexes.as_slice(),
+    };
+    note_leads(records, &reachable, rules.anew, regions.as_mut_slice());
     sort_regions(&mut regions)?;
     Ok(regions)
 }

@@ -4,5 +4,7 @@ use Rattle.pci_stand.specs.declared.told_line.ToldLine.{ToldLine}
 use Rattle.pci_stand.specs.ToldLines.{leads_to_line}
 use Rattle.pci_stand.proofs.leads.leads_to_some.Given as goal
 
-abbrev pub invariant-loop-index : goal.invariant-loop-index
-invariant-loop-index l = (k : ℕ) (t : ToldRange) (d : ToldLine) → l.first ≤ k → k < l.index → leads_to_line l.any l.region (get_or l.told.ranges.now k t) (get_or l.told.lines.now k d) ≡ false
+abbrev pub invariant-loop-at : goal.invariant-loop-at
+invariant-loop-at l =
+    (j e : ℕ) (t : ToldRange) (d : ToldLine) → l.from ≤ j → j < l.at
+    → leads_to_line l.any l.region (get_or l.reachable.told.ranges.now (get_or l.reachable.indexes.now j e) t) (get_or l.reachable.told.lines.now (get_or l.reachable.indexes.now j e) d) ≡ false

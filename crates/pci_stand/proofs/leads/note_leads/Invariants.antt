@@ -13,5 +13,5 @@ abbrev pub invariant-loop-index : goal.invariant-loop-index
 invariant-loop-index l = record {
   size : length l.regions ≡ length l.fn.regions;
   functions : All (λ (r : Region). r.function < length l.records) l.regions;
-  known : (q : Request) (s : System) → IsTree q s l.records → q.told.ranges ≡ l.told.ranges.now → AreToldLines q s l.told.lines.now → AreParts q s l.fn.regions → q.anew ≡ l.anew → AreKnownBelow q s l.index l.regions;
+  known : (q : Request) (s : System) → IsTree q s l.records → q.told.ranges ≡ l.reachable.told.ranges.now → AreToldLines q s l.reachable.told.lines.now → AreParts q s l.fn.regions → q.anew ≡ l.anew → AreKnownBelow q s l.index l.regions;
 }

@@ -8,6 +8,7 @@ use Rattle.pci_settle.specs.Slots.{demand_value}
 use Rattle.pci_stand.specs.declared.region.Region.{Region}
 use Rattle.pci_stand.specs.Boards.{IsTree}
 use Rattle.pci_stand.specs.Known.{asked_by, region_value, AreParts}
+use Rattle.pci_stand.specs.Leads.{AreReachable}
 use Rattle.pci_stand.specs.Order.{IsPartInTurn}
 use Rattle.pci_stand.proofs.Whole.{ready, ordered, leads_sorted, numbers_rise, slice_back}
 use Rattle.pci_stand.proofs.pass.ordered_regions.Goals as goal
@@ -19,6 +20,9 @@ note_leads-requires-clause-functions g c =
     let count = same_count s records (lent s records c.records-records.ensures.value c.outline.ensures.records) in
     subst (All (λ (r : Region). r.function < length records)) (sym c.as_mut_slice.ensures.value)
     (λ k d low. let small = c.in_ok-regions.ensures.within k d low in omega (arith, small, count))
+
+pub note_leads-requires-clause-reachable : goal.note_leads-requires-clause-reachable
+note_leads-requires-clause-reachable g c = subst (AreReachable c.args.told.now.ranges.now) (sym c.as_slice.ensures.value) c.in_ok-indexes.ensures
 
 pub returns-clause-ordered : goal.returns-clause-ordered
 returns-clause-ordered g c = λ same lines.
