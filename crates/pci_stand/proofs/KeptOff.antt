@@ -10,6 +10,7 @@ use Rattle.pci_spec.specs.Decoded as decoded
 use Rattle.pci_spec.specs.System.{System, Function, Space, Io, Memory}
 use Rattle.pci_spec.specs.Bus.{are_siblings}
 use Rattle.pci_spec.proofs.BusRanges.{any_gives, any_from}
+use Rattle.pci_spec.proofs.Members.{in_nil}
 use Rattle.given_spec.specs.Told.{ToldRange, IsTold}
 use Rattle.given_spec.specs.ToldRegion.{ToldRegion, told_regions}
 use Rattle.settle_spec.specs.FirstPlace.{ranges_are_apart}
@@ -177,6 +178,13 @@ module _ (q : Request) (s : System) (told : IsTold q.told.ranges) (r : Region) (
       kept_by (λ x. true) rows are
       ∙ same_any (λ x. true && keeps_off_part q x v) (λ x. keeps_off_part q x v && (is_line_on q s x || true)) (told_regions q.told) (λ x has. always (is_line_on q s x) (keeps_off_part q x v))
       ∙ sym (off_by false (sym before_off ∙ first))
+
+-- where no line has a row, nothing keeps it off
+pub no_row_keeps : (q : Request) (s : System) (v : FunctionPart) (rows : List Row) → AreLineRows q (λ x. true) rows → rows ≡ [] → false ≡ is_kept_off q s v
+no_row_keeps q s v rows are none = sym (false_from_ne_true (is_kept_off q s v) (λ is.
+    let of = any_gives (λ x. keeps_off_part q x v && (is_line_on q s x || not (precedes_off q s v))) (told_regions q.told) is in
+    let row = are.all of.0 of.1 refl in
+    in_nil row.0 (subst (λ xs. Contains xs row.0) none row.1)))
 
 -- ---- the slot of a function by its record
 

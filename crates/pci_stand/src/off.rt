@@ -155,6 +155,9 @@ pub fn is_kept_off(off: &Off, slot: Slot, region: &Region) -> bool
         → AreOffRows q s off.now → (region_value s region.now).function.slot ≡ slot
         → result ≡ is_kept_off q s (region_value s region.now) }
 {
+    if off.all.rows.is_empty() {
+        return false;
+    }
     let key = row_key(region.level, region.space);
     let owner = u32::from(slot.number());
     if precedes_off(region) {

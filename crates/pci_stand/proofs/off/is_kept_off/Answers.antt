@@ -1,9 +1,17 @@
 use Rattle.std.proofs.Common.{◌∙◌, ap, sym}
+use Rattle.std.proofs.lemmas.Bool.{eqb-true}
+use Rattle.std.proofs.lemmas.List.{nil_from_length}
 use Rattle.pci_base.specs.Space.{space_of}
+use Rattle.pci_stand.specs.Known.{region_value}
 use Rattle.pci_stand.specs.Rows.{rows_keep_off}
 use Rattle.pci_stand.specs.LineRows.{row_key}
-use Rattle.pci_stand.proofs.KeptOff.{kept_off_on, kept_off_all}
+use Rattle.pci_stand.proofs.KeptOff.{no_row_keeps, kept_off_on, kept_off_all}
 use Rattle.pci_stand.proofs.off.is_kept_off.Goals as goal
+
+pub returns-then-is_empty : goal.returns-then-is_empty
+returns-then-is_empty c = λ q s told is off slot_is.
+    no_row_keeps q s (region_value s c.args.region.now) c.args.off.now.all.rows.now off.all
+    (nil_from_length c.args.off.now.all.rows.now (eqb-true _ 0 (sym c.is_empty.ensures ∙ c.if-is_empty.true)))
 
 pub returns-then-precedes_off : goal.returns-then-precedes_off
 returns-then-precedes_off c = λ q s told is off slot_is.
