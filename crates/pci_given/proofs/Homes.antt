@@ -1,8 +1,7 @@
 -- A region that the windows on the way pass isn't unreached.
-use Rattle.std.proofs.Common.{◌≡◌, ℕ, ◌<◌, ◌≤◌, ◌/◌, ◌%◌, ◌⊎◌, inl, inr, arith, ◌∙◌, Bool, true, false, not, refl, ap, subst}
-use Rattle.std.specs.Prelude.{◌&&◌, ◌||◌}
+use Rattle.std.proofs.Common.{◌≡◌, ℕ, inl, inr, Bool, true, false, not, refl, ap, subst}
+use Rattle.std.specs.Prelude.{◌||◌}
 use Rattle.std.proofs.lemmas.Bool.{and_from, both_ways}
-use Rattle.std.proofs.Math.Bool.{and-false}
 use Rattle.pci_spec.specs.System.{Function, Space, Io, Memory, IsPassedTo, is_prefetchable_part}
 use Rattle.pci_spec.specs.Slot.{Slot}
 use Rattle.pci_spec.specs.System as system
@@ -14,14 +13,13 @@ use Rattle.pci_tree.specs.Outline.{Tree}
 use Rattle.pci_check.specs.Judgement.{AreHome}
 use Rattle.pci_tree.specs.Trees.{HasTree}
 use Rattle.pci_check.specs.Stops.{Reaches, AreReachesOf, AlwaysNested}
-use Rattle.given_spec.specs.Given.{Given, has_isa, is_cut, is_isa_port}
+use Rattle.given_spec.specs.Given.{Given, is_cut}
 use Rattle.given_spec.specs.Claims.{passes, passes_else}
 use Rattle.given_spec.specs.ToldClaims.{Told}
 use Rattle.given_spec.specs.ToldFault.{IsUnreached}
 use Rattle.pci_given.specs.declared.needed.Needed.{Needed}
 use Rattle.pci_given.specs.Needed.{IsOfRange}
-use Rattle.pci_given.specs.Stopped.{ArePortsLeft, IsNeverUnreached, IsLeftWhole, IsWholeAt, NeverCut}
-use Rattle.pci_claims.proofs.Cutting.{left_where}
+use Rattle.pci_given.specs.Stopped.{IsNeverUnreached, IsLeftWhole, IsWholeAt, NeverCut}
 use Rattle.pci_given.proofs.Unreaching.{unreached_from}
 
 -- what windows pass is passed where ISA Enable takes nothing from them
@@ -33,21 +31,7 @@ never_cut : (given : Given) → NeverCut given Io → (space : Space) (a : ℕ) 
 never_cut given uncut Io a slot = uncut a slot
 never_cut given uncut Memory a slot = refl
 
--- ---- what ISA Enable leaves
-
-pub ports_left : (first last a : ℕ) → (65536 ≤ first) ⊎ ((first / 1024 ≡ last / 1024) × (last % 1024 < 256)) → first ≤ a → a ≤ last → is_isa_port a ≡ false
-ports_left first last a (inl above) low high = left_where a (inl (omega (arith, above, low)))
-ports_left first last a (inr (block, few)) low high = left_where a (inr (omega (arith, block, few, low, high)))
-
-cut_of_port : (given : Given) (space : Space) (a : ℕ) (slot : Slot) → is_isa_port a ≡ false → is_cut given space a slot ≡ false
-cut_of_port given Io a slot left = ap (λ x. has_isa given slot && x) left ∙ and-false (has_isa given slot)
-cut_of_port given Memory a slot left = refl
-
-pub left_by_ports : (given : Given) (n : Needed) → ArePortsLeft n.range → IsLeftWhole given n
-left_by_ports given n left a held slot = cut_of_port given (space_of n.space) a slot (left a held)
-
-pub left_by_space : (given : Given) (n : Needed) → NeverCut given (space_of n.space) → IsLeftWhole given n
-left_by_space given n never a held slot = never a slot
+-- ---- where windows pass all of a region
 
 pub never_where_reached : (given : Given) (t : Tree) (reaches : Reaches) (n : Needed) → AlwaysNested t → AreReachesOf t reaches → IsWholeAt reaches n
     → IsLeftWhole given n → IsNeverUnreached given t n

@@ -29,3 +29,4 @@ pub mod EveryTold
 pub mod Addings
 pub mod Orders
 pub mod Tellings
+pub mod Cuts

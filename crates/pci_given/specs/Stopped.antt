@@ -1,5 +1,5 @@
 -- The first bridge on the way to a region that doesn't pass all that is sent of it.
-use Rattle.std.specs.Prelude.{◌≡◌, ℕ, ◌<◌, IsFalse, List, length, take}
+use Rattle.std.specs.Prelude.{◌≡◌, ℕ, ◌<◌, IsFalse, IsTrue, List, length, take}
 use Rattle.std.specs.List.{All, HoldsAt}
 use Rattle.pci_spec.specs.Slot.{Slot}
 use Rattle.pci_spec.specs.Window.{WindowKind}
@@ -22,18 +22,38 @@ use Rattle.pci_claims.specs.Reached.{PassesAt}
 use Rattle.pci_given.specs.declared.needed.Needed.{Needed}
 use Rattle.pci_given.specs.Needed.{IsNeeded, IsOneOf}
 
--- ISA Enable takes no address of a space from any window
+-- ---- what ISA Enable takes from windows
+
+-- it takes an address of a space from the window of some bridge, or none from any
+pub record HasCut (given : Given) (space : Space) : Type 0 where
+  pub address : ℕ
+  pub bridge : Slot
+  pub cut : IsTrue (is_cut given space address bridge)
+
 abbrev pub NeverCut : Given → Space → Type 0
 NeverCut given space = (a : ℕ) (slot : Slot) → IsFalse (is_cut given space a slot)
 
--- it takes no port of a range from any window
+-- a port of a range is one that it takes, or none is
+pub record HasTakenPort (range : Range) : Type 0 where
+  pub port : ℕ
+  pub held : Holds range port
+  pub taken : IsTrue (is_isa_port port)
+
 abbrev pub ArePortsLeft : Range → Type 0
 ArePortsLeft range = (a : ℕ) → Holds range a → IsFalse (is_isa_port a)
 
--- it takes no address of a region from any window
+-- it takes an address of a region from the window of some bridge, or none from any
+pub record HasCutAddress (given : Given) (n : Needed) : Type 0 where
+  pub address : ℕ
+  pub held : Holds n.range address
+  pub bridge : Slot
+  pub cut : IsTrue (is_cut given (space_of n.space) address bridge)
+
 abbrev pub IsLeftWhole : Given → Needed → Type 0
 IsLeftWhole given n =
     (a : ℕ) → Holds n.range a → (slot : Slot) → IsFalse (is_cut given (space_of n.space) a slot)
+
+-- ---- bridges that stop an address
 
 -- the bridge at a slot passes each address of a range that is sent there
 abbrev pub PassesEach : (ℕ → Type 0) → (ℕ → Slot → Type 0) → Range → Slot → Type 0

@@ -11,7 +11,7 @@ ghost use Rattle.pci_check.specs.Stops.{AreReachesOf, AlwaysNested};
 ghost use Rattle.pci_claims.specs.Values.{given_value};
 ghost use Rattle.pci_claims.specs.Outside.{IsSent};
 ghost use Rattle.pci_claims.specs.Reached.{PassesAt};
-ghost use Rattle.pci_given.specs.Stopped.{ArePortsLeft, IsLeftWhole, NeverCut, PassesSent, IsFirstBridgeThatStops, IsWholeAt, IsNeverUnreached, IsUnreachedLine};
+ghost use Rattle.pci_given.specs.Stopped.{ArePortsLeft, HasCut, HasCutAddress, HasTakenPort, IsLeftWhole, NeverCut, PassesSent, IsFirstBridgeThatStops, IsWholeAt, IsNeverUnreached, IsUnreachedLine};
 
 use super::missed::least_missed;
 use super::needed::Needed;
@@ -109,9 +109,10 @@ fn first_stop_of<A: Allocator + Copy>(
     }
 }
 
-/// Whether ISA Enable takes addresses of a space from some window.
+/// Whether ISA Enable takes an address of a space from the window of some bridge.
 pub fn are_any_cut(given: &Given<'_>, space: Space) -> bool
-    ensures { IsFalse result → NeverCut (given_value given.now) (space_of space) }
+    ensures cut { IsTrue result → HasCut (given_value given.now) (space_of space) }
+    ensures never { IsFalse result → NeverCut (given_value given.now) (space_of space) }
 {
     match space {
         Space::Io => !given.isa.is_empty(),
@@ -119,19 +120,21 @@ pub fn are_any_cut(given: &Given<'_>, space: Space) -> bool
     }
 }
 
-/// Whether ISA Enable leaves all ports of a range to the windows that it cuts: they are above the first 64 KB, or among the
-/// first 256 of one KB.
-#[tactic(auto, using(crate::proofs::Homes::ports_left))]
+/// Whether ISA Enable leaves all ports of a range to the windows that it cuts. Of those from 64 KB on it takes none. Below,
+/// the first one that it takes, from the beginning of the range on, is past the end.
 fn are_ports_left(range: Range) -> bool
-    ensures { IsTrue result → ArePortsLeft range }
+    ensures left { IsTrue result → ArePortsLeft range }
+    ensures taken { IsFalse result → HasTakenPort range }
 {
-    0x1_0000 <= range.first
-        || (range.first / 0x400 == range.last / 0x400 && range.last % 0x400 < 0x100)
+    let first = range.first;
+    0x1_0000 <= first || range.last < first.max(first / 0x400 * 0x400 + 0x100)
 }
 
-/// Whether ISA Enable may take an address of a region from some window.
+/// Whether ISA Enable takes an address of a region from the window of some bridge. This bridge may be on no way to the
+/// region.
 fn may_be_cut(given: &Given<'_>, one: &Needed) -> bool
-    ensures { IsFalse result → IsLeftWhole (given_value given.now) one.now }
+    ensures cut { IsTrue result → HasCutAddress (given_value given.now) one.now }
+    ensures never { IsFalse result → IsLeftWhole (given_value given.now) one.now }
 {
     if are_any_cut(given, one.space) {
         !are_ports_left(one.range)
