@@ -122,8 +122,8 @@ fn has_own(space: Space, around: &Around, record: &Record) -> bool
     requires { HasEachAnswer around.now.answering }
     ensures { result ≡ has_own_by around.now (space_of space) «record».now }
 {
-    is_answering(&around.answering, record.slot, space)
-        || has_kept(space, around.over.above, around.answering.terms, record)
+    has_kept(space, around.over.above, around.answering.terms, record)
+        || is_answering(&around.answering, record.slot, space)
 }
 
 /// Whether a function is on in a space in which it has something to answer, and a bridge above it isn't.

@@ -32,7 +32,7 @@ fn has_own(space: Space, above: Above, answering: &Answering, record: &Record) -
     requires { length answering.now.standing.now ≡ length answering.now.told.ranges.now }
     ensures { result ≡ lives.has_own_by (space_of space) above answering.now «record».now }
 {
-    is_answering(answering, record.slot, space) || has_kept(space, above, answering.terms, record)
+    has_kept(space, above, answering.terms, record) || is_answering(answering, record.slot, space)
 }
 
 /// Whether a function is live: its space is enabled, and it has something of its own there, or something live behind it.
