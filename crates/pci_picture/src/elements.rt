@@ -1,5 +1,5 @@
 //! The elements of a picture, at the end of a text.
-ghost use Rattle.std.specs.Prelude.{◌≡◌, ◌++◌, codes, IsTrue, OnOk};
+ghost use Rattle.std.specs.Prelude.{◌≡◌, ◌++◌, ◌∷◌, [], codes, IsTrue, OnOk};
 ghost use Rattle.std.specs.Fmt.{decimal};
 ghost use Rattle.std.specs.String.{string_bytes};
 ghost use Rattle.pci_picture.specs.Xml.{attribute};
@@ -107,62 +107,64 @@ pub fn push_number<A: Allocator>(
     text.push('"')
 }
 
-/// Appends an attribute whose value is bytes, or nothing where there are none.
+/// Ends the value of the attribute before it, and appends a class where there is one.
 #[tactic(auto, unfolding(crate::specs::Elements::text_attribute))]
-fn push_bytes<A: Allocator>(
-    text: &mut String<A>,
-    name: &str,
-    bytes: &[u8],
-) -> Result<(), AllocError>
-    ensures { OnOk result (string_bytes text.new ≡ string_bytes text.old ++ text_attribute name.now bytes.now) }
+fn push_class<A: Allocator>(text: &mut String<A>, class: &[u8]) -> Result<(), AllocError>
+    ensures { OnOk result
+        (string_bytes text.new ≡ string_bytes text.old ++ 34 ∷ text_attribute (codes "class") class.now) }
 {
-    if bytes.is_empty() {
-        return Ok(());
+    if class.is_empty() {
+        return text.push('"');
     }
-    text.push(' ')?;
-    text.push_str(name)?;
-    text.push_str("=\"")?;
-    push_escaped(text, bytes)?;
+    text.push_str("\" class=\"")?;
+    push_escaped(text, class)?;
     text.push('"')
 }
 
-/// Appends the attributes of a width and a height.
-#[tactic(auto, unfolding(crate::specs::Elements::number_attribute))]
-fn push_size<A: Allocator>(text: &mut String<A>, width: u64, height: u64) -> Result<(), AllocError>
-    ensures { OnOk result (string_bytes text.new ≡ string_bytes text.old
-        ++ (number_attribute (codes "width") width ++ number_attribute (codes "height") height)) }
+/// Appends the name by which a link finds an element, where there is one, and ends the start tag.
+#[tactic(auto, unfolding(crate::specs::Elements::text_attribute))]
+fn push_anchor<A: Allocator>(text: &mut String<A>, anchor: &[u8]) -> Result<(), AllocError>
+    ensures { OnOk result
+        (string_bytes text.new ≡ string_bytes text.old ++ (text_attribute (codes "id") anchor.now ++ 62 ∷ [])) }
 {
-    text.push_str(" width=\"")?;
-    push_decimal(text, width)?;
-    text.push_str("\" height=\"")?;
-    push_decimal(text, height)?;
-    text.push('"')
+    if anchor.is_empty() {
+        return text.push('>');
+    }
+    text.push_str(" id=\"")?;
+    push_escaped(text, anchor)?;
+    text.push_str("\">")
 }
 
-/// Appends the attributes of a rectangle.
-#[tactic(auto, unfolding(crate::specs::Elements::frame_attributes, crate::specs::Elements::place_attributes))]
+/// Appends the start of a rectangle, up to the value of its height.
 fn push_frame<A: Allocator>(text: &mut String<A>, at: Frame) -> Result<(), AllocError>
-    ensures { OnOk result (string_bytes text.new
-        ≡ string_bytes text.old ++ frame_attributes at.x at.y at.width at.height) }
+    ensures { OnOk result (string_bytes text.new ≡ string_bytes text.old
+        ++ (codes "<rect x=\"" ++ (decimal at.x ++ (codes "\" y=\"" ++ (decimal at.y
+        ++ (codes "\" width=\"" ++ (decimal at.width ++ (codes "\" height=\"" ++ decimal at.height)))))))) }
 {
-    push_place(text, at.x, at.y)?;
-    push_size(text, at.width, at.height)
+    text.push_str("<rect x=\"")?;
+    push_decimal(text, at.x)?;
+    text.push_str("\" y=\"")?;
+    push_decimal(text, at.y)?;
+    text.push_str("\" width=\"")?;
+    push_decimal(text, at.width)?;
+    text.push_str("\" height=\"")?;
+    push_decimal(text, at.height)
 }
 
-/// Appends the attributes of a rectangle, and of its look.
-#[tactic(auto, unfolding(crate::specs::Elements::rect_attributes))]
+/// Appends the start tag of a rectangle.
+#[tactic(auto, unfolding(crate::specs::Elements::rect_attributes, crate::specs::Elements::frame_attributes, crate::specs::Elements::number_attribute))]
 fn push_look<A: Allocator>(
     text: &mut String<A>,
     at: Frame,
     class: &[u8],
     anchor: &[u8],
 ) -> Result<(), AllocError>
-    ensures { OnOk result (string_bytes text.new ≡ string_bytes text.old
-        ++ rect_attributes at.x at.y at.width at.height class.now anchor.now) }
+    ensures { OnOk result (string_bytes text.new ≡ string_bytes text.old ++ (codes "<rect"
+        ++ (rect_attributes at.x at.y at.width at.height class.now anchor.now ++ 62 ∷ []))) }
 {
     push_frame(text, at)?;
-    push_bytes(text, "class", class)?;
-    push_bytes(text, "id", anchor)
+    push_class(text, class)?;
+    push_anchor(text, anchor)
 }
 
 /// Appends the title of a box.
@@ -186,26 +188,24 @@ pub fn push_box<A: Allocator>(
     ensures { OnOk result (string_bytes text.new ≡ string_bytes text.old
         ++ box_text at.x at.y at.width at.height class.now anchor.now title.now) }
 {
-    text.push_str("<rect")?;
     push_look(text, at, class, anchor)?;
-    text.push('>')?;
     push_title(text, title)?;
     text.push_str("</rect>\n")
 }
 
-/// Appends the attributes of the place of a line of words.
-#[tactic(auto, unfolding(crate::specs::Elements::place_attributes, crate::specs::Elements::number_attribute))]
+/// Appends the start of a line of words, up to the value of its `y`.
 fn push_place<A: Allocator>(text: &mut String<A>, x: u64, y: u64) -> Result<(), AllocError>
-    ensures { OnOk result (string_bytes text.new ≡ string_bytes text.old ++ place_attributes x y) }
+    ensures { OnOk result (string_bytes text.new ≡ string_bytes text.old
+        ++ (codes "<text x=\"" ++ (decimal x ++ (codes "\" y=\"" ++ decimal y)))) }
 {
-    text.push_str(" x=\"")?;
+    text.push_str("<text x=\"")?;
     push_decimal(text, x)?;
     text.push_str("\" y=\"")?;
-    push_decimal(text, y)?;
-    text.push('"')
+    push_decimal(text, y)
 }
 
 /// Appends a line of words, and a line feed.
+#[tactic(auto, unfolding(crate::specs::Elements::place_attributes, crate::specs::Elements::number_attribute))]
 pub fn push_words<A: Allocator>(
     text: &mut String<A>,
     x: u64,
@@ -216,9 +216,8 @@ pub fn push_words<A: Allocator>(
     ensures { OnOk result
         (string_bytes text.new ≡ string_bytes text.old ++ words_text x y class.now words.now) }
 {
-    text.push_str("<text")?;
     push_place(text, x, y)?;
-    push_bytes(text, "class", class)?;
+    push_class(text, class)?;
     text.push('>')?;
     push_escaped(text, words)?;
     text.push_str("</text>\n")
@@ -249,6 +248,7 @@ fn push_axis_words<A: Allocator>(
 }
 
 /// Appends a line of words at the axis, of which the first ones are grey, and a line feed.
+#[tactic(auto, unfolding(crate::specs::Elements::place_attributes, crate::specs::Elements::number_attribute))]
 pub fn push_axis<A: Allocator>(
     text: &mut String<A>,
     x: u64,
@@ -259,9 +259,8 @@ pub fn push_axis<A: Allocator>(
     ensures { OnOk result
         (string_bytes text.new ≡ string_bytes text.old ++ axis_text x y faint.now words.now) }
 {
-    text.push_str("<text")?;
     push_place(text, x, y)?;
-    push_bytes(text, "class", b"axis")?;
+    push_class(text, b"axis")?;
     text.push('>')?;
     push_axis_words(text, faint, words)?;
     text.push_str("</text>\n")
