@@ -3,7 +3,7 @@ ghost use Rattle.std.specs.Prelude.{IsTrue};
 ghost use Rattle.pci_picture.specs.Lines.{is_slot};
 
 use super::memory::OutOfMemory;
-use super::reading::{hex_byte, hex_number, slot_number, word};
+use super::reading::{cut_line, hex_byte, hex_number, slot_number, stripped, word};
 use std::alloc::Allocator;
 
 /// The secondary and the subordinate bus of a bridge.
@@ -56,9 +56,9 @@ fn function_of(line: &[u8]) -> Option<Function<'_>> {
 
 /// The buses of a line `bus P S B`.
 fn buses_of(line: &[u8]) -> Option<Buses> {
-    if word(line, 0) != b"bus".as_slice() {
+    let [b'b', b'u', b's', b' ', ..] = stripped(line) else {
         return None;
-    }
+    };
     Some(Buses {
         secondary: hex_byte(word(line, 2))?,
         subordinate: hex_byte(word(line, 3))?,
@@ -80,14 +80,20 @@ pub fn read_functions<'a, A: Allocator + Copy>(
     show: &'a str,
 ) -> Result<Vec<Function<'a>, A>, OutOfMemory> {
     let mut functions = Vec::new(alloc);
-    for line in show.split('\n') {
-        let line = line.as_bytes();
+    let mut rest = show.as_bytes();
+    // each step takes a byte at least
+    for _ in 0..show.len() {
+        let (line, behind) = cut_line(rest);
+        rest = behind;
         if let Some(function) = function_of(line) {
             functions.push(function)?;
         } else if let Some(buses) = buses_of(line) {
             if let Some(function) = functions.last_mut() {
                 function.buses = Some(buses);
             }
+        }
+        if rest.is_empty() {
+            break;
         }
     }
     functions.sort_by_key(|function| function.number)?;

@@ -2,6 +2,8 @@
 ghost use Rattle.std.specs.Prelude.{◌≡◌, ◌≤◌, ◌<◌, length, is_some, IfSome};
 ghost use Rattle.pci_picture.specs.Lines.{indent_of, content_of, words_of, nth_word, digit_of, number_of, decimal_digit_of, decimal_number, is_register, is_slot, is_range, is_told_number};
 
+use std::simd::prelude::*;
+
 /// The word of a line at an index, or nothing where it has fewer.
 #[tactic(auto, unfolding(crate::specs::Lines::words_of))]
 pub fn word(line: &[u8], index: usize) -> &[u8]
@@ -35,6 +37,37 @@ pub fn stripped(line: &[u8]) -> &[u8]
     ensures { result.now ≡ content_of line.now }
 {
     &line[indent(line)..]
+}
+
+/// How many bytes of a text stand before its first line feed. Most lines are long, so it looks at sixteen bytes at once.
+fn line_length(text: &[u8]) -> usize {
+    let mut length = 0usize;
+    let mut rest = text;
+    for _ in 0..text.len() {
+        let Some((sixteen, behind)) = rest.split_first_chunk::<16>() else {
+            break;
+        };
+        let feeds = u8x16::from_array(*sixteen).simd_eq(u8x16::splat(b'\n'));
+        let bits = feeds.to_bitmask();
+        if bits != 0 {
+            return length.saturating_add(bits.trailing_zeros() as usize);
+        }
+        length = length.saturating_add(16);
+        rest = behind;
+    }
+    match rest.iter().position(|byte| *byte == b'\n') {
+        Some(place) => length.saturating_add(place),
+        None => text.len(),
+    }
+}
+
+/// The first line of a text, and what stands behind its line feed.
+pub fn cut_line(text: &[u8]) -> (&[u8], &[u8]) {
+    let length = line_length(text);
+    (
+        text.get(..length).unwrap_or(text),
+        text.get(length.saturating_add(1)..).unwrap_or(&[]),
+    )
 }
 
 /// The value of a hex digit in lower case.
