@@ -6,7 +6,7 @@ ghost use Rattle.pci_picture.specs.Lines.{region_lines};
 ghost use Rattle.pci_picture.specs.Maps.{lines_read};
 
 use super::faults::{Fault, Faults};
-use super::function::{Buses, Function, find, give_titles, read_functions};
+use super::function::{Buses, Function, Span, find, give_titles, read_functions};
 use super::map::Map;
 use super::memory::OutOfMemory;
 use super::reading::{bus_of, slot_of};
@@ -31,8 +31,43 @@ pub struct Texts<'a> {
 #[derive(Drop)]
 pub struct Board<'a, A: Allocator> {
     pub functions: Vec<Function<'a>, A>,
+    /// For each bus how many functions stand on lower buses; the last number counts all functions.
+    starts: [usize; 257],
+    /// The names of all functions, one behind the other.
+    names: Words<A>,
     pub map: Map<'a, A>,
     pub faults: Faults<'a, A>,
+}
+
+/// For each bus how many functions stand on lower buses, of functions by rising slot. The last number counts all functions.
+fn starts_of(functions: &[Function<'_>]) -> [usize; 257] {
+    let mut starts = [0usize; 257];
+    for (index, function) in functions.iter().enumerate() {
+        starts[bus_of(function.number) as usize + 1] = index.saturating_add(1);
+    }
+    for bus in 1..257usize {
+        starts[bus] = starts[bus].max(starts[bus - 1]);
+    }
+    starts
+}
+
+/// The names of functions one behind the other. Each function gets the place of its own name.
+fn names_of<A: Allocator + Copy>(
+    alloc: A,
+    functions: &mut [Function<'_>],
+) -> Result<Words<A>, OutOfMemory> {
+    let mut names = Words::new(alloc);
+    for index in 0..functions.len() {
+        let begin = names.bytes.len();
+        if let Some(function) = functions.get_mut(index) {
+            names.put_name(function)?;
+            function.name = Span {
+                begin,
+                end: names.bytes.len(),
+            };
+        }
+    }
+    Ok(names)
 }
 
 impl<'a, A: Allocator + Copy> Board<'a, A> {
@@ -43,13 +78,23 @@ impl<'a, A: Allocator + Copy> Board<'a, A> {
     {
         let mut functions = read_functions(alloc, texts.show)?;
         give_titles(&mut functions, texts.titles);
+        let starts = starts_of(&functions);
+        let names = names_of(alloc, &mut functions)?;
         let map = Map::read(alloc, texts.map)?;
         let faults = Faults::read(alloc, texts.faults)?;
         Ok(Board {
             functions,
+            starts,
+            names,
             map,
             faults,
         })
+    }
+
+    /// The index of the first function on a bus, and the one behind its last.
+    pub fn on_bus(&self, bus: u8) -> (usize, usize) {
+        let index = bus as usize;
+        (self.starts[index], self.starts[index + 1])
     }
 
     /// The function of a region.
@@ -57,7 +102,24 @@ impl<'a, A: Allocator + Copy> Board<'a, A> {
         if region.part == Part::Free {
             return None;
         }
-        find(self.functions.as_slice(), slot_of(region.key))
+        let slot = slot_of(region.key);
+        let (begin, end) = self.on_bus(bus_of(slot));
+        find(self.functions.as_slice().get(begin..end)?, slot)
+    }
+
+    /// The name of a function: its title, else what its class is and its two identifiers.
+    pub fn name(&self, function: &Function<'_>) -> &[u8] {
+        let names = self.names.bytes.as_slice();
+        let name = function.name;
+        names.get(name.begin..name.end).unwrap_or(&[])
+    }
+
+    /// The name of a region's function, or nothing where it isn't listed.
+    fn function_name(&self, region: &Region<'_>) -> &[u8] {
+        match self.function(region) {
+            Some(function) => self.name(function),
+            None => &[],
+        }
     }
 
     /// The buses behind a window.
@@ -76,10 +138,9 @@ impl<'a, A: Allocator + Copy> Board<'a, A> {
             return Ok(());
         }
         words.put(b", ")?;
-        if region.name.is_empty() {
-            words.put_name(function)
-        } else {
-            words.put(region.name)
+        match function {
+            Some(function) if region.name.is_empty() => words.put(self.name(function)),
+            _ => words.put(region.name),
         }
     }
 
@@ -107,9 +168,8 @@ impl<'a, A: Allocator + Copy> Board<'a, A> {
         Ok(title)
     }
 
-    /// Appends the name of a region's function, the buses behind a window, and the lines of the region's faults.
+    /// Appends the buses behind a window, and the lines of a region's faults.
     fn put_about(&self, words: &mut Words<A>, region: &Region<'_>) -> Result<(), OutOfMemory> {
-        words.put_name(self.function(region))?;
         if region.part == Part::Window {
             words.put(b"\nto ")?;
             words.put_buses(self.buses(region))?;
@@ -134,6 +194,7 @@ impl<'a, A: Allocator + Copy> Board<'a, A> {
         let mut about = Words::new(alloc);
         self.put_about(&mut about, region)?;
         title.put(b"\n")?;
+        title.put(self.function_name(region))?;
         title.put(about.bytes.as_slice())?;
         Ok(title)
     }

@@ -13,6 +13,13 @@ pub struct Buses {
     pub subordinate: u8,
 }
 
+/// Where a name begins and ends among all names.
+#[derive(Clone, Copy)]
+pub struct Span {
+    pub begin: usize,
+    pub end: usize,
+}
+
 /// A function.
 #[derive(Clone, Copy)]
 pub struct Function<'a> {
@@ -28,6 +35,8 @@ pub struct Function<'a> {
     pub buses: Option<Buses>,
     /// Its title in the dump, or nothing.
     pub title: &'a [u8],
+    /// Where its name stands among the names of all functions.
+    pub name: Span,
     ghost is_slot: { IsTrue (is_slot slot.now) },
 }
 
@@ -51,6 +60,7 @@ fn function_of(line: &[u8]) -> Option<Function<'_>> {
         is_on: command & 3 != 0,
         buses: None,
         title: &[],
+        name: Span { begin: 0, end: 0 },
     })
 }
 

@@ -33,12 +33,8 @@ struct Rest {
 
 /// Which functions are on a bus.
 fn on_bus<A: Allocator + Copy>(board: &Board<'_, A>, bus: u8, depth: u64) -> Rest {
-    let functions = &board.functions;
-    Rest {
-        next: functions.partition_point(|function| bus_of(function.number) < bus),
-        end: functions.partition_point(|function| bus_of(function.number) <= bus),
-        depth,
-    }
+    let (next, end) = board.on_bus(bus);
+    Rest { next, end, depth }
 }
 
 /// Appends the numbers of the faults that the tree shows beside a function.
@@ -92,16 +88,12 @@ fn draw_function<A: Allocator + Copy>(
     canvas.add_box(shape, function.slot)
 }
 
-/// Writes the slot of a function, the buses behind it where it is a bridge, and its name, cut to a width.
-fn write_function<A: Allocator + Copy>(
+/// The words beside a function: its slot, the buses behind it where it is a bridge, and its name.
+fn words_of<A: Allocator + Copy>(
     alloc: A,
-    canvas: &mut Canvas<A>,
+    board: &Board<'_, A>,
     function: &Function<'_>,
-    label: Label<'_>,
-    width: u64,
-) -> Result<(), OutOfMemory>
-    ensures { OnOk result (Adds [] canvas.old canvas.new) }
-{
+) -> Result<Words<A>, OutOfMemory> {
     let mut words = Words::of(alloc, function.slot)?;
     words.put(b" ")?;
     if function.buses.is_some() {
@@ -109,8 +101,8 @@ fn write_function<A: Allocator + Copy>(
         words.put_buses(function.buses)?;
         words.put(b", ")?;
     }
-    words.put_name(Some(function))?;
-    canvas.add_cut(label, &mut words, width)
+    words.put(board.name(function))?;
+    Ok(words)
 }
 
 /// Draws the row of a function: its box, its words, and at the right the numbers of its faults.
@@ -143,7 +135,8 @@ fn draw_row<A: Allocator + Copy>(
         class,
     };
     let room = (LEFT + TREE - 36).saturating_sub(x).saturating_sub(taken);
-    write_function(alloc, canvas, function, label, room)?;
+    let mut words = words_of(alloc, board, function)?;
+    canvas.add_cut(label, &mut words, room)?;
     let beside = Label {
         x: (LEFT + TREE - 16).saturating_sub(taken),
         y,

@@ -99,10 +99,7 @@ impl<A: Allocator + Copy> Words<A> {
     }
 
     /// Appends the title of a function, else what its class is and its two identifiers.
-    pub fn put_name(&mut self, function: Option<&Function<'_>>) -> Result<(), OutOfMemory> {
-        let Some(function) = function else {
-            return Ok(());
-        };
+    pub fn put_name(&mut self, function: &Function<'_>) -> Result<(), OutOfMemory> {
         if !function.title.is_empty() {
             return self.put(function.title);
         }
