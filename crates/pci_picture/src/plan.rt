@@ -9,7 +9,7 @@ use super::heights::{Cut, Heights};
 use super::lanes::{Width, widths};
 use super::memory::OutOfMemory;
 use super::reading::{extent_of, word};
-use super::region::Region;
+use super::region::{Part, Region};
 use std::alloc::Allocator;
 
 /// The width of the axis.
@@ -212,6 +212,21 @@ fn push_cuts<A: Allocator + Copy>(
     Ok(())
 }
 
+/// Adds the last ends of some regions as cuts: those of windows, or those of all others.
+fn push_ends<A: Allocator + Copy>(
+    cuts: &mut Vec<Cut, A>,
+    regions: &[Region<'_>],
+    of_windows: bool,
+) -> Result<(), OutOfMemory> {
+    for region in regions {
+        if (region.part == Part::Window) == of_windows {
+            let end = u128::from(region.last) + 1;
+            cuts.push(Cut { at: end, end })?;
+        }
+    }
+    Ok(())
+}
+
 /// The cuts of a section, by rising address.
 fn cuts_of<A: Allocator + Copy>(
     alloc: A,
@@ -222,13 +237,14 @@ fn cuts_of<A: Allocator + Copy>(
 {
     let mut cuts = Vec::new(alloc);
     for region in regions {
-        let end = u128::from(region.last) + 1;
         cuts.push(Cut {
             at: u128::from(region.first),
-            end,
+            end: u128::from(region.last) + 1,
         })?;
-        cuts.push(Cut { at: end, end })?;
     }
+    // most cuts of each kind come in the order of addresses, which the sort makes use of
+    push_ends(&mut cuts, regions, false)?;
+    push_ends(&mut cuts, regions, true)?;
     push_cuts(&mut cuts, tellings.shared.as_slice())?;
     push_cuts(&mut cuts, tellings.fits.as_slice())?;
     cuts.sort_by_key(|cut| cut.at)?;
