@@ -1,6 +1,7 @@
 -- What rows hold behind a bridge is what lines hold there, and what is far from some ranges keeps no place in these from being free.
-use Rattle.std.proofs.Common.{◌≡◌, ℕ, zero, suc, ◌+◌, ◌<◌, inl, inr, Bool, true, false, ◌&&◌, List, [], ◌∷◌, ◌++◌, map, length, get_or, refl, sym, ap, subst, ◌∙◌, arith}
+use Rattle.std.proofs.Common.{◌≡◌, ℕ, zero, suc, ◌+◌, ◌<◌, inl, inr, Bool, true, ◌&&◌, List, [], ◌∷◌, ◌++◌, map, length, get_or, sym, ap, subst, ◌∙◌, arith}
 use Rattle.std.specs.Bool.{nat_le}
+use Rattle.std.proofs.Math.Bool.{and_assoc}
 use Rattle.std.specs.List.{Contains, filter}
 use Rattle.std.proofs.lemmas.List.Elements.{Contains-append_left, Contains-append_right, Contains-append_cases}
 use Rattle.std.proofs.lemmas.List.Sorted.{IsPermutation-sym, Contains-permutation}
@@ -42,10 +43,6 @@ row_by roots n (t ∷ ranges) zero d low = record { at = n; has = in_head (told_
 row_by roots n (t ∷ ranges) (suc k) d low =
     let more = row_by roots (n + 1) ranges k d (omega (arith, low)) in
     record { at = more.at; has = in_tail (told_row roots n t) (rows_from roots (n + 1) ranges) (told_row roots more.at (get_or ranges k d)) more.has }
-
-and_assoc : (x y z : Bool) → ((x && y) && z) ≡ (x && (y && z))
-and_assoc true y z = refl
-and_assoc false y z = refl
 
 -- ---- behind the window of a bridge
 

@@ -33,8 +33,8 @@ AreTakenAt st n space taken =
     (q : Request) (s : System) (keep : Kept) (bus : ℕ) → AreHeld q s keep st.held.now
     → AreLines q.roots q.told.ranges st.lines.now → n ≡ level q bus → AreListed (taken_at q s keep space bus) taken
 
--- of some ranges these are listed: all that share an address with one of the ranges in which a place is looked for, and no others
--- than those
+-- Of some ranges these are listed: all that share an address with one of the ranges in which a place is looked for, and perhaps
+-- others of them.
 pub record AreNearListed (ranges : List Range) (more : List DecodedRange) (listed : List Range) : Type 0 where
   pub of : (t : DecodedRange) → Contains (map decoded_range_of listed) t → Contains more t
   pub near : (t : DecodedRange) → Contains more t → Contains (map decoded_range_of listed) t ⊎ IsFar ranges t

@@ -1,5 +1,5 @@
 //! What told ranges hold behind new windows, where that can keep a place from being free.
-ghost use Rattle.std.specs.Prelude.{◌≡◌, ◌<◌, IfOk, length, map, slice_index_or, []};
+ghost use Rattle.std.specs.Prelude.{◌≡◌, ◌<◌, IfOk, length, map};
 ghost use Rattle.std.specs.List.{All};
 ghost use Rattle.pci_settle.specs.Placings.{HasListAt};
 ghost use Rattle.pci_settled.specs.Candidates.{IsWithin};
@@ -24,7 +24,8 @@ pub struct Asked<'a, A: Allocator> {
     pub wanted: &'a [Wanted],
 }
 
-/// What lines hold behind an item, near to the ranges in which its place is looked for: nothing where it is no new window.
+/// What lines hold behind an item: all that share an address with the ranges in which its place is looked for, and perhaps
+/// others. Nothing where it is no new window.
 fn behind_one<A: Allocator>(
     alloc: A,
     records: &[Record],
@@ -56,8 +57,8 @@ fn behind_one<A: Allocator>(
     }
 }
 
-/// What lines hold behind each of some items, by index, near to the ranges in which its place is looked for. Nothing where it is
-/// no new window; where nothing is told the table is empty.
+/// What lines hold behind each of some items, by index: all that share an address with the ranges in which its place is looked
+/// for, and perhaps others. Nothing where it is no new window; where nothing is told the table is empty.
 pub fn behind_each<A: Allocator + Copy>(
     alloc: A,
     records: &[Record],
