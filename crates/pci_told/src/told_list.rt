@@ -36,8 +36,8 @@ impl<A: Allocator> ToldList<A> {
         }
     }
 
-    /// These ranges.
-    pub(crate) fn of(ranges: Vec<ToldRange, A>) -> ToldList<A>
+    /// These ranges, which stand in the order of their slots.
+    pub fn of(ranges: Vec<ToldRange, A>) -> ToldList<A>
         requires { IsTold ranges.items }
         ensures { result ≡ ranges.items }
     {
