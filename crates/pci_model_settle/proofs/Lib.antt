@@ -1,0 +1,4 @@
+mod Sleeping
+mod Staying
+mod SlotBlocks
+mod Puts

@@ -1,0 +1,3 @@
+pub mod Unmoved
+pub mod SleepTables
+pub mod Listed
