@@ -2,3 +2,5 @@ mod Sleeping
 mod Staying
 mod SlotBlocks
 mod Puts
+pub mod MergedLines
+pub mod HeldLines

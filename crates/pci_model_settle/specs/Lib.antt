@@ -1,3 +1,5 @@
 pub mod Unmoved
 pub mod SleepTables
 pub mod Listed
+pub mod ClaimLines
+pub mod LineValues

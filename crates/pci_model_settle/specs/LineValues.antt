@@ -1,0 +1,44 @@
+-- Lines as the definitions have them.
+use Rattle.std.specs.Prelude.{◌≡◌, ℕ, nat_le, Bool, true, false, List, [], ◌∷◌, ◌++◌, map}
+use Rattle.pci_spec.specs.Slot.{slot_number}
+use Rattle.given_spec.specs.Told.{ToldRange}
+use Rattle.pci_base.specs.Space.{space_of}
+use Rattle.pci_told.specs.Marks.{mark_of}
+use Rattle.pci_model_settle.specs.declared.claim_lines.Line.{Line as CodeLine}
+use Rattle.pci_model_settle.specs.ClaimLines.{Line, Kept, claim_line}
+
+abbrev pub line_value : CodeLine → Line
+line_value l = record {
+  range = record {
+    slot = l.slot;
+    space = space_of l.space;
+    prefetchable = l.prefetchable;
+    first = l.first;
+    last = l.last;
+    mark = mark_of l.mark;
+    name = [];
+  };
+  number = l.number;
+}
+
+-- what lines are put in order by
+abbrev pub key_of : CodeLine → ℕ
+key_of l = slot_number l.slot
+
+-- the ranges of lines
+abbrev pub ranges_in : List CodeLine → List ToldRange
+ranges_in lines = map (λ l. (line_value l).range) lines
+
+-- some held ranges are put behind lines
+abbrev pub AddsClaims : List CodeLine → List CodeLine → List ToldRange → Type 0
+AddsClaims old new claims = map line_value new ≡ map line_value old ++ map claim_line claims
+
+-- whether the next line of two lists is the first list's
+abbrev pub is_next : List CodeLine → List CodeLine → Bool
+is_next xs [] = true
+is_next [] (y ∷ ys) = false
+is_next (x ∷ xs) (y ∷ ys) = nat_le (key_of x) (key_of y)
+
+-- lines as they are kept
+abbrev pub kept_of : List CodeLine → Kept
+kept_of lines = record { told = ranges_in lines; numbers = 0 ∷ map (λ l. l.number) lines }

@@ -1,0 +1,370 @@
+//! Legacy parts and palette parts of bridges as held ranges among the ranges that a user tells, so that settling places
+//! nothing on them (Bridge 1.2, 3.2.5.18; PCI 3.0, 6.2.2).
+ghost use Rattle.std.specs.Prelude.{◌≡◌, ◌+◌, ◌<◌, ◌≤◌, ◌↔◌, nat_le, length, map, Err, IfOk, OnOk, MatchOption};
+ghost use Rattle.std.specs.List.{flat_map};
+ghost use Rattle.pci_base.specs.declared.memory.Refused.TheVariants as Refused;
+ghost use Rattle.pci_base.specs.Space.{space_of};
+ghost use Rattle.given_spec.specs.Told.{IsTold};
+ghost use Rattle.pci_claims.specs.Values.{legacy_value};
+ghost use Rattle.pci_claims.specs.Legacy.{blocks_of};
+ghost use Rattle.pci_model_settle.specs.ClaimLines.{AreBySlot, claim_line, claim_lines, held, joined, kept_lines, lines_with, merged, part_lines, port_lines, told_line, told_line_of, told_lines};
+ghost use Rattle.pci_model_settle.specs.LineValues.{AddsClaims, is_next, kept_of, key_of, line_value, ranges_in};
+
+use arrayvec::ArrayVec;
+use pci_base::memory::{OutOfMemory, Refused};
+use pci_base::range::Range;
+use pci_base::slot::Slot;
+use pci_base::space::Space;
+use pci_claims::given::LegacyBridge;
+use pci_claims::legacy::FixedPart;
+use pci_told::told_list::ToldList;
+use pci_told::told_range::{Mark, ToldRange};
+use std::alloc::Allocator;
+use std::marker::Model;
+
+/// The most lines of a list of told ranges.
+const LINES_MAX: u64 = 4096;
+
+/// Ports of a VGA adapter, and ports of its palette, counted from the start of a KB.
+const VGA_LOW: Range = Range {
+    first: 0x3b0,
+    last: 0x3bb,
+};
+
+const VGA_HIGH: Range = Range {
+    first: 0x3c0,
+    last: 0x3df,
+};
+
+const PALETTE_LOW: Range = Range {
+    first: 0x3c6,
+    last: 0x3c6,
+};
+
+const PALETTE_HIGH: Range = Range {
+    first: 0x3c8,
+    last: 0x3c9,
+};
+
+/// The lines that a user tells and those of the parts of bridges are more than 4,096.
+#[derive(Clone, Copy, Debug, PartialEq, Eq)]
+pub struct TooManyLines;
+
+/// A told range without its name, or a held one of a bridge.
+#[derive(Clone, Copy)]
+struct Line {
+    slot: Slot,
+    space: Space,
+    prefetchable: bool,
+    first: u64,
+    last: u64,
+    mark: Mark,
+    /// The user's line, counted from 1; 0 where the range is a bridge's.
+    number: u16,
+}
+
+/// Told ranges with those of bridges among them, and which lines of them are the user's.
+#[derive(Drop)]
+pub struct KeptLines<A: Allocator> {
+    told: ToldList<A>,
+    /// By line, counted from 1: the user's line, or 0. Line 0 is none.
+    numbers: Vec<u16, A>,
+}
+
+impl<A: Allocator> Model for KeptLines<A> {
+    ghost use Rattle.pci_model_settle.specs.ClaimLines.{Kept};
+
+    ghost Value = { Kept };
+
+    ghost view = { λ k. record { told = k.told; numbers = k.numbers.items } };
+}
+
+impl<A: Allocator> KeptLines<A> {
+    /// The ranges by slot. Of one slot, those of the user stand first.
+    pub fn told(&self) -> &ToldList<A>
+        ensures { result.now ≡ self.now.told }
+    {
+        &self.told
+    }
+
+    /// The user's line that is this line of the ranges, both counted from 1: `None` where it is a bridge's, or isn't there.
+    pub fn told_line(&self, line: u16) -> Option<u16>
+        ensures { result ≡ told_line self.now line }
+    {
+        match self.numbers.get(usize::from(line)) {
+            None => None,
+            Some(number) if *number == 0 => None,
+            Some(number) => Some(*number),
+        }
+    }
+}
+
+/// A range that a user tells, by its line.
+fn told_line_of(range: &ToldRange, number: u16) -> Line
+    ensures { line_value result ≡ told_line_of number range.now }
+{
+    Line {
+        slot: range.slot,
+        space: range.space,
+        prefetchable: range.prefetchable,
+        first: range.first,
+        last: range.last,
+        mark: range.mark,
+        number,
+    }
+}
+
+/// Addresses of a slot, as a held range.
+fn held(slot: Slot, space: Space, first: u64, last: u64) -> Line
+    ensures { line_value result ≡ claim_line (held slot (space_of space) first last) }
+{
+    Line {
+        slot,
+        space,
+        prefetchable: false,
+        first,
+        last,
+        mark: Mark::Held,
+        number: 0,
+    }
+}
+
+/// The range of a line.
+fn range_of(line: Line) -> ToldRange
+    ensures { result ≡ (line_value line).range }
+{
+    ToldRange {
+        slot: line.slot,
+        space: line.space,
+        prefetchable: line.prefetchable,
+        first: line.first,
+        last: line.last,
+        mark: line.mark,
+        name: ArrayVec::new(),
+    }
+}
+
+/// The lines that a user tells, with their numbers.
+fn told_lines<A: Allocator>(alloc: A, ranges: &[ToldRange]) -> Result<Vec<Line, A>, OutOfMemory>
+    requires { length ranges.now ≤ 4096 }
+    ensures { IfOk result (λ v. map line_value v.items ≡ told_lines 1 ranges.now) }
+{
+    let mut out = Vec::new(alloc);
+    let mut number = 0;
+    for range in ranges {
+        number += 1;
+        out.push(told_line_of(range, number))?;
+    }
+    Ok(out)
+}
+
+/// In how many KB of the first 64 a part has ports: in each where the bridge decodes 10 bits of their addresses.
+fn kb_of(is_wide: bool) -> u64
+    ensures value { result ≡ blocks_of is_wide }
+    ensures few { result ≤ 64 }
+{
+    if is_wide { 1 } else { 64 }
+}
+
+/// Adds two ranges of ports in each of so many KB: the two count from the start of the KB.
+fn add_ports<A: Allocator>(
+    out: &mut Vec<Line, A>,
+    bridge: &LegacyBridge,
+    low: Range,
+    high: Range,
+) -> Result<(), OutOfMemory>
+    requires low { (low.first < 0x400) × (low.last < 0x400) }
+    requires high { (high.first < 0x400) × (high.last < 0x400) }
+    ensures { OnOk result (AddsClaims out.old.items out.new.items
+        (port_lines bridge.now.slot low high (blocks_of bridge.now.is_wide))) }
+{
+    for kb in 0..kb_of(bridge.is_wide) {
+        let base = kb * 0x400;
+        out.push(held(bridge.slot, Space::Io, base + low.first, base + low.last))?;
+        out.push(held(bridge.slot, Space::Io, base + high.first, base + high.last))?;
+    }
+    Ok(())
+}
+
+/// How many ranges a part of a bridge has.
+fn line_count(part: FixedPart, bridge: &LegacyBridge) -> u64
+    ensures value { result ≡ length (part_lines part (legacy_value bridge.now)) }
+    ensures few { result ≤ 129 }
+{
+    let ports = 2 * kb_of(bridge.is_wide);
+    match part {
+        FixedPart::Legacy => ports + 1,
+        FixedPart::Palette => ports,
+    }
+}
+
+/// Adds the ports of a VGA adapter and its frame buffer, or the ports of its palette.
+fn add_part<A: Allocator>(
+    out: &mut Vec<Line, A>,
+    part: FixedPart,
+    bridge: &LegacyBridge,
+) -> Result<(), OutOfMemory>
+    ensures { OnOk result (AddsClaims out.old.items out.new.items (part_lines part (legacy_value bridge.now))) }
+{
+    match part {
+        FixedPart::Legacy => {
+            add_ports(out, bridge, VGA_LOW, VGA_HIGH)?;
+            out.push(held(bridge.slot, Space::Mem, 0xa_0000, 0xb_ffff))?;
+            Ok(())
+        }
+        FixedPart::Palette => add_ports(out, bridge, PALETTE_LOW, PALETTE_HIGH),
+    }
+}
+
+/// What the part of each bridge has.
+fn claims_of<A: Allocator>(
+    alloc: A,
+    part: FixedPart,
+    bridges: &[LegacyBridge],
+) -> Result<Vec<Line, A>, OutOfMemory>
+    ensures { IfOk result (λ v. map line_value v.items
+        ≡ map claim_line (flat_map (part_lines part) (map legacy_value bridges.now))) }
+{
+    let mut out = Vec::new(alloc);
+    for bridge in bridges {
+        add_part(&mut out, part, bridge)?;
+    }
+    Ok(out)
+}
+
+/// Whether the next line of two lists is the first list's: it has one whose slot isn't above the second list's next.
+fn is_next(first: &[Line], second: &[Line]) -> bool
+    ensures { result ≡ is_next first.now second.now }
+{
+    match (first.first(), second.first()) {
+        (_, None) => true,
+        (None, Some(_)) => false,
+        (Some(line), Some(other)) => line.slot.number() <= other.slot.number(),
+    }
+}
+
+/// Two lists by slot as one. Of one slot, the lines of the first list stand first.
+fn merged<A: Allocator>(
+    alloc: A,
+    first: &[Line],
+    second: &[Line],
+) -> Result<Vec<Line, A>, OutOfMemory>
+    requires { length first.now + length second.now ≤ 4096 }
+    ensures { IfOk result (λ v. v.items ≡ merged key_of first.now second.now) }
+{
+    let mut out = Vec::new(alloc);
+    let (mut i, mut j) = (0, 0);
+    for _ in 0..first.len() + second.len() {
+        if is_next(&first[i..], &second[j..]) {
+            out.push(first[i])?;
+            i += 1;
+        } else {
+            out.push(second[j])?;
+            j += 1;
+        }
+    }
+    Ok(out)
+}
+
+/// How many lines are left of some behind those of each bridge's part: `None` where they don't suffice.
+fn lines_left(lines: u64, part: FixedPart, bridges: &[LegacyBridge]) -> Option<u64>
+    ensures { MatchOption result
+        (lines < length (flat_map (part_lines part) (map legacy_value bridges.now)))
+        (λ left. left + length (flat_map (part_lines part) (map legacy_value bridges.now)) ≡ lines) }
+{
+    let mut left = lines;
+    for bridge in bridges {
+        let count = line_count(part, bridge);
+        if left < count {
+            return None;
+        }
+        left -= count;
+    }
+    Some(left)
+}
+
+/// Whether the lines of bridges' parts are no more than there is room for.
+fn is_room(lines: u64, legacy: &[LegacyBridge], palette: &[LegacyBridge]) -> bool
+    ensures { result ≡ nat_le (length (claim_lines (map legacy_value legacy.now)
+        (map legacy_value palette.now))) lines }
+{
+    match lines_left(lines, FixedPart::Legacy, legacy) {
+        None => false,
+        Some(left) => match lines_left(left, FixedPart::Palette, palette) {
+            None => false,
+            Some(_) => true,
+        },
+    }
+}
+
+/// The ranges of lines, and their numbers.
+fn kept<A: Allocator + Copy>(alloc: A, lines: &[Line]) -> Result<KeptLines<A>, OutOfMemory>
+    requires { IsTold (ranges_in lines.now) }
+    ensures { IfOk result (λ k. k ≡ kept_of lines.now) }
+{
+    let mut ranges = Vec::new(alloc);
+    let mut numbers = Vec::new(alloc);
+    numbers.push(0)?;
+    for line in lines {
+        ranges.push(range_of(*line))?;
+        numbers.push(line.number)?;
+    }
+    Ok(KeptLines {
+        told: ToldList::of(ranges),
+        numbers,
+    })
+}
+
+/// The lines that a user tells and those of bridges' parts, where they are no more than a list may have.
+fn joined<A: Allocator + Copy>(
+    alloc: A,
+    ranges: &[ToldRange],
+    legacy: &[LegacyBridge],
+    palette: &[LegacyBridge],
+) -> Result<Vec<Line, A>, OutOfMemory>
+    requires told { IsTold ranges.now }
+    requires few { length (lines_with ranges.now (claim_lines (map legacy_value legacy.now)
+        (map legacy_value palette.now))) ≤ 4096 }
+    ensures { IfOk result (λ v. map line_value v.items ≡ joined ranges.now
+        (claim_lines (map legacy_value legacy.now) (map legacy_value palette.now))) }
+{
+    let told = told_lines(alloc, ranges)?;
+    let legacy = claims_of(alloc, FixedPart::Legacy, legacy)?;
+    let palette = claims_of(alloc, FixedPart::Palette, palette)?;
+    let claims = merged(alloc, &legacy, &palette)?;
+    merged(alloc, &told, &claims)
+}
+
+/// The ranges that a user tells, with those of legacy parts and palette parts among them, which are held.
+///
+/// # Errors
+///
+/// `TooManyLines` where they are more than 4,096; `Memory` (2) where a growth was refused.
+pub fn lines_with_claims<A: Allocator + Copy>(
+    alloc: A,
+    ranges: &[ToldRange],
+    legacy: &[LegacyBridge],
+    palette: &[LegacyBridge],
+) -> Result<KeptLines<A>, Refused<TooManyLines>>
+    requires told { IsTold ranges.now }
+    // so that the list is in the order of slots, too
+    requires legacy { AreBySlot (map legacy_value legacy.now) }
+    requires palette { AreBySlot (map legacy_value palette.now) }
+    ensures kept { IfOk result (λ k. k ≡ kept_lines ranges.now
+        (claim_lines (map legacy_value legacy.now) (map legacy_value palette.now))) }
+    // both ways: lines that are no more are refused for want of memory alone
+    ensures fault { (result ≡ Err (Refused.Fault (record {}))) ↔ 4096 < length (lines_with ranges.now
+        (claim_lines (map legacy_value legacy.now) (map legacy_value palette.now))) }
+{
+    if !is_room(LINES_MAX - ranges.len() as u64, legacy, palette) {
+        return Err(Refused::Fault(TooManyLines));
+    }
+    let lines = match joined(alloc, ranges, legacy, palette) {
+        Ok(lines) => lines,
+        Err(OutOfMemory) => return Err(Refused::Memory),
+    };
+    match kept(alloc, &lines) {
+        Ok(kept) => Ok(kept),
+        Err(OutOfMemory) => Err(Refused::Memory),
+    }
+}
