@@ -4,3 +4,4 @@ mod SlotBlocks
 mod Puts
 pub mod MergedLines
 pub mod HeldLines
+pub mod PartAddresses

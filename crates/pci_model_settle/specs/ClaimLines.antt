@@ -1,12 +1,13 @@
 -- The addresses that legacy parts and palette parts of bridges have, as held ranges among those that a user tells.
 use Rattle.std.specs.Prelude.{ℕ, zero, suc, ◌+◌, ◌*◌, ◌==◌, nat_le, if◌then◌else◌, List, [], ◌∷◌, ◌++◌, map, Option, None, Some, false, slice_index_or}
-use Rattle.std.specs.List.{flat_map, All}
+use Rattle.std.specs.List.{flat_map, All, Any}
 use Rattle.std.specs.List.Sorted.{IsNonDecreasingBy}
 use Rattle.pci_base.specs.declared.range.Range.{Range}
 use Rattle.pci_spec.specs.Slot.{Slot, IsSlot, slot_number}
 use Rattle.pci_spec.specs.System.{Space, Io, Memory}
 use Rattle.given_spec.specs.Given.{LegacyBridge}
 use Rattle.given_spec.specs.Told.{ToldRange, Held}
+use Rattle.given_spec.specs.ToldClaims.{Holds}
 use Rattle.pci_claims.specs.declared.legacy.FixedPart.{FixedPart}
 use Rattle.pci_claims.specs.declared.legacy.FixedPart.TheVariants.{Legacy, Palette}
 use Rattle.pci_claims.specs.Legacy.{blocks_of, vga_low, vga_high, palette_low, palette_high}
@@ -40,6 +41,10 @@ abbrev pub part_lines : FixedPart → LegacyBridge → List ToldRange
 part_lines Legacy b =
     port_lines b.slot vga_low vga_high (blocks_of b.is_wide) ++ held b.slot Memory 0xa0000 0xbffff ∷ []
 part_lines Palette b = port_lines b.slot palette_low palette_high (blocks_of b.is_wide)
+
+-- one of some ranges has an address of a space
+abbrev pub HasAddress : List ToldRange → Space → ℕ → Type 0
+HasAddress ranges space a = Any (λ r. Holds r space a) ranges
 
 -- bridges by slot, none of which is below the one before it
 pub record AreBySlot (bridges : List LegacyBridge) : Type 0 where

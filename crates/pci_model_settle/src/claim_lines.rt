@@ -1,13 +1,16 @@
 //! Legacy parts and palette parts of bridges as held ranges among the ranges that a user tells, so that settling places
 //! nothing on them (Bridge 1.2, 3.2.5.18; PCI 3.0, 6.2.2).
-ghost use Rattle.std.specs.Prelude.{◌≡◌, ◌+◌, ◌<◌, ◌≤◌, ◌↔◌, nat_le, length, map, Err, IfOk, OnOk, MatchOption};
+ghost use Rattle.std.specs.Prelude.{◌≡◌, ◌+◌, ◌<◌, ◌≤◌, ◌↔◌, nat_le, ℕ, IsTrue, length, map, Err, IfOk, OnOk, MatchOption};
 ghost use Rattle.std.specs.List.{flat_map};
 ghost use Rattle.pci_base.specs.declared.memory.Refused.TheVariants as Refused;
 ghost use Rattle.pci_base.specs.Space.{space_of};
+ghost use Rattle.pci_spec.specs.System.{Space as SpaceValue};
+ghost use Rattle.given_spec.specs.Given.{LegacyBridge as BridgeValue};
 ghost use Rattle.given_spec.specs.Told.{IsTold};
 ghost use Rattle.pci_claims.specs.Values.{legacy_value};
-ghost use Rattle.pci_claims.specs.Legacy.{blocks_of};
-ghost use Rattle.pci_model_settle.specs.ClaimLines.{AreBySlot, claim_line, claim_lines, held, joined, kept_lines, lines_with, merged, part_lines, port_lines, told_line, told_line_of, told_lines};
+ghost use Rattle.pci_claims.specs.declared.legacy.FixedPart.{FixedPart as FixedPartValue};
+ghost use Rattle.pci_claims.specs.Legacy.{blocks_of, part_holds};
+ghost use Rattle.pci_model_settle.specs.ClaimLines.{AreBySlot, HasAddress, claim_line, claim_lines, held, joined, kept_lines, lines_with, merged, part_lines, port_lines, told_line, told_line_of, told_lines};
 ghost use Rattle.pci_model_settle.specs.LineValues.{AddsClaims, is_next, kept_of, key_of, line_value, ranges_in};
 
 use arrayvec::ArrayVec;
@@ -368,3 +371,9 @@ pub fn lines_with_claims<A: Allocator + Copy>(
         Err(OutOfMemory) => Err(Refused::Memory),
     }
 }
+
+/// A law of the held ranges of a bridge's part: one of them has an address just where the part has it.
+pub fn claim_line_laws()
+    ensures { (part : FixedPartValue) (bridge : BridgeValue) (space : SpaceValue) (a : ℕ) → HasAddress (part_lines part bridge) space a
+        ↔ IsTrue (part_holds part bridge.is_wide space a) }
+{}
