@@ -5,3 +5,4 @@ mod Puts
 pub mod MergedLines
 pub mod HeldLines
 pub mod PartAddresses
+pub mod BridgesBySlot

@@ -15,7 +15,7 @@ use Rattle.pci_claims.specs.declared.legacy.FixedPart.{FixedPart}
 use Rattle.pci_claims.specs.declared.legacy.FixedPart.TheVariants.{Legacy, Palette}
 use Rattle.pci_claims.specs.Legacy.{ArePorts, blocks_of, vga_low, vga_high, palette_low, palette_high, part_holds}
 use Rattle.pci_claims.proofs.Pieces.{no_ports, more_ports, pieces_of_palette, vga_pieces}
-use Rattle.pci_model_settle.specs.ClaimLines.{HasAddress, held, part_lines, port_lines, ports_of_kb}
+use Rattle.pci_model_settle.specs.ClaimLines.{HasAddress, held, part_lines, port_lines}
 
 -- ---- some of a list
 

@@ -1,12 +1,13 @@
 //! Legacy parts and palette parts of bridges as held ranges among the ranges that a user tells, so that settling places
 //! nothing on them (Bridge 1.2, 3.2.5.18; PCI 3.0, 6.2.2).
-ghost use Rattle.std.specs.Prelude.{◌≡◌, ◌+◌, ◌<◌, ◌≤◌, ◌↔◌, nat_le, ℕ, IsTrue, length, map, Err, IfOk, OnOk, MatchOption};
+ghost use Rattle.std.specs.Prelude.{◌≡◌, ◌+◌, ◌<◌, ◌≤◌, ◌↔◌, nat_le, ℕ, IsTrue, Option, length, map, Err, IfOk, OnOk, MatchOption};
 ghost use Rattle.std.specs.List.{flat_map};
 ghost use Rattle.pci_base.specs.declared.memory.Refused.TheVariants as Refused;
 ghost use Rattle.pci_base.specs.Space.{space_of};
-ghost use Rattle.pci_spec.specs.System.{Space as SpaceValue};
+ghost use Rattle.pci_spec.specs.System.{IsSystem, Space as SpaceValue, System};
 ghost use Rattle.given_spec.specs.Given.{LegacyBridge as BridgeValue};
 ghost use Rattle.given_spec.specs.Told.{IsTold};
+ghost use Rattle.given_spec.specs.Words.{VgaWord as WordValue, legacy_bridges, palette_bridges};
 ghost use Rattle.pci_claims.specs.Values.{legacy_value};
 ghost use Rattle.pci_claims.specs.declared.legacy.FixedPart.{FixedPart as FixedPartValue};
 ghost use Rattle.pci_claims.specs.Legacy.{blocks_of, part_holds};
@@ -372,8 +373,10 @@ pub fn lines_with_claims<A: Allocator + Copy>(
     }
 }
 
-/// A law of the held ranges of a bridge's part: one of them has an address just where the part has it.
+/// Laws of held ranges: one of a part's has an address just where the part has it; and the bridges of a system stand by slot.
 pub fn claim_line_laws()
-    ensures { (part : FixedPartValue) (bridge : BridgeValue) (space : SpaceValue) (a : ℕ) → HasAddress (part_lines part bridge) space a
-        ↔ IsTrue (part_holds part bridge.is_wide space a) }
+    ensures addresses { (part : FixedPartValue) (bridge : BridgeValue) (space : SpaceValue) (a : ℕ)
+        → HasAddress (part_lines part bridge) space a ↔ IsTrue (part_holds part bridge.is_wide space a) }
+    ensures legacy { (word : WordValue) (s : System) → IsSystem s → AreBySlot (legacy_bridges word s) }
+    ensures palette { (word : Option WordValue) (s : System) → IsSystem s → AreBySlot (palette_bridges word s) }
 {}
