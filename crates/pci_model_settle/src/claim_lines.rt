@@ -24,6 +24,7 @@ use pci_claims::legacy::FixedPart;
 use pci_told::told_list::ToldList;
 use pci_told::told_range::{Mark, ToldRange};
 use std::alloc::Allocator;
+use std::fmt;
 use std::marker::Model;
 
 /// The most lines of a list of told ranges.
@@ -53,6 +54,17 @@ const PALETTE_HIGH: Range = Range {
 /// The lines that a user tells and those of the parts of bridges are more than 4,096.
 #[derive(Clone, Copy, Debug, PartialEq, Eq)]
 pub struct TooManyLines;
+
+/// 77 and its name.
+impl fmt::Display for TooManyLines {
+    ghost use Rattle.std.specs.Prelude.{Some, codes};
+
+    ghost output = { λ fault. Some (codes "77 TooManyRanges") };
+
+    fn fmt<W: fmt::Write>(&self, f: &mut fmt::Formatter<W>) -> fmt::Result {
+        write!(f, "77 TooManyRanges")
+    }
+}
 
 /// A told range without its name, or a held one of a bridge.
 #[derive(Clone, Copy)]
@@ -343,7 +355,7 @@ fn joined<A: Allocator + Copy>(
 ///
 /// # Errors
 ///
-/// `TooManyLines` where they are more than 4,096; `Memory` (2) where a growth was refused.
+/// 77 `TooManyLines` where they are more than 4,096; `Memory` (2) where a growth was refused.
 pub fn lines_with_claims<A: Allocator + Copy>(
     alloc: A,
     ranges: &[ToldRange],
