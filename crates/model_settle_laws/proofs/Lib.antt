@@ -1,0 +1,4 @@
+mod GivenLeft
+mod GivenMore
+mod GivenSparing
+mod GivenStops

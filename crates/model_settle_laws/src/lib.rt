@@ -1,0 +1,5 @@
+//! Laws of settling where more is beside a system than settling was told of.
+//! What they speak of is in `given_spec` and `settle_spec`.
+#![tactic(auto)]
+
+pub mod stop_laws;
