@@ -10,3 +10,4 @@ mod Untaken
 mod ShownSlots
 mod SettlingTold
 mod SettlingWrites
+mod ByWords

@@ -5,6 +5,7 @@ pub mod ProbeAnswers
 pub mod PlanAnswers
 pub mod Slots
 pub mod SettleAnswers
+pub mod WordsSettling
 pub mod TakenAnswers
 pub mod ToldAnswers
 pub mod MapAnswers

@@ -16,7 +16,7 @@ use Rattle.pciplan_tasks.specs.Answers.{Answer, IsShowAnswer, IsChecked, IsSizeA
 use Rattle.pciplan_tasks.specs.FaultsAnswers.{IsFaultsAnswer}
 use Rattle.pciplan_tasks.specs.MapAnswers.{IsMapAnswerBy}
 use Rattle.pciplan_tasks.specs.PlanAnswers.{IsPlanAnswer}
-use Rattle.pciplan_tasks.specs.SettleAnswers.{IsSettlingTold, request_said}
+use Rattle.pciplan_tasks.specs.WordsSettling.{IsSettleAnswer}
 use Rattle.pciplan_tasks.specs.ProbeAnswers.{probe_answer}
 use Rattle.pciplan_tasks.specs.Statuses.{status_of}
 use Rattle.pciplan_tasks.specs.declared.task.Task.{Task}
@@ -52,8 +52,7 @@ IsPairAnswer (task.Plan pools writes why roots) =
       why = why;
       roots = buses_of roots;
     }
-IsPairAnswer (task.Settle request printed) =
-    λ dump. IsSettlingTold (record { request = request_said request dump; printed = printed }) dump
+IsPairAnswer (task.Settle request printed) = IsSettleAnswer request printed
 IsPairAnswer (task.Probe assuming) = λ dump probe answer. ⊥
 
 -- the task takes a whole dump and a whole probe: the verdict reads both side by side, and a derived probe takes sizes

@@ -18,6 +18,7 @@ pub mod reply;
 pub mod run;
 pub mod said;
 pub mod settling;
+pub mod settling_by_words;
 pub mod shortage_line;
 pub mod sizing;
 pub mod slots;

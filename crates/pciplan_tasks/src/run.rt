@@ -12,7 +12,7 @@ use crate::mapping::map_by;
 use crate::planning::plan_pair;
 use crate::probing::derive;
 use crate::reply::{Reply, Text, done, refused, send};
-use crate::settling::settle_pair;
+use crate::settling_by_words::settle_by;
 use crate::sizing::size_all;
 use crate::task::Task;
 use pci_base::memory::{OutOfMemory, Refused};
@@ -134,7 +134,7 @@ pub fn pair_reply<A: Allocator + Copy>(
             why,
             roots,
         } => plan_pair(alloc, dump, probe, pools, *writes, *why, *roots),
-        Task::Settle { request, printed } => settle_pair(alloc, dump, probe, request, *printed),
+        Task::Settle { request, printed } => settle_by(alloc, dump, probe, request, *printed),
         Task::Check { .. } | Task::Probe { .. } => unreachable!(),
     }
 }

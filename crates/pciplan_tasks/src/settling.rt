@@ -19,15 +19,17 @@ use crate::task::{Printed, SettleRequest};
 use pci_base::memory::{OutOfMemory, Refused};
 use pci_base::slot::Slot;
 use pci_claims::told::Told;
+use pci_dump::block::Block;
 use pci_dump::dump::Dump;
 use pci_given::every::{BeforeJudging, before_judging};
+use pci_plan::write::Write;
 use pci_script::script::script;
 use pci_settle::list::Lists;
-use pci_settle_writes::settle::{Denied, Settled, settle};
+use pci_settle_writes::settle::{Denied, settle};
 use pci_tree::admit::admit_with;
 use pci_tree::admitted::Admitted;
 use std::alloc::{AllocError, Allocator};
-use std::fmt::{self, Write};
+use std::fmt::{self, Write as TextWrite};
 
 /// A window whose spare has no room, as it is told.
 #[derive(Clone, Copy)]
@@ -78,42 +80,44 @@ fn spare_remarks<A: Allocator>(alloc: A, denied: &[Denied]) -> Result<String<A>,
 /// What is printed of a settling: the settled dump, its writes, or the script of them.
 fn settled_text<A: Allocator + Copy>(
     alloc: A,
-    admitted: &Admitted<A>,
-    settled: Settled<A>,
+    start: &[Block],
+    writes: &[Write],
+    after: Dump<A>,
     printed: Printed,
 ) -> Result<Text<A>, OutOfMemory>
-    requires { All (λ w. IsTrue (is_two_or_four w)) settled.writes.all.items }
-    ensures { IfOk result (λ text. text_bytes text ≡ settled_text printed admitted.now.dump
-        (map write_value settled.writes.all.items) settled.dump) }
+    requires { All (λ w. IsTrue (is_two_or_four w)) writes.now }
+    ensures { IfOk result (λ text. text_bytes text ≡ settled_text printed start.now
+        (map write_value writes.now) after) }
 {
     match printed {
-        Printed::Dump => Ok(Text::Dump(settled.dump)),
+        Printed::Dump => Ok(Text::Dump(after)),
         Printed::Writes => {
-            let lines = lines_of(alloc, settled.writes.all.as_slice())?;
+            let lines = lines_of(alloc, writes)?;
             Ok(Text::Lines(lines))
         }
         Printed::Script(form) => {
-            let start = admitted.dump().blocks();
-            let lines = script(alloc, form, start, settled.writes.all.as_slice())?;
+            let lines = script(alloc, form, start, writes)?;
             Ok(Text::Lines(lines))
         }
     }
 }
 
-/// What settling answers: what is printed of it, and a remark on each window whose spare has no room.
-fn settled_reply<A: Allocator + Copy>(
+/// What settling a dump answers: what is printed of its writes and of the dump after them, and a remark on each window whose spare has no room.
+pub fn settled_reply<A: Allocator + Copy>(
     alloc: A,
-    admitted: &Admitted<A>,
-    settled: Settled<A>,
+    start: &[Block],
+    writes: &[Write],
+    after: Dump<A>,
+    denied: &[Denied],
     printed: Printed,
 ) -> Result<Reply<A>, OutOfMemory>
-    requires { All (λ w. IsTrue (is_two_or_four w)) settled.writes.all.items }
+    requires { All (λ w. IsTrue (is_two_or_four w)) writes.now }
     ensures { IfOk result (λ reply. answer_of reply
-        ≡ done_with (spare_remarks (map denied_value settled.denied.items))
-        (settled_text printed admitted.now.dump (map write_value settled.writes.all.items) settled.dump)) }
+        ≡ done_with (spare_remarks (map denied_value denied.now))
+        (settled_text printed start.now (map write_value writes.now) after)) }
 {
-    let remarks = spare_remarks(alloc, settled.denied.as_slice())?;
-    let text = settled_text(alloc, admitted, settled, printed)?;
+    let remarks = spare_remarks(alloc, denied)?;
+    let text = settled_text(alloc, start, writes, after, printed)?;
     Ok(Reply {
         refused: false,
         text,
@@ -137,7 +141,13 @@ fn settle_admitted<A: Allocator + Copy>(
     } admitted.now.dump admitted.now.probe (answer_of reply)) }
 {
     match settle(alloc, admitted, lists, fixed, anew) {
-        Ok(settled) => settled_reply(alloc, admitted, settled, printed),
+        Ok(settled) => {
+            let after = settled.dump;
+            let start = admitted.dump().blocks();
+            let writes = settled.writes.all.as_slice();
+            let denied = settled.denied.as_slice();
+            settled_reply(alloc, start, writes, after, denied, printed)
+        }
         Err(Refused::Fault(fault)) => refused(alloc, &fault),
         Err(Refused::Memory) => Err(OutOfMemory),
     }

@@ -107,6 +107,8 @@ pub struct SettleRequest {
     pub anew: bool,
     /// What a third text tells. Nothing is placed on its ranges.
     pub also: Also,
+    /// The words by which functions are taken, where there are any.
+    pub words: Option<Words>,
     /// How many addresses of each class are wanted behind each hot-plug slot: 0 where none are.
     pub spares: ByKind<u64>,
     /// The bridges that have such a slot; None: those of the dump whose registers say so. One that the dump doesn't have says

@@ -1,0 +1,236 @@
+-- What is left in a dump after writes, and what is answered where something is settled by words.
+use Rattle.std.proofs.Common.{◌≡◌, ◌==◌, ◌||◌, ◌+◌, ◌*◌, ◌/◌, ◌%◌, ℕ, zero, suc, List, [], ◌∷◌, ◌++◌, Bool, true, false, Option, None, Some, Result, length, map, take, drop, get_or, inl, inr, refl, sym, ap, subst, ◌∙◌, arith, eqb-true, if◌then◌else◌, IsTrue}
+use Rattle.std.specs.Prelude.{◌↔◌, ◌≢◌, IfSome, is_some}
+use Rattle.std.specs.Result.{IfOk}
+use Rattle.std.specs.List.{All, Contains}
+use Rattle.std.proofs.lemmas.List.{length-map}
+use Rattle.std.proofs.lemmas.Result.{IfOk-weaker}
+use Rattle.pci_spec.specs.Fault.{IsInOne}
+use Rattle.pci_spec.specs.Slot.{Slot}
+use Rattle.pci_spec.specs.Machine.{Write}
+use Rattle.pci_spec.specs.Registers.{COMMAND}
+use Rattle.pci_spec.specs.System.{IsSystem, system_of}
+use Rattle.pci_spec.specs.Text.{Block, IsDump, slots_of}
+use Rattle.pci_spec.proofs.Pairing.{IsSystem-of_dumps}
+use Rattle.given_spec.specs.Given.{Given, LegacyBridge, TakingBridge, nothing_given}
+use Rattle.given_spec.specs.Words.{VgaWord}
+use Rattle.given_spec.specs.ToldClaims.{Told}
+use Rattle.given_spec.specs.ToldFault.{Fault}
+use Rattle.given_spec.specs.ToldFaultLines.{AreAllFaults}
+use Rattle.given_spec.specs.UnclaimedLaws.{with_taking}
+use Rattle.settle_spec.specs.Sparing.{without_slots}
+use Rattle.pci_base.specs.declared.memory.Refused.TheVariants as refusal
+use Rattle.pci_given.specs.Every.{AreBefore, AreSound}
+use Rattle.pci_model.specs.declared.words.Words.{Words}
+use Rattle.pci_model_settle.specs.ClaimLines.{AreBySlot, Kept}
+use Rattle.pci_model_settle.specs.Listed.{blocks_after, command_at, listed_write}
+use Rattle.pci_model_settle.proofs.BridgesBySlot.{legacy_by_slot, palette_by_slot}
+use Rattle.pci_plan.specs.Writes.{is_two_or_four, write_value}
+use Rattle.pci_plan.specs.declared.write.Write.{Write as CodeWrite}
+use Rattle.pci_settle.specs.Slots.{Demand}
+use Rattle.pci_settle_writes.specs.Denied.{IsSpared}
+use Rattle.pci_settle_writes.specs.Endings.{IsRefusal, HasNoAssumed}
+use Rattle.pci_settle_writes.specs.FaultText.{settle_fault_text}
+use Rattle.pci_settle_writes.specs.Requests.{request}
+use Rattle.pci_settle_writes.specs.declared.lack.SettleFault.{SettleFault}
+use Rattle.pci_tree.specs.Admission.{Admission}
+use Rattle.pci_tree.specs.Roots.{buses_of}
+use Rattle.pciplan_tasks.specs.Answers.{Answer, answer_of, done_with, fault_answer_line, refused}
+use Rattle.pciplan_tasks.specs.FaultsAnswers.{AreTakenBeside, given_of, legacy_by, palette_by, snoop_of, taking_of, vga_of}
+use Rattle.pciplan_tasks.specs.MapAnswers.{IsFirstLine}
+use Rattle.pciplan_tasks.specs.TakenAnswers.{AreTakenBy}
+use Rattle.pciplan_tasks.specs.SettleAnswers.{IsReadyAsTold, IsSettlingTold, demand_said, request_said, settled_text, spare_remarks}
+use Rattle.pciplan_tasks.specs.WordsSettling.{AreFaultsBeside, IsEnded, IsEndLine, IsSettlingBy, IsSettlingKept, IsSettlingReady, IsSettlingTaken, TakenTexts, asked_with, beside_said, kept_by, users_fault}
+use Rattle.pciplan_tasks.specs.declared.reply.Reply.{Reply}
+use Rattle.pciplan_tasks.specs.declared.task.Beside.{Beside}
+use Rattle.pciplan_tasks.specs.declared.task.Printed.{Printed}
+use Rattle.pciplan_tasks.specs.declared.task.SettleRequest.{SettleRequest}
+use Rattle.pciplan_tasks.proofs.Saying.{IsSaidOf}
+
+-- what is found of two texts as they are taken, by what is given
+record AreFound (told : Told) (bridges : List TakingBridge) (taken taken_probe : List Block) (faults : List Fault) (given : Given) (roots : List ℕ) (slots : List Slot) : Type 0 where
+  taking : AreTakenBeside told given roots taken taken_probe slots bridges
+  all : AreAllFaults told (with_taking bridges given) roots taken taken_probe faults
+  none : (faults ≡ []) ↔ AreSound told (with_taking bridges given) roots taken taken_probe
+
+pub faults_are : (beside : Beside) (dump probe taken taken_probe : List Block) (told : Told) (given : Given) (roots : List ℕ) (slots : List Slot) (bridges : List TakingBridge) (faults : List Fault)
+    → IsSaidOf beside dump probe told given roots slots → AreTakenBy beside.words dump probe taken taken_probe → AreTakenBeside told given roots taken taken_probe slots bridges
+    → AreAllFaults told (with_taking bridges given) roots taken taken_probe faults → (faults ≡ []) ↔ AreSound told (with_taking bridges given) roots taken taken_probe
+    → AreFaultsBeside beside dump probe faults
+faults_are beside dump probe taken taken_probe told given roots slots bridges faults said are taking all none =
+    let found : AreFound told bridges taken taken_probe faults (given_of beside.host beside.words dump) (buses_of beside.roots) (taking_of beside.words (system_of dump dump))
+    = subst (λ (g : Given). AreFound told bridges taken taken_probe faults g (buses_of beside.roots) (taking_of beside.words (system_of dump dump))) said.given_is
+    (subst (λ (r : List ℕ). AreFound told bridges taken taken_probe faults given r (taking_of beside.words (system_of dump dump))) said.roots_are
+    (subst (λ (s : List Slot). AreFound told bridges taken taken_probe faults given roots s) said.slots_are record { taking = taking; all = all; none = none })) in
+    record {
+      told = told;
+      beside_them = said.told_is;
+      taken = taken;
+      taken_probe = taken_probe;
+      are = are;
+      bridges = bridges;
+      taking = found.taking;
+      all = found.all;
+      none = found.none;
+    }
+
+-- where a fault is left the first is told
+pub end_of_faults : (faults : List Fault) (remarks text : List ℕ) (answer : Answer) → IsFirstLine faults answer → IsEndLine faults remarks text answer
+end_of_faults [] remarks text answer line = absurd line
+end_of_faults (fault ∷ rest) remarks text answer line = line
+
+-- a slot that one of two lists has alone
+pub not_in_one : (dump probe : List Block) (slot : Slot) → IsInOne dump probe slot → slots_of dump ≢ slots_of probe
+not_in_one dump probe slot (inl (here, absent)) same = absent (subst (λ (slots : List Slot). Contains slots slot) same here)
+not_in_one dump probe slot (inr (absent, here)) same = absent (subst (λ (slots : List Slot). Contains slots slot) (sym same) here)
+
+-- ---- what settling comes to
+
+pub settled_taken : {A E : Type 0} (r : SettleRequest) (kept : Kept) (a : Admission) (d : Demand) (fixed : List Slot) (anew : Bool) (printed : Printed) (dump probe after : List Block) (writes : List Write) (closings : ℕ)
+    (denied : List (Slot × ℕ)) (res : Result (Reply A) E) → HasNoAssumed a → map (λ (b : Block). b.title) after ≡ map (λ (b : Block). b.title) a.dump → IsSpared (request a.roots d fixed anew) a after writes closings denied
+    → IfOk res (λ reply. IsEnded (beside_said r) printed dump probe writes denied (answer_of reply))
+    → IfOk res (λ reply. IsSettlingKept r kept record { request = request a.roots d fixed anew; printed = printed } record { dump = dump; probe = probe; taken = a.dump; taken_probe = a.probe } (answer_of reply))
+settled_taken r kept a d fixed anew printed dump probe after writes closings denied res sized titles spared ended =
+    IfOk-weaker res (λ reply. IsEnded (beside_said r) printed dump probe writes denied (answer_of reply))
+    (λ reply. IsSettlingKept r kept record { request = request a.roots d fixed anew; printed = printed } record { dump = dump; probe = probe; taken = a.dump; taken_probe = a.probe } (answer_of reply))
+    (λ reply is. inl record {
+      after = after;
+      writes = writes;
+      denied = denied;
+      is = record { sized = sized; titles = titles; closings = closings; is = spared };
+      ended = is;
+    }) ended
+
+pub not_settled_taken : {A E : Type 0} (r : SettleRequest) (kept : Kept) (a : Admission) (d : Demand) (fixed : List Slot) (anew : Bool) (printed : Printed) (dump probe : List Block) (fault : SettleFault) (res : Result (Reply A) E)
+    → IsRefusal a (without_slots (request a.roots d fixed anew)) (refusal.Fault fault)
+    → IfOk res (λ reply. answer_of reply ≡ refused (fault_answer_line (settle_fault_text (users_fault kept fault))))
+    → IfOk res (λ reply. IsSettlingKept r kept record { request = request a.roots d fixed anew; printed = printed } record { dump = dump; probe = probe; taken = a.dump; taken_probe = a.probe } (answer_of reply))
+not_settled_taken r kept a d fixed anew printed dump probe fault res stands told =
+    IfOk-weaker res (λ reply. answer_of reply ≡ refused (fault_answer_line (settle_fault_text (users_fault kept fault))))
+    (λ reply. IsSettlingKept r kept record { request = request a.roots d fixed anew; printed = printed } record { dump = dump; probe = probe; taken = a.dump; taken_probe = a.probe } (answer_of reply))
+    (λ reply line. inr record { fault = fault; stands = stands; line = line }) told
+
+module _ (w : Words) (r : SettleRequest) (printed : Printed) (fixed : List Slot) (dump probe taken taken_probe : List Block) where
+  abbrev texts : TakenTexts
+  texts = record { dump = dump; probe = probe; taken = taken; taken_probe = taken_probe }
+
+  abbrev Means : Answer → Type 0
+  Means answer = (unmoved : List Slot) → fixed ≡ r.fixed.items ++ unmoved → IsSettlingReady w r printed unmoved texts answer
+
+  pub taken_ready : {A E : Type 0} (res : Result (Reply A) E) → IsReadyAsTold (demand_said r dump).told (buses_of r.roots) taken taken_probe
+      → IfOk res (λ reply. IsSettlingTaken r (kept_by w r dump) (asked_with fixed (kept_by w r dump).told r printed dump) texts (answer_of reply)) → IfOk res (λ reply. Means (answer_of reply))
+  taken_ready res ready told =
+      IfOk-weaker res (λ reply. IsSettlingTaken r (kept_by w r dump) (asked_with fixed (kept_by w r dump).told r printed dump) texts (answer_of reply)) (λ reply. Means (answer_of reply))
+      (λ reply is unmoved same. inl record {
+        ready = ready;
+        is = subst (λ (all : List Slot). IsSettlingTaken r (kept_by w r dump) (asked_with all (kept_by w r dump).told r printed dump) texts (answer_of reply)) same is;
+      }) told
+
+  pub taken_unready : {A E : Type 0} (faults : List Fault) (res : Result (Reply A) E) → AreBefore (demand_said r dump).told nothing_given (buses_of r.roots) taken taken_probe faults
+      → IfOk res (λ reply. IsFirstLine faults (answer_of reply)) → IfOk res (λ reply. Means (answer_of reply))
+  taken_unready faults res before told =
+      IfOk-weaker res (λ reply. IsFirstLine faults (answer_of reply)) (λ reply. Means (answer_of reply)) (λ reply line unmoved same. inr record { faults = faults; before = before; line = line }) told
+
+-- ---- bridges that claim stand by slot
+
+none_by_slot : AreBySlot []
+none_by_slot = record { each = λ k d less. absurd (let no : ⊥ = omega (arith, less) in no); order = λ i j d le less. absurd (let no : ⊥ = omega (arith, less) in no) }
+
+module _ (w : Words) (dump : List Block) (is : IsDump dump) (bridges : List LegacyBridge) where
+  system : IsSystem (system_of dump dump)
+  system = IsSystem-of_dumps dump dump is is refl
+
+  pub legacy_rise : bridges ≡ legacy_by (vga_of (Some w)) (system_of dump dump) → AreBySlot bridges
+  legacy_rise are = subst AreBySlot (sym are) (by_word (vga_of (Some w))) where
+    by_word : (word : Option VgaWord) → AreBySlot (legacy_by word (system_of dump dump))
+    by_word None = none_by_slot
+    by_word (Some word) = legacy_by_slot word (system_of dump dump) system
+
+  pub palette_rise : bridges ≡ palette_by (snoop_of (Some w)) (vga_of (Some w)) (system_of dump dump) → AreBySlot bridges
+  palette_rise are = subst AreBySlot (sym are) (by_word (snoop_of (Some w))) where
+    by_word : (counts : Bool) → AreBySlot (palette_by counts (vga_of (Some w)) (system_of dump dump))
+    by_word true = palette_by_slot (vga_of (Some w)) (system_of dump dump) system
+    by_word false = none_by_slot
+
+-- ---- writes for a dump
+
+width_stays : (dump : List Block) (w : Write) → (listed_write dump w).width ≡ w.width
+width_stays dump w = by_test (w.offset == COMMAND) where
+  by_test : (command : Bool) → (if command then record w { value = command_at dump w.slot / 4 * 4 + w.value % 4 } else w).width ≡ w.width
+  by_test true = refl
+  by_test false = refl
+
+plain_by : (dump : List Block) (old new : CodeWrite) → write_value new ≡ listed_write dump (write_value old) → IsTrue (is_two_or_four old) → IsTrue (is_two_or_four new)
+plain_by dump old new is plain = subst (λ n. IsTrue (n == 2 || n == 4)) (sym (ap (λ (w : Write). w.width) is ∙ width_stays dump (write_value old))) plain
+
+pub all_plain : (dump : List Block) (old new : List CodeWrite) → map write_value new ≡ map (listed_write dump) (map write_value old) → All (λ w. IsTrue (is_two_or_four w)) old → All (λ w. IsTrue (is_two_or_four w)) new
+all_plain dump [] [] is plain k d less = absurd (let no : ⊥ = omega (arith, less) in no)
+all_plain dump [] (n ∷ new) is plain k d less = absurd (let no : ⊥ = cc in no)
+all_plain dump (o ∷ old) [] is plain k d less = absurd (let no : ⊥ = omega (arith, less) in no)
+all_plain dump (o ∷ old) (n ∷ new) is plain zero d less = plain_by dump o n (ap (λ l. get_or l 0 (write_value n)) is) (plain 0 o (omega arith))
+all_plain dump (o ∷ old) (n ∷ new) is plain (suc k) d less = all_plain dump old new (ap (drop 1) is) (λ j e low. plain (suc j) e (omega (arith, low))) k d (omega (arith, less))
+
+pub written_back : {X : Type 0} (n : ℕ) (new old : List X) → length new ≡ length old → n ≡ length old → take n (new ++ drop (length new) old) ≡ new
+written_back {X = X} n new old same all = ap (λ k. take k (new ++ drop (length new) old)) (all ∙ sym same) ∙ of_all new (drop (length new) old) where
+  of_all : (new rest : List X) → take (length new) (new ++ rest) ≡ new
+  of_all [] rest = refl
+  of_all (x ∷ new) rest = ap (λ l. x ∷ l) (of_all new rest)
+
+pub none_there : {X : Type 0} (xs : List X) → (length xs == 0) ≡ true → xs ≡ []
+none_there [] none = refl
+none_there (x ∷ xs) none = absurd (let same : length (x ∷ xs) ≡ 0 = eqb-true _ _ none in let no : ⊥ = omega (arith, same) in no)
+
+-- where none is left, what is printed is
+pub end_of_none : (faults : List Fault) (remarks text : List ℕ) (answer : Answer) → faults ≡ [] → answer ≡ done_with remarks text → IsEndLine faults remarks text answer
+end_of_none [] remarks text answer none line = line
+end_of_none (fault ∷ rest) remarks text answer none line = absurd (let no : ⊥ = cc in no)
+
+pub none_at : {X : Type 0} (xs : List X) → length xs ≡ 0 → xs ≡ []
+none_at [] none = refl
+none_at (x ∷ xs) none = absurd (let no : ⊥ = omega (arith, none) in no)
+
+-- the writes that a slice lends, once they are for the dump
+pub writes_made : (dump : List Block) (n : ℕ) (new items lent : List CodeWrite) → map write_value new ≡ map (listed_write dump) (map write_value items) → n ≡ length items → lent ≡ take n (new ++ drop (length new) items)
+    → map write_value lent ≡ map (listed_write dump) (map write_value items)
+writes_made dump n new items lent made all is =
+    let one = length-map new write_value in
+    let two = length-map (map write_value items) (listed_write dump) in
+    let three = length-map items write_value in
+    let four = ap length made in
+    let same : length new ≡ length items = omega (arith, one, two, three, four) in
+    ap (map write_value) (is ∙ written_back n new items same all) ∙ made
+
+module _ {A E : Type 0} (beside : Beside) (printed : Printed) (dump probe : List Block) (writes : List Write) (denied : List (Slot × ℕ)) (faults : List Fault) (res : Result (Reply A) E)
+    (judged : AreFaultsBeside beside (blocks_after dump (map (listed_write dump) writes)) probe faults) where
+  ended_by : IfOk res (λ reply. IsEndLine faults (spare_remarks denied) (settled_text printed dump (map (listed_write dump) writes) (blocks_after dump (map (listed_write dump) writes))) (answer_of reply))
+      → IfOk res (λ reply. IsEnded beside printed dump probe writes denied (answer_of reply))
+  ended_by told =
+      IfOk-weaker res (λ reply. IsEndLine faults (spare_remarks denied) (settled_text printed dump (map (listed_write dump) writes) (blocks_after dump (map (listed_write dump) writes))) (answer_of reply))
+      (λ reply. IsEnded beside printed dump probe writes denied (answer_of reply)) (λ reply line. record { faults = faults; judged = judged; line = line }) told
+
+  pub ended_in_fault : IfOk res (λ reply. IsFirstLine faults (answer_of reply)) → IfOk res (λ reply. IsEnded beside printed dump probe writes denied (answer_of reply))
+  ended_in_fault told =
+      ended_by (IfOk-weaker res (λ reply. IsFirstLine faults (answer_of reply))
+      (λ reply. IsEndLine faults (spare_remarks denied) (settled_text printed dump (map (listed_write dump) writes) (blocks_after dump (map (listed_write dump) writes))) (answer_of reply))
+      (λ reply line. end_of_faults faults _ _ (answer_of reply) line) told)
+
+  pub ended_well : faults ≡ [] → (start after : List Block) (made : List Write) (left : List (Slot × ℕ)) → start ≡ dump → made ≡ map (listed_write dump) writes → left ≡ denied
+      → after ≡ blocks_after dump (map (listed_write dump) writes) → IfOk res (λ reply. answer_of reply ≡ done_with (spare_remarks left) (settled_text printed start made after))
+      → IfOk res (λ reply. IsEnded beside printed dump probe writes denied (answer_of reply))
+  ended_well none start after made left same_start same_writes same_denied same_after told =
+      ended_by (IfOk-weaker res (λ reply. answer_of reply ≡ done_with (spare_remarks left) (settled_text printed start made after))
+      (λ reply. IsEndLine faults (spare_remarks denied) (settled_text printed dump (map (listed_write dump) writes) (blocks_after dump (map (listed_write dump) writes))) (answer_of reply))
+      (λ reply line. end_of_none faults _ _ (answer_of reply) none (line ∙ (λ i. done_with (spare_remarks (same_denied i)) (settled_text printed (same_start i) (same_writes i) (same_after i))))) told)
+
+-- ---- two that list other slots
+
+pub differ_by : (dump probe : List Block) (found : Option Slot) → is_some found ≡ true → IfSome found (IsInOne dump probe) → slots_of dump ≢ slots_of probe
+differ_by dump probe None some is = absurd (let no : ⊥ = cc in no)
+differ_by dump probe (Some slot) some is = not_in_one dump probe slot is
+
+pub as_they_are : {A E : Type 0} (words : Option Words) (r : SettleRequest) (printed : Printed) (dump probe : List Block) (res : Result (Reply A) E) → slots_of dump ≢ slots_of probe
+    → IfOk res (λ reply. IsSettlingTold record { request = request_said r dump; printed = printed } dump probe (answer_of reply)) → IfOk res (λ reply. IsSettlingBy words r printed dump probe (answer_of reply))
+as_they_are None r printed dump probe res differ told = told
+as_they_are (Some w) r printed dump probe res differ told =
+    IfOk-weaker res (λ reply. IsSettlingTold record { request = request_said r dump; printed = printed } dump probe (answer_of reply)) (λ reply. IsSettlingBy (Some w) r printed dump probe (answer_of reply))
+    (λ reply is. inr (differ, is)) told
