@@ -2,3 +2,4 @@ mod CommandWords
 mod CommandLines
 mod FurtherLines
 mod Also
+mod ModelLines

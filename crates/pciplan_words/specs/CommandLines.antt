@@ -47,10 +47,11 @@ planning =
 abbrev pub settling : App
 settling =
     with_rule (with_rule (with_rule (with_rule (with_rule (with_rule (with_rule (with_rule (with_rule
-    (with_rule (with_paths (codes "settle")) (pool_rule (codes "io"))) (pool_rule (codes "mem")))
-    (pool_rule (codes "pref"))) (option_rule (codes "root"))) (option_rule (codes "fixed")))
-    (flag_rule (codes "anew"))) (option_rule (codes "spare"))) (option_rule (codes "slots")))
-    (option_rule (codes "also"))) (flag_rule (codes "writes"))
+    (with_rule (with_rule (with_paths (codes "settle")) (pool_rule (codes "io")))
+    (pool_rule (codes "mem"))) (pool_rule (codes "pref"))) (option_rule (codes "root")))
+    (option_rule (codes "model"))) (option_rule (codes "fixed"))) (flag_rule (codes "anew")))
+    (option_rule (codes "spare"))) (option_rule (codes "slots"))) (option_rule (codes "also")))
+    (flag_rule (codes "writes"))
 
 abbrev pub probing : App
 probing =

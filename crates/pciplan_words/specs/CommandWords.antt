@@ -48,6 +48,7 @@ pub record HasPlanWords (rows : List Row) (words : PlanWords) : Type 0 where
 -- the words of the options of `settle`
 pub record HasSettleWords (rows : List Row) (words : SettleWords) : Type 0 where
   pub root : first_of (codes "root") rows ≡ word_of words.root
+  pub model : first_of (codes "model") rows ≡ word_of words.model
   pub io : first_of (codes "io") rows ≡ Some words.io.now
   pub mem : first_of (codes "mem") rows ≡ Some words.mem.now
   pub pref : first_of (codes "pref") rows ≡ Some words.pref.now

@@ -20,6 +20,8 @@ pub struct PlanWords<'a> {
 pub struct SettleWords<'a> {
     /// The list of root buses, where there is one.
     pub root: Option<&'a str>,
+    /// The words by which functions are taken, where there are any.
+    pub model: Option<&'a str>,
     /// The lists of ranges of I/O, of memory and of prefetchable memory.
     pub io: &'a str,
     pub mem: &'a str,

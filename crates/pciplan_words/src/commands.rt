@@ -162,6 +162,7 @@ const SUBCOMMANDS: [Subcommand<'static>; 8] = [
             Argument::Required(MEM),
             Argument::Required(PREF),
             Argument::Word(ROOT),
+            Argument::Word(MODEL),
             Argument::Word(FIXED),
             Argument::Flag(ANEW),
             Argument::Word(SPARE),

@@ -93,6 +93,7 @@ fn settle_words<'a>(found: &ArgMatches<'a>) -> Option<SettleWords<'a>>
 {
     Some(SettleWords {
         root: found.get_str(ROOT),
+        model: found.get_str(MODEL),
         io: found.get_str(IO)?,
         mem: found.get_str(MEM)?,
         pref: found.get_str(PREF)?,
