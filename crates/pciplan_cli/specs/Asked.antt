@@ -68,7 +68,7 @@ HasIo words = HasRoots words × ((pool : Range) × IsPoolWord words.io.now pool)
 abbrev pub HasMem : PlanWords → Type 0
 HasMem words = HasIo words × ((pool : Range) × IsPoolWord words.mem.now pool)
 
--- the first word that is none, of the root list and then the words of `--model` and what the host sends, or the pools or
+-- the first word that is none, of the root list, then the words of `--model`, and then what the host sends, or the pools or
 -- lists of I/O, memory and prefetchable memory; or two options of which one alone may be said
 abbrev pub IsAskedRefused : Asked → Failure → Type 0
 IsAskedRefused (asked.Check root) Root = HasNoRoots root

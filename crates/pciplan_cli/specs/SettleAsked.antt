@@ -7,6 +7,7 @@ use Rattle.pci_base.specs.declared.range.RootRange.{RootRange}
 use Rattle.pci_base.specs.declared.window_kind.ByKind.{ByKind}
 use Rattle.pci_script.specs.declared.form.Form.{Form as ScriptForm}
 use Rattle.pci_script.specs.declared.form.Form.TheVariants as scripts
+use Rattle.pci_model.specs.declared.words.Words.{Words}
 use Rattle.pci_tree.specs.declared.roots.Roots.{Roots}
 use Rattle.pciplan_lists.specs.ListWords.{HasRanges, IsListWord}
 use Rattle.pciplan_lists.specs.SlotWords.{IsSlotList, IsSlotListWord}
@@ -14,7 +15,7 @@ use Rattle.pciplan_lists.specs.SpareWords.{IsSpareWord}
 use Rattle.pciplan_words.specs.declared.asked.SettleWords.{SettleWords}
 use Rattle.pciplan_words.specs.declared.forms.Form.{Form}
 use Rattle.pciplan_words.specs.declared.forms.Form.TheVariants.{Setpci, Grub}
-use Rattle.pciplan_cli.specs.OptionWords.{AreRootsOf, HasNoRoots}
+use Rattle.pciplan_cli.specs.OptionWords.{AreRootsOf, AreWordsOf, HasNoRoots, HasNoWords}
 use Rattle.pciplan_tasks.specs.declared.task.Also.TheVariants.{Told}
 use Rattle.pciplan_tasks.specs.declared.task.Printed.{Printed}
 use Rattle.pciplan_tasks.specs.declared.task.Printed.TheVariants.{Dump, Writes, Script}
@@ -23,7 +24,7 @@ use Rattle.pciplan_tasks.specs.declared.task.Task.{Task}
 use Rattle.pciplan_tasks.specs.declared.task.Task.TheVariants as task
 use Rattle.pciplan_tasks.specs.declared.failure.PoolOption.TheVariants.{Io, Mem, Pref}
 use Rattle.pciplan_tasks.specs.declared.failure.Failure.{Failure}
-use Rattle.pciplan_tasks.specs.declared.failure.Failure.TheVariants.{Root, Pool, Fixed, Spare, Slots, Memory}
+use Rattle.pciplan_tasks.specs.declared.failure.Failure.TheVariants.{Root, Model, Pool, Fixed, Spare, Slots, Memory}
 
 -- a list of ranges in this word
 abbrev pub IsListOf : Bor (List ℕ) → Vec RootRange → Type 0
@@ -60,6 +61,7 @@ printed_of None false = Dump
 pub record IsSettlingOf (form : Option Form) (asked : SettleWords) (t : Task) : Type 0 where
   pub request : SettleRequest
   pub are_roots : AreRootsOf asked.root request.roots
+  pub are_words : AreWordsOf asked.model request.words
   pub io : IsListOf asked.io request.lists.io
   pub mem : IsListOf asked.mem request.lists.mem
   pub pref : IsListOf asked.pref request.lists.pref
@@ -90,8 +92,11 @@ HasListWord word = (list : List RootRange) × IsListWord word.now list
 abbrev pub HasSettleRoots : SettleWords → Type 0
 HasSettleRoots asked = (roots : Roots) × AreRootsOf asked.root roots
 
+abbrev pub HasSettleModel : SettleWords → Type 0
+HasSettleModel asked = HasSettleRoots asked × ((words : Option Words) × AreWordsOf asked.model words)
+
 abbrev pub HasSettleIo : SettleWords → Type 0
-HasSettleIo asked = HasSettleRoots asked × HasListWord asked.io
+HasSettleIo asked = HasSettleModel asked × HasListWord asked.io
 
 abbrev pub HasSettleMem : SettleWords → Type 0
 HasSettleMem asked = HasSettleIo asked × HasListWord asked.mem
@@ -113,15 +118,16 @@ SpellsSlots (Some word) = IsSlotList word.now
 -- a growth was refused for what a word spells: the words before it have their meaning
 abbrev pub IsSettlingWant : SettleWords → Type 0
 IsSettlingWant asked =
-    (HasSettleRoots asked × HasRanges asked.io.now) ⊎ (HasSettleIo asked × HasRanges asked.mem.now)
+    (HasSettleModel asked × HasRanges asked.io.now) ⊎ (HasSettleIo asked × HasRanges asked.mem.now)
     ⊎ (HasSettleMem asked × HasRanges asked.pref.now) ⊎ (HasPref asked × SpellsSlots asked.fixed)
     ⊎ (HasSpare asked × SpellsSlots asked.slots)
 
--- the root list is looked at, then the lists of I/O, memory and prefetchable memory, then the fixed slots, then what is wanted
--- behind hot-plug slots, and then the bridges that have one
+-- the root list is looked at, then the words of `--model`, then the lists of I/O, memory and prefetchable memory, then the fixed
+-- slots, then what is wanted behind hot-plug slots, and then the bridges that have one
 abbrev pub IsSettlingRefused : SettleWords → Failure → Type 0
 IsSettlingRefused asked Root = HasNoRoots asked.root
-IsSettlingRefused asked (Pool Io) = HasSettleRoots asked × HasNoListWord asked.io
+IsSettlingRefused asked Model = HasSettleRoots asked × HasNoWords asked.model
+IsSettlingRefused asked (Pool Io) = HasSettleModel asked × HasNoListWord asked.io
 IsSettlingRefused asked (Pool Mem) = HasSettleIo asked × HasNoListWord asked.mem
 IsSettlingRefused asked (Pool Pref) = HasSettleMem asked × HasNoListWord asked.pref
 IsSettlingRefused asked Fixed = HasPref asked × HasNoSlotsWord asked.fixed

@@ -44,7 +44,7 @@ fn assuming_of(exact: bool, least: bool) -> Option<Assuming>
     }
 }
 
-/// The task that is asked for. The root list is read first, then the words of `--model` and what the host sends, of I/O
+/// The task that is asked for. The root list is read first, then the words of `--model`, and then what the host sends, of I/O
 /// before memory, or the pools or lists, of I/O, memory and prefetchable memory, and the fixed slots: the first word that is
 /// none is the fault.
 fn task_of(alloc: Global, asked: &Asked<'_>) -> Result<Task, Failure>

@@ -4,7 +4,7 @@ ghost use Rattle.pciplan_cli.specs.SettleAsked.{AreFixed, AreSlots, AreSpares, H
 ghost use Rattle.pciplan_lists.specs.ListWords.{HasRanges};
 ghost use Rattle.pciplan_tasks.specs.declared.failure.Failure.{Failure};
 
-use crate::option_words::roots_of;
+use crate::option_words::{roots_of, words_of};
 use pci_base::range::RootRange;
 use pci_base::slot::Slot;
 use pci_base::window_kind::ByKind;
@@ -90,6 +90,7 @@ pub fn settling_of(
     ensures { MatchResult result (IsSettlingOf form asked.now) (IsSettlingRefused asked.now) }
 {
     let roots = roots_of(asked.root).ok_or(Failure::Root)?;
+    let words = words_of(asked.model)?;
     let lists = SettleLists {
         io: list_of(alloc, asked.io, PoolOption::Io)?,
         mem: list_of(alloc, asked.mem, PoolOption::Mem)?,
@@ -101,6 +102,7 @@ pub fn settling_of(
         fixed: fixed_of(alloc, asked.fixed)?,
         anew: asked.anew,
         also: Also::nothing(alloc),
+        words,
         spares: spares_of(asked.spare)?,
         slots: slots_of(alloc, asked.slots)?,
     };

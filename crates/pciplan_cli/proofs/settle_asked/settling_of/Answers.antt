@@ -15,12 +15,14 @@ returns c =
       fixed = c.in_ok-fixed_of.field-0;
       anew = c.args.asked.now.anew;
       also = c.nothing.result;
+      words = c.in_ok-words.words;
       spares = c.in_ok-spares_of.field-0;
       slots = c.in_ok-slots_of.field-0;
     } in
     record {
       request = request;
       are_roots = subst (λ o. MatchOption o (HasNoRoots c.args.asked.now.root) (AreRootsOf c.args.asked.now.root)) c.in_ok-roots.ensures.ok_part c.roots_of.ensures;
+      are_words = c.in_ok-words.ensures;
       io = c.in_ok-list_of.ensures;
       mem = c.in_ok-list_of-2.ensures;
       pref = c.in_ok-list_of-3.ensures;
@@ -35,17 +37,17 @@ returns c =
 pub returns-in_err-spares_of : goal.returns-in_err-spares_of
 returns-in_err-spares_of c =
     let before : HasFixed c.args.asked.now =
-    have_fixed c.args.asked.now c.in_ok-roots.roots c.in_ok-list_of.field-0 c.in_ok-list_of-2.field-0 c.in_ok-list_of-3.field-0 c.in_ok-fixed_of.field-0
+    have_fixed c.args.asked.now c.in_ok-roots.roots c.in_ok-words.words c.in_ok-list_of.field-0 c.in_ok-list_of-2.field-0 c.in_ok-list_of-3.field-0 c.in_ok-fixed_of.field-0
     (subst (λ o. MatchOption o (HasNoRoots c.args.asked.now.root) (AreRootsOf c.args.asked.now.root)) c.in_ok-roots.ensures.ok_part c.roots_of.ensures)
-    c.in_ok-list_of.ensures c.in_ok-list_of-2.ensures c.in_ok-list_of-3.ensures c.in_ok-fixed_of.ensures in
+    c.in_ok-words.ensures c.in_ok-list_of.ensures c.in_ok-list_of-2.ensures c.in_ok-list_of-3.ensures c.in_ok-fixed_of.ensures in
     search (rules, before)
 
 pub returns-in_err-slots_of : goal.returns-in_err-slots_of
 returns-in_err-slots_of c =
     let before : HasSpare c.args.asked.now = (
-      have_fixed c.args.asked.now c.in_ok-roots.roots c.in_ok-list_of.field-0 c.in_ok-list_of-2.field-0 c.in_ok-list_of-3.field-0 c.in_ok-fixed_of.field-0
+      have_fixed c.args.asked.now c.in_ok-roots.roots c.in_ok-words.words c.in_ok-list_of.field-0 c.in_ok-list_of-2.field-0 c.in_ok-list_of-3.field-0 c.in_ok-fixed_of.field-0
           (subst (λ o. MatchOption o (HasNoRoots c.args.asked.now.root) (AreRootsOf c.args.asked.now.root)) c.in_ok-roots.ensures.ok_part c.roots_of.ensures)
-          c.in_ok-list_of.ensures c.in_ok-list_of-2.ensures c.in_ok-list_of-3.ensures c.in_ok-fixed_of.ensures,
+          c.in_ok-words.ensures c.in_ok-list_of.ensures c.in_ok-list_of-2.ensures c.in_ok-list_of-3.ensures c.in_ok-fixed_of.ensures,
       (c.in_ok-spares_of.field-0, c.in_ok-spares_of.ensures),
     ) in
     search (rules, before)
