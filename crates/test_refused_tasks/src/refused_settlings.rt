@@ -4,6 +4,7 @@ use crate::program::prints;
 use pci_base::range::{Range, RootRange};
 use pci_base::slot::Slot;
 use pci_base::window_kind::ByKind;
+use pci_model::words::{VgaWord, Words};
 use pci_script::form::Form;
 use pci_tree::roots::Roots;
 use pciplan_tasks::task::{Also, Printed, SettleLists, SettleRequest, Task};
@@ -58,6 +59,7 @@ fn task_to(alloc: Global, last: u64, fixed: Option<u8>, printed: Printed) -> Mad
         fixed: fixed_at(alloc, fixed)?,
         anew: fixed.is_none(),
         also: Also::nothing(alloc),
+        words: None,
         spares: no_spares(),
         slots: None,
     };
@@ -181,6 +183,7 @@ fn task_with_spare(alloc: Global, memory: u64, printed: Printed) -> Made {
         fixed: Vec::new(alloc),
         anew: false,
         also: Also::nothing(alloc),
+        words: None,
         spares: ByKind {
             memory,
             ..no_spares()
@@ -222,6 +225,75 @@ fn a_spare_that_is_denied_is_told(rt: HostRuntime) -> Result<(), Fail> {
     let texts = texts_of_rows(rt.alloc(), BOARD)?;
     let (dump, probe) = (texts.dump.as_str(), texts.probe.as_str());
     prints(rt.alloc(), WORDS, (dump, probe), (FEW, DENIED, 0))
+}
+
+/// All words but that of ten bits. None of them is about a function of the board.
+const ALL_WORDS: Words = Words {
+    cardbus: true,
+    ide: true,
+    isa: true,
+    power: true,
+    reset: true,
+    snoop: true,
+    subtractive: true,
+    unclaimed: true,
+    unnumbered: true,
+    vga: Some(VgaWord::Vga16),
+    windows: true,
+};
+
+#[test]
+fn so_does_one_by_words(rt: HostRuntime) -> Result<(), Fail> {
+    let request = SettleRequest {
+        roots: Roots::host(),
+        lists: lists_to(rt.alloc(), LAST)?,
+        fixed: Vec::new(rt.alloc()),
+        anew: true,
+        also: Also::nothing(rt.alloc()),
+        words: Some(ALL_WORDS),
+        spares: no_spares(),
+        slots: None,
+    };
+    let printed = Printed::Writes;
+    is_refused(rt.alloc(), Ok(Task::Settle { request, printed }), BOARD)
+}
+
+#[test]
+fn words_that_are_about_no_function_change_nothing(rt: HostRuntime) -> Result<(), Fail> {
+    const WORDS: &[&str] = &[
+        "settle",
+        "d",
+        "p",
+        "--io",
+        "none",
+        "--mem",
+        "e0000000-e01fffff",
+        "--pref",
+        "none",
+        "--anew",
+        "--model",
+        "all",
+        "--writes",
+    ];
+    is_printed(rt.alloc(), WORDS, BOARD, WRITES)
+}
+
+#[test]
+fn wrong_words_are_refused_before_lists(rt: HostRuntime) -> Result<(), Fail> {
+    const WORDS: &[&str] = &[
+        "settle",
+        "d",
+        "p",
+        "--io",
+        "bad",
+        "--mem",
+        "bad",
+        "--pref",
+        "bad",
+        "--model",
+        "power,power",
+    ];
+    prints(rt.alloc(), WORDS, ("", ""), ("", "pciplan: model\n", 2))
 }
 
 #[test]
