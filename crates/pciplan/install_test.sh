@@ -492,6 +492,7 @@ if command -v bash >/dev/null; then
     offers "faults --model ''" 'cardbus ide isa power reset snoop subtractive unclaimed unnumbered vga vga16 windows all'
     offers 'faults --model =' ''
     offers "map --model = p" 'power'
+    offers 'settle --model vga,s' 'vga,snoop vga,subtractive'
     offers 'faults dump.txt probe.txt --model vga,r' 'vga,reset'
     offers 'faults --model power,vga16,' 'power,vga16,cardbus power,vga16,ide power,vga16,isa power,vga16,reset power,vga16,snoop power,vga16,subtractive power,vga16,unclaimed power,vga16,unnumbered power,vga16,windows'
     offers "faults --model power dump.txt ''" FILES

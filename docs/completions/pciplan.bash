@@ -34,7 +34,7 @@ _pciplan() {
     faults) options='--also --host-io --host-mem --model --root --why' ;;
     map | picture) options='--also --host-io --host-mem --model --root' ;;
     plan) options='--io --mem --pref --root --why --writes' ;;
-    settle) options='--also --anew --fixed --io --mem --pref --root --slots --spare --writes' ;;
+    settle) options='--also --anew --fixed --io --mem --model --pref --root --slots --spare --writes' ;;
     probe) options='--exact --least' ;;
     explain) options='' most=1 words=$commands ;;
     *) return ;;

@@ -70,7 +70,7 @@ complete -c pciplan -n '__pciplan_takes domain here' -l domain -x -d 'Judge this
 complete -c pciplan -n '__pciplan_takes from here' -l from -x -a '(__fish_complete_directories)' -d 'Folder that has sys and proc'
 complete -c pciplan -n '__pciplan_takes log here' -l log -r -F -d 'File that has the kernel log'
 complete -c pciplan -n '__pciplan_takes root check faults map plan settle picture' -l root -x -d 'Buses on which accesses of the host start'
-complete -c pciplan -n '__pciplan_takes model faults map picture' -l model -x -a '(__fish_append , all cardbus ide isa power reset snoop subtractive unclaimed unnumbered vga vga16 windows)' -d 'Words by which functions are taken'
+complete -c pciplan -n '__pciplan_takes model faults map settle picture' -l model -x -a '(__fish_append , all cardbus ide isa power reset snoop subtractive unclaimed unnumbered vga vga16 windows)' -d 'Words by which functions are taken'
 complete -c pciplan -n '__pciplan_takes host-io faults map picture' -l host-io -x -d 'I/O addresses that the host sends'
 complete -c pciplan -n '__pciplan_takes host-mem faults map picture' -l host-mem -x -d 'Memory addresses that the host sends'
 complete -c pciplan -n '__pciplan_takes also faults map settle picture' -l also -r -F -d 'File that tells what no BAR shows'

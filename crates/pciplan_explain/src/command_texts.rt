@@ -54,10 +54,10 @@ pciplan faults DUMP PROBE [--root LIST] [--model WORDS] [--host-io LIST]
     are in the names of /sys/devices/pci0000:*: 00,40 for pci0000:00 and
     pci0000:40.
   --model WORDS
-    faults and map take functions otherwise than their registers say: one or
-    more of cardbus, ide, isa, power, reset, snoop, subtractive, unclaimed,
-    unnumbered, windows and one of vga and vga16, in any order, with commas
-    between them, none twice; or all, which is all but vga16, so a bridge
+    faults, map and settle take functions otherwise than their registers say:
+    one or more of cardbus, ide, isa, power, reset, snoop, subtractive,
+    unclaimed, unnumbered, windows and one of vga and vga16, in any order, with
+    commas between them, none twice; or all, which is all but vga16, so a bridge
     decodes ten bits of a port unless its bit VGA 16-bit Decode is set. cardbus
     takes a CardBus bridge (header layout 2) as a device that decodes no
     address; ide leaves out the BARs of IDE channels in compatibility mode; isa
@@ -75,7 +75,13 @@ pciplan faults DUMP PROBE [--root LIST] [--model WORDS] [--host-io LIST]
     answers: the legacy addresses, which come again in each KB of I/O space
     where the bridge decodes ten bits alone; vga16 takes each of them to decode
     16 bits; windows takes a bridge's window whose read back is of none (26) as
-    the one that its registers show.
+    the one that its registers show. settle settles what the words take, and
+    writes the registers of the functions as they are. It leaves functions that
+    sleep, or are behind a bridge that sleeps, as they are, and bridges that
+    reset, unnumbered or windows takes otherwise. Nothing is placed on what vga,
+    vga16 and snoop take bridges to claim. What is settled is sound by faults
+    with the same words; where that can't be had, the line is the fault that is
+    left.
   --host-io LIST
   --host-mem LIST
     faults judges beside what the host sends to its root buses, and map shows
@@ -109,10 +115,10 @@ pciplan map DUMP PROBE [--root LIST] [--model WORDS] [--host-io LIST]
     are in the names of /sys/devices/pci0000:*: 00,40 for pci0000:00 and
     pci0000:40.
   --model WORDS
-    faults and map take functions otherwise than their registers say: one or
-    more of cardbus, ide, isa, power, reset, snoop, subtractive, unclaimed,
-    unnumbered, windows and one of vga and vga16, in any order, with commas
-    between them, none twice; or all, which is all but vga16, so a bridge
+    faults, map and settle take functions otherwise than their registers say:
+    one or more of cardbus, ide, isa, power, reset, snoop, subtractive,
+    unclaimed, unnumbered, windows and one of vga and vga16, in any order, with
+    commas between them, none twice; or all, which is all but vga16, so a bridge
     decodes ten bits of a port unless its bit VGA 16-bit Decode is set. cardbus
     takes a CardBus bridge (header layout 2) as a device that decodes no
     address; ide leaves out the BARs of IDE channels in compatibility mode; isa
@@ -130,7 +136,13 @@ pciplan map DUMP PROBE [--root LIST] [--model WORDS] [--host-io LIST]
     answers: the legacy addresses, which come again in each KB of I/O space
     where the bridge decodes ten bits alone; vga16 takes each of them to decode
     16 bits; windows takes a bridge's window whose read back is of none (26) as
-    the one that its registers show.
+    the one that its registers show. settle settles what the words take, and
+    writes the registers of the functions as they are. It leaves functions that
+    sleep, or are behind a bridge that sleeps, as they are, and bridges that
+    reset, unnumbered or windows takes otherwise. Nothing is placed on what vga,
+    vga16 and snoop take bridges to claim. What is settled is sound by faults
+    with the same words; where that can't be had, the line is the fault that is
+    left.
   --host-io LIST
   --host-mem LIST
     faults judges beside what the host sends to its root buses, and map shows
@@ -186,8 +198,8 @@ pciplan plan DUMP PROBE --io A-B --mem A-B --pref A-B [--root LIST] [--writes]
 
 pub const SETTLE: &str = "\
 pciplan settle DUMP PROBE --io LIST --mem LIST --pref LIST [--root LIST]
-    [--fixed SLOTS] [--anew] [--also FILE] [--spare WORDS [--slots SLOTS]]
-    [--writes[=FORM]]
+    [--model WORDS] [--fixed SLOTS] [--anew] [--also FILE] [--spare WORDS
+    [--slots SLOTS]] [--writes[=FORM]]
   Leaves what works where it is, and places the rest in three lists of ranges,
   each of all root buses or of one, with windows that are as large as what is in
   them; prints the settled dump, the register writes that lead there, or a
@@ -199,12 +211,42 @@ pciplan settle DUMP PROBE --io LIST --mem LIST --pref LIST [--root LIST]
   moves; a bridge stays on, a window that moves is closed, and one that grows is
   open. A BAR, or a ROM whose bit 0 is set, that the titles of the probe name as
   assumed is refused: it may decode more addresses than the probe tells. Faults:
-  20 to 31, 50 to 58, 70, 72, 74 and 76, and with --also 34 and 75.
+  20 to 31, 50 to 58, 70, 72, 74 and 76, with --also 34 and 75, and with --model
+  60 to 62.
   --root LIST
     The buses on which the host's accesses start: two lower-case hex digits
     each, rising, with commas between them. 00 if it isn't said. On Linux they
     are in the names of /sys/devices/pci0000:*: 00,40 for pci0000:00 and
     pci0000:40.
+  --model WORDS
+    faults, map and settle take functions otherwise than their registers say:
+    one or more of cardbus, ide, isa, power, reset, snoop, subtractive,
+    unclaimed, unnumbered, windows and one of vga and vga16, in any order, with
+    commas between them, none twice; or all, which is all but vga16, so a bridge
+    decodes ten bits of a port unless its bit VGA 16-bit Decode is set. cardbus
+    takes a CardBus bridge (header layout 2) as a device that decodes no
+    address; ide leaves out the BARs of IDE channels in compatibility mode; isa
+    takes the I/O window of a bridge with ISA Enable to claim, below 64 KB, the
+    first 256 ports of each KB alone; power takes a function that isn't in D0 as
+    one that decodes nothing; reset and subtractive take away the faults 55 and
+    54 of a bridge behind which no function is listed; snoop takes a bridge with
+    VGA Palette Snoop to claim the ports of a palette and to forward writes to
+    them, and a device with it to answer no more for it; unclaimed takes a
+    bridge of class 060401h that is alone of this class on its bus to pass each
+    address that no BAR, ROM, window, legacy part, palette part or told range of
+    its bus claims; unnumbered takes a bridge whose bus numbers are 0 and whose
+    windows claim nothing as one that leads nowhere; vga judges what bridges
+    with VGA Enable forward to a display, and not what the display itself
+    answers: the legacy addresses, which come again in each KB of I/O space
+    where the bridge decodes ten bits alone; vga16 takes each of them to decode
+    16 bits; windows takes a bridge's window whose read back is of none (26) as
+    the one that its registers show. settle settles what the words take, and
+    writes the registers of the functions as they are. It leaves functions that
+    sleep, or are behind a bridge that sleeps, as they are, and bridges that
+    reset, unnumbered or windows takes otherwise. Nothing is placed on what vga,
+    vga16 and snoop take bridges to claim. What is settled is sound by faults
+    with the same words; where that can't be had, the line is the fault that is
+    left.
   --also FILE
     faults judges, and map and picture show, what functions answer that no BAR
     shows: of virtual functions, of Enhanced Allocation, or of a chipset. settle
@@ -294,10 +336,10 @@ pciplan picture DUMP PROBE [--root LIST] [--model WORDS] [--host-io LIST]
     are in the names of /sys/devices/pci0000:*: 00,40 for pci0000:00 and
     pci0000:40.
   --model WORDS
-    faults and map take functions otherwise than their registers say: one or
-    more of cardbus, ide, isa, power, reset, snoop, subtractive, unclaimed,
-    unnumbered, windows and one of vga and vga16, in any order, with commas
-    between them, none twice; or all, which is all but vga16, so a bridge
+    faults, map and settle take functions otherwise than their registers say:
+    one or more of cardbus, ide, isa, power, reset, snoop, subtractive,
+    unclaimed, unnumbered, windows and one of vga and vga16, in any order, with
+    commas between them, none twice; or all, which is all but vga16, so a bridge
     decodes ten bits of a port unless its bit VGA 16-bit Decode is set. cardbus
     takes a CardBus bridge (header layout 2) as a device that decodes no
     address; ide leaves out the BARs of IDE channels in compatibility mode; isa
@@ -315,7 +357,13 @@ pciplan picture DUMP PROBE [--root LIST] [--model WORDS] [--host-io LIST]
     answers: the legacy addresses, which come again in each KB of I/O space
     where the bridge decodes ten bits alone; vga16 takes each of them to decode
     16 bits; windows takes a bridge's window whose read back is of none (26) as
-    the one that its registers show.
+    the one that its registers show. settle settles what the words take, and
+    writes the registers of the functions as they are. It leaves functions that
+    sleep, or are behind a bridge that sleeps, as they are, and bridges that
+    reset, unnumbered or windows takes otherwise. Nothing is placed on what vga,
+    vga16 and snoop take bridges to claim. What is settled is sound by faults
+    with the same words; where that can't be had, the line is the fault that is
+    left.
   --host-io LIST
   --host-mem LIST
     faults judges beside what the host sends to its root buses, and map shows

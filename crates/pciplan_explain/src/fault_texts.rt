@@ -374,13 +374,15 @@ pub const NOT_ACCEPTED: &str = "\
 
 pub const FIXED: &str = "\
 74 Fixed S r
-  settle, with a list of fixed slots: This part of the function can't be left
-  where it is, or the function would be written, at this offset first.
+  settle, with a list of fixed slots or with words of --model: This part of the
+  function can't be left where it is, or the function would be written, at this
+  offset first.
   Mostly: The part stands outside the lists, shares addresses with another fixed
     one, or a window lacks room and can't grow; at offset 04 a bridge above it,
     or the function, has to be switched.
   Do: Give the lists the range that it stands in, or leave the slot out of
-    --fixed.
+    --fixed; of a function that --model leaves as it is, wake it or leave out
+    the word.
 ";
 
 pub const TOLD: &str = "\
