@@ -57,6 +57,7 @@ numbers_name faults.NotAccepted = refl
 numbers_name faults.Fixed = refl
 numbers_name faults.Told = refl
 numbers_name faults.Assumed = refl
+numbers_name faults.TooManyRanges = refl
 numbers_name faults.Changed = refl
 numbers_name faults.Port = refl
 numbers_name faults.Stuck = refl

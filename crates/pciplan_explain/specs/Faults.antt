@@ -1,8 +1,8 @@
 -- The faults that are explained: their numbers and names.
 use Rattle.std.specs.Prelude.{ℕ, List, ◌∷◌, ◌++◌, codes}
 use Rattle.pciplan_explain.specs.declared.fault.Fault.{Fault}
-use Rattle.pciplan_explain.specs.declared.fault.Fault.TheVariants.{ReadIo, Memory, BadSlot, BadTitle, BadLine, NoBlank, Order, TooMany, Ended, WriteIo, NoVendor, HeaderKind, BarType, BarMask, BarPair, RomMask, WindowMask, CapRange, CapLoop, CapCut, SlotsDiffer, StrayProbe, NoSize, OtherSize, NotListed, LoneFunction, PaletteSnoop, VgaEnable, IsaEnable, Subtractive, InReset, PowerState, BusRange, Orphan, Unreached, Clash, Split, Outside, BadPools, NoWindow, NoRoom, NotAccepted, Fixed, Told, Assumed, Changed, Port, Stuck}
-use Rattle.pciplan_explain.specs.declared.fault_texts.TheConstants.{READ_IO, MEMORY, BAD_SLOT, BAD_TITLE, BAD_LINE, NO_BLANK, ORDER, TOO_MANY, ENDED, WRITE_IO, NO_VENDOR, HEADER_KIND, BAR_TYPE, BAR_MASK, BAR_PAIR, ROM_MASK, WINDOW_MASK, CAP_RANGE, CAP_LOOP, CAP_CUT, SLOTS_DIFFER, STRAY_PROBE, NO_SIZE, OTHER_SIZE, NOT_LISTED, LONE_FUNCTION, PALETTE_SNOOP, VGA_ENABLE, ISA_ENABLE, SUBTRACTIVE, IN_RESET, POWER_STATE, BUS_RANGE, ORPHAN, UNREACHED, CLASH, SPLIT, OUTSIDE, BAD_POOLS, NO_WINDOW, NO_ROOM, NOT_ACCEPTED, FIXED, TOLD, ASSUMED, CHANGED, PORT, STUCK}
+use Rattle.pciplan_explain.specs.declared.fault.Fault.TheVariants.{ReadIo, Memory, BadSlot, BadTitle, BadLine, NoBlank, Order, TooMany, Ended, WriteIo, NoVendor, HeaderKind, BarType, BarMask, BarPair, RomMask, WindowMask, CapRange, CapLoop, CapCut, SlotsDiffer, StrayProbe, NoSize, OtherSize, NotListed, LoneFunction, PaletteSnoop, VgaEnable, IsaEnable, Subtractive, InReset, PowerState, BusRange, Orphan, Unreached, Clash, Split, Outside, BadPools, NoWindow, NoRoom, NotAccepted, Fixed, Told, Assumed, TooManyRanges, Changed, Port, Stuck}
+use Rattle.pciplan_explain.specs.declared.fault_texts.TheConstants.{READ_IO, MEMORY, BAD_SLOT, BAD_TITLE, BAD_LINE, NO_BLANK, ORDER, TOO_MANY, ENDED, WRITE_IO, NO_VENDOR, HEADER_KIND, BAR_TYPE, BAR_MASK, BAR_PAIR, ROM_MASK, WINDOW_MASK, CAP_RANGE, CAP_LOOP, CAP_CUT, SLOTS_DIFFER, STRAY_PROBE, NO_SIZE, OTHER_SIZE, NOT_LISTED, LONE_FUNCTION, PALETTE_SNOOP, VGA_ENABLE, ISA_ENABLE, SUBTRACTIVE, IN_RESET, POWER_STATE, BUS_RANGE, ORPHAN, UNREACHED, CLASH, SPLIT, OUTSIDE, BAD_POOLS, NO_WINDOW, NO_ROOM, NOT_ACCEPTED, FIXED, TOLD, ASSUMED, TOO_MANY_RANGES, CHANGED, PORT, STUCK}
 
 -- a fault's number in decimal digits
 abbrev pub fault_number : Fault → List ℕ
@@ -51,6 +51,7 @@ fault_number NotAccepted = codes "73"
 fault_number Fixed = codes "74"
 fault_number Told = codes "75"
 fault_number Assumed = codes "76"
+fault_number TooManyRanges = codes "77"
 fault_number Changed = codes "80"
 fault_number Port = codes "81"
 fault_number Stuck = codes "82"
@@ -101,6 +102,7 @@ fault_name NotAccepted = codes "NotAccepted"
 fault_name Fixed = codes "Fixed"
 fault_name Told = codes "Told"
 fault_name Assumed = codes "Assumed"
+fault_name TooManyRanges = codes "TooManyRanges"
 fault_name Changed = codes "Changed"
 fault_name Port = codes "Port"
 fault_name Stuck = codes "Stuck"
@@ -156,6 +158,7 @@ fault_text NotAccepted = NOT_ACCEPTED.now
 fault_text Fixed = FIXED.now
 fault_text Told = TOLD.now
 fault_text Assumed = ASSUMED.now
+fault_text TooManyRanges = TOO_MANY_RANGES.now
 fault_text Changed = CHANGED.now
 fault_text Port = PORT.now
 fault_text Stuck = STUCK.now

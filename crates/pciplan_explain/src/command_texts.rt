@@ -212,7 +212,7 @@ pciplan settle DUMP PROBE --io LIST --mem LIST --pref LIST [--root LIST]
   open. A BAR, or a ROM whose bit 0 is set, that the titles of the probe name as
   assumed is refused: it may decode more addresses than the probe tells. Faults:
   20 to 31, 50 to 58, 70, 72, 74 and 76, with --also 34 and 75, and with --model
-  60 to 62.
+  60 to 62 and 77.
   --root LIST
     The buses on which the host's accesses start: two lower-case hex digits
     each, rising, with commas between them. 00 if it isn't said. On Linux they

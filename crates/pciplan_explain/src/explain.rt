@@ -23,7 +23,7 @@ fn is_named(fault: Fault, word: &str) -> bool
 }
 
 /// The first of these faults that a word names.
-fn first_named(faults: [Fault; 48], word: &str) -> Option<Fault>
+fn first_named(faults: [Fault; 49], word: &str) -> Option<Fault>
     ensures { result ≡ find (names_fault word.now) faults }
 {
     for fault in faults.into_iter() {

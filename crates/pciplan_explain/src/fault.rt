@@ -55,13 +55,14 @@ pub enum Fault {
     Fixed,
     Told,
     Assumed,
+    TooManyRanges,
     Changed,
     Port,
     Stuck,
 }
 
 /// All faults by rising number.
-pub const FAULTS: [Fault; 48] = [
+pub const FAULTS: [Fault; 49] = [
     Fault::ReadIo,
     Fault::Memory,
     Fault::BadSlot,
@@ -107,6 +108,7 @@ pub const FAULTS: [Fault; 48] = [
     Fault::Fixed,
     Fault::Told,
     Fault::Assumed,
+    Fault::TooManyRanges,
     Fault::Changed,
     Fault::Port,
     Fault::Stuck,
@@ -163,6 +165,7 @@ impl Fault {
             Fault::Fixed => "74",
             Fault::Told => "75",
             Fault::Assumed => "76",
+            Fault::TooManyRanges => "77",
             Fault::Changed => "80",
             Fault::Port => "81",
             Fault::Stuck => "82",
@@ -219,6 +222,7 @@ impl Fault {
             Fault::Fixed => "Fixed",
             Fault::Told => "Told",
             Fault::Assumed => "Assumed",
+            Fault::TooManyRanges => "TooManyRanges",
             Fault::Changed => "Changed",
             Fault::Port => "Port",
             Fault::Stuck => "Stuck",
@@ -276,6 +280,7 @@ impl Fault {
             Fault::Fixed => texts::FIXED,
             Fault::Told => texts::TOLD,
             Fault::Assumed => texts::ASSUMED,
+            Fault::TooManyRanges => texts::TOO_MANY_RANGES,
             Fault::Changed => texts::CHANGED,
             Fault::Port => texts::PORT,
             Fault::Stuck => texts::STUCK,

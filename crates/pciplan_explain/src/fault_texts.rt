@@ -302,6 +302,11 @@ pub const UNREACHED: &str = "\
     off.
   Do: faults --why prints the bridge's windows, what of the region they miss,
     and where it would fit.
+  Mostly, of settle --model: The fault is left in the settled dump, judged as
+    faults --model with the same words does: settle finds no place by its rules
+    that mends it.
+  Do, of settle --model: Other lists, or --anew; or clear VGA Enable, ISA Enable
+    or palette snooping where nothing needs it, and settle the new dump.
 ";
 
 pub const CLASH: &str = "\
@@ -311,6 +316,11 @@ pub const CLASH: &str = "\
   Mostly: Two regions answer one address: of one bus, or of two root buses.
   Do: Move or switch off one of the two that are named; faults --why tells where
     the second one would fit.
+  Mostly, of settle --model: The fault is left in the settled dump, judged as
+    faults --model with the same words does: settle finds no place by its rules
+    that mends it.
+  Do, of settle --model: Other lists, or --anew; or clear VGA Enable, ISA Enable
+    or palette snooping where nothing needs it, and settle the new dump.
 ";
 
 pub const SPLIT: &str = "\
@@ -319,6 +329,11 @@ pub const SPLIT: &str = "\
   Mostly: Two regions answer one address: of one bus, or of two root buses.
   Do: Move or switch off one of the two that are named; faults --why tells where
     the second one would fit.
+  Mostly, of settle --model: The fault is left in the settled dump, judged as
+    faults --model with the same words does: settle finds no place by its rules
+    that mends it.
+  Do, of settle --model: Other lists, or --anew; or clear VGA Enable, ISA Enable
+    or palette snooping where nothing needs it, and settle the new dump.
 ";
 
 pub const OUTSIDE: &str = "\
@@ -412,6 +427,17 @@ pub const ASSUMED: &str = "\
     0 set.
   Do: A probe in which the register is sized (docs/C.md); of a ROM that isn't
     used clear bit 0.
+";
+
+pub const TOO_MANY_RANGES: &str = "\
+77 TooManyRanges
+  settle, with words of --model: There are more than 4,096 ranges of --also and
+  of bridges' legacy parts and palette parts. A legacy part whose bridge decodes
+  ten bits of a port has 129, and such a palette part 128.
+  Mostly: Many bridges with VGA Enable that decode ten bits of a port, or a long
+    text of --also.
+  Do: The word vga16 where the bridges decode 16 bits, fewer lines, or settle
+    without --model.
 ";
 
 pub const CHANGED: &str = "\

@@ -47,6 +47,7 @@ pub const NAMES: &str = "\
 74 Fixed: This part of the function can't be left where it is, or the function would be written.
 75 Told: Line n, a command or always range of the function, isn't reached as the board stands.
 76 Assumed: A title of the probe names this BAR, or this ROM whose bit 0 is set, as assumed.
+77 TooManyRanges: There are more than 4,096 ranges of --also and of bridges' legacy parts and palette parts.
 80 Changed: The register at offset oo isn't as the plan starts from.
 81 Port: An access failed, or a function of the plan isn't there.
 82 Stuck: The n-th write was made and reads back otherwise.
