@@ -68,7 +68,7 @@ def named(number, rest):
     if number == 63:
         found = whole(OF_REGION + ' ' + ADDRESS, rest)
         return {**place(found), **address(found)}
-    if number == 70:
+    if number in (70, 77):
         whole('', rest)
         return {}
     if number == 72:

@@ -58,7 +58,7 @@ done
 printed 'explain' all explain
 head -n 1 "$top/docs/pciplan.1" | sed 's/.*"\(pciplan .*\)" ".*/\1/' >version
 printed 'version' version version
-for word in 0 11 19 35 59 64 77 83 057 57. ' 57' 57BusRange 'BusRange ' Bus CHECK Here pciplan --help ''; do
+for word in 0 11 19 35 59 64 78 83 057 57. ' 57' 57BusRange 'BusRange ' Bus CHECK Here pciplan --help ''; do
     refused explain "$word"
 done
 refused explain 57 58

@@ -1,5 +1,5 @@
 -- The objects of faults and capabilities have one `text` each.
-use Rattle.std.proofs.Common.{◌≡◌, ◌==◌, ℕ, List, [], ◌∷◌, ◌++◌, Bool, true, false, refl, ap, ap₂, ◌∙◌, codes, map, cond, if◌then◌else◌}
+use Rattle.std.proofs.Common.{◌≡◌, ◌==◌, ◌||◌, ℕ, List, [], ◌∷◌, ◌++◌, Bool, true, false, refl, ap, ap₂, ◌∙◌, codes, map, cond, if◌then◌else◌}
 use Rattle.std.specs.List.{filter}
 use Rattle.json.specs.Json.{Json, string}
 use Rattle.pci_json.specs.declared.group.Kind.TheVariants.{Capability}
@@ -66,7 +66,7 @@ named_by false false false false false false true line = told_alone (is_line (wo
 named_by false false false false false false false line = register (is_word 3 [] line) line
 
 named : (n : ℕ) (line : List ℕ) → texts_in (named_members n line) ≡ []
-named n line = named_by (n == 60) (n == 61) (n == 62) (n == 63) (n == 70) (n == 72) (n == 75) line
+named n line = named_by (n == 60) (n == 61) (n == 62) (n == 63) (n == 70 || n == 77) (n == 72) (n == 75) line
 
 -- ---- with what stands behind it, the one `text` is its line
 

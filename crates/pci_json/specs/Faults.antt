@@ -1,5 +1,5 @@
 -- A fault's members: its number, its name, its line, and what its line names (docs/FORMATS.md, "Verdicts").
-use Rattle.std.specs.Prelude.{ℕ, ◌+◌, ◌==◌, List, [], ◌∷◌, ◌++◌, codes, if◌then◌else◌}
+use Rattle.std.specs.Prelude.{ℕ, ◌+◌, ◌==◌, ◌||◌, List, [], ◌∷◌, ◌++◌, codes, if◌then◌else◌}
 use Rattle.json.specs.Json.{Json, string}
 use Rattle.pci_json.specs.Lines.{word, is_word, value_of}
 use Rattle.pci_json.specs.Members.{object_of, array_of, hex, count, slot_and_register}
@@ -47,14 +47,14 @@ register_members line = if is_word 3 [] line then [] else (codes "register", hex
 abbrev pub slot_members : List ℕ → List (List ℕ × Json)
 slot_members line = (codes "slot", string (word 2 line)) ∷ register_members line
 
--- what the line of the fault with this number names: 70 names nothing, and 75 Told S +n a line
+-- what the line of the fault with this number names: 70 and 77 name nothing, and 75 Told S +n a line
 abbrev pub named_members : ℕ → List ℕ → List (List ℕ × Json)
 named_members number line =
     if number == 60 then unreached_members line
     else (if number == 61 then clash_members line
     else (if number == 62 then split_members line
     else (if number == 63 then outside_members line
-    else (if number == 70 then []
+    else (if number == 70 || number == 77 then []
     else (if number == 72 then no_room_members line
     else (if number == 75 then slot_and_register 2 line
     else slot_members line))))))

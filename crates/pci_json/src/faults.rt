@@ -136,7 +136,7 @@ fn push_named<A: Allocator>(out: &mut Output<A>, number: u64, line: &str) -> Res
         61 => push_clash(out, line),
         62 => push_split(out, line),
         63 => push_outside(out, line),
-        70 => Ok(()),
+        70 | 77 => Ok(()),
         72 => push_no_room(out, line),
         75 => push_slot_and_register(out, line, 2),
         _ => push_slot(out, line),

@@ -9,6 +9,8 @@ const WORDS: &[(&str, &str)] = &[
     ("1", "1 Io\n"),
     ("10", "10 Io\n"),
     ("io", "1 Io\n"),
+    ("77", "77 TooManyRanges\n"),
+    ("toomany", "8 TooMany n\n"),
     ("82", "82 Stuck n\n"),
     ("check", "pciplan check DUMP PROBE [--root LIST]\n"),
     ("version", "pciplan version\n"),
