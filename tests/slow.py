@@ -4,9 +4,9 @@
 Usage: slow.py KIND COUNT [FIRST [PROGRAM]]
        slow.py KIND show SEED
 
-KIND is `judge`, `plan`, `settle`, `growth`, `spare`, `also`, `told`, or `all`, which is each of them. COUNT seeds are taken
-from FIRST on (0 if not said). Of `all` a quarter of these are for `plan` and `settle`, of which a seed has several boards,
-and an eighth for `growth`, `spare`, `also` and `told`. PROGRAM is the built program, by default
+KIND is `judge`, `plan`, `settle`, `growth`, `spare`, `also`, `told`, `model`, or `all`, which is each of them. COUNT seeds
+are taken from FIRST on (0 if not said). Of `all` a quarter of these are for `plan` and `settle`, of which a seed has several
+boards, and an eighth for `growth`, `spare`, `also`, `told` and `model`. PROGRAM is the built program, by default
 crates/pciplan/out/pciplan. What is printed:
 
 - a line for each board on which program and model differ, and below it what differs;
@@ -19,8 +19,10 @@ those of spare_rows.py. The program is asked for the same writes and denied spar
 that no register shows. Laws are tried of what the slow judge and the slow map say there, and of the boards of also_rows.py
 they say what stands there. The program is asked for the same. Boards of `told` are settled with ranges that are told
 beside them. Laws are tried of what the slow settler does there, and it settles the boards of told_settling_rows.py. The
-program is asked for the same writes and denied spares, also where all is placed anew. Of one of these four kinds no program
-is asked without a PROGRAM.
+program is asked for the same writes and denied spares, also where all is placed anew. Boards of `model` are settled by the
+words of `--model`. Laws are tried of what the slow settler does there, and it answers what stands in
+crates/pciplan/cases/settle_models*.txt. The program is asked for the same writes, the same dump and denied spares. Of one of
+these five kinds no program is asked without a PROGRAM.
 
 The status is 1 where boards disagree or a sort is lacking. `show` prints the board of a seed. RT_JOBS sets how many
 processes run at a time (as many as there are cores if not said).
@@ -41,6 +43,8 @@ import also_rows  # noqa: E402
 import growth_laws  # noqa: E402
 import growth_rows  # noqa: E402
 import judged  # noqa: E402
+import model_settling_laws  # noqa: E402
+import model_settling_rows  # noqa: E402
 import moving  # noqa: E402
 import spare_laws  # noqa: E402
 import spare_rows  # noqa: E402
@@ -56,12 +60,14 @@ KINDS = {
     'spare': (spare_laws.compare, spare_laws.show, spare_laws.SORTS),
     'also': (also_laws.compare, also_laws.show, also_laws.SORTS),
     'told': (told_settling_laws.compare, told_settling_laws.show, told_settling_laws.SORTS),
+    'model': (model_settling_laws.compare, model_settling_laws.show, model_settling_laws.SORTS),
 }
 MANY = 1000
-# boards that were worked out by hand
-ROWS = {'growth': growth_rows, 'spare': spare_rows, 'also': also_rows, 'told': told_settling_rows}
+# boards with what is answered of them
+ROWS = {'growth': growth_rows, 'spare': spare_rows, 'also': also_rows, 'told': told_settling_rows,
+        'model': model_settling_rows}
 # of how many seeds for `all` each kind takes one, by what its boards cost
-SHARES = {'judge': 1, 'plan': 4, 'settle': 4, 'growth': 8, 'spare': 8, 'also': 8, 'told': 8}
+SHARES = {'judge': 1, 'plan': 4, 'settle': 4, 'growth': 8, 'spare': 8, 'also': 8, 'told': 8, 'model': 8}
 
 
 class Task:
@@ -106,7 +112,7 @@ def lacking(kind, count, sorts):
 
 
 def rows_disagree(kind):
-    """Prints what is wrong on the boards of a kind that were worked out by hand; how many that are."""
+    """Prints what is wrong on the boards of a kind whose answers are kept; how many that are."""
     faults = ROWS[kind].row_faults() if kind in ROWS else []
     for fault in faults:
         print('%s.py, %s' % (ROWS[kind].__name__, fault))

@@ -1,11 +1,12 @@
 #!/bin/sh
 # The slow models of tests/slow.py beside the program, on boards made by rule: verdicts, lists of all faults, maps, plans,
 # what settles a board, which windows grow then, where room is kept free behind hot-plug slots, what is told beside a board,
-# and what settles it then. Prints what differs, and at the end how many boards agreed.
+# what settles it then, and what settles it by the words of `--model`. Prints what differs, and at the end how many boards
+# agreed.
 #
 # Usage: models_test.sh PROGRAM; BOARDS sets how many boards are judged (1600 if not said), a quarter as many seeds plan and
 # settle. An eighth as many are of boards on which windows grow, an eighth of boards with slots, an eighth of boards with
-# told ranges, and an eighth of boards that are settled with told ranges.
+# told ranges, an eighth of boards that are settled with told ranges, and an eighth of boards that are settled by words.
 set -u
 
 here=$(CDPATH='' cd -- "$(dirname -- "$0")" && pwd) || exit 1
