@@ -17,8 +17,7 @@ from judge import early_faults, faults
 from model import COMMAND, IO, MEM, WINDOWS, bit, put_number
 from planner import Fault, Plan, bridges_above
 from regions import Given, ToldRange, legacy_ranges, palette_ranges
-from settler import Settler
-from spares import NOTHING, settle_sparing
+from spares import NOTHING, has_hot_plug_slot, settle_sparing
 from told_settling import telling
 from words import legacy_parts, names_of, palette_parts, sleepers, taken
 
@@ -99,14 +98,21 @@ def plan_as_listed(functions, plan):
     return Plan(written, writes, plan.closings)
 
 
+def with_slots(functions, wanted):
+    """What is wanted, with the bridges that have a slot: without a list the registers of the functions as they are say it."""
+    if wanted.slots is not None:
+        return wanted
+    return wanted._replace(slots=[f.slot for f in functions if f.is_bridge and has_hot_plug_slot(f.image)])
+
+
 def settled_taken(functions, asked):
     """What is answered where no fault was found early, before the result is judged."""
     names = names_of(asked.words)
     functions_taken, lines = taken(functions, names), told_lines(functions, asked)
     request = asked.request._replace(fixed=sorted(set(asked.request.fixed) | unmoved_slots(functions, names)))
-    if len(lines) > LINES_MAX and not Settler(functions_taken, request).are_bad():
+    if len(lines) > LINES_MAX:
         return Settled(Fault(TOO_MANY, None, '77'), [])
-    sparing = settle_sparing(functions_taken, request, asked.wanted, telling(lines))
+    sparing = settle_sparing(functions_taken, request, with_slots(functions, asked.wanted), telling(lines))
     if isinstance(sparing.plan, Fault):
         return Settled(sparing.plan, [])
     return Settled(plan_as_listed(functions, sparing.plan), sparing.denied)
