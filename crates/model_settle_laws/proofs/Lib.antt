@@ -1,4 +1,8 @@
+mod AddressBits
+mod Along
 mod GivenLeft
 mod GivenMore
 mod GivenSparing
 mod GivenStops
+mod ListedWrites
+mod SetAside
