@@ -5,4 +5,5 @@ mod GivenMore
 mod GivenSparing
 mod GivenStops
 mod ListedWrites
+mod OwnFaults
 mod SetAside
