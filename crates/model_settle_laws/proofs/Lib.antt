@@ -7,3 +7,4 @@ mod GivenStops
 mod ListedWrites
 mod OwnFaults
 mod SetAside
+mod TakenAlong
