@@ -1,12 +1,12 @@
 -- A function moves, and what words take it as moves along with it.
-use Rattle.std.proofs.Common.{◌≡◌, ℕ, ◌+◌, ◌<◌, List, length, Bool, true, false, ◌&&◌, inl, inr, refl, sym, ◌∙◌, ap, subst, arith}
+use Rattle.std.proofs.Common.{◌≡◌, ℕ, ◌+◌, ◌/◌, ◌<◌, List, length, Bool, true, false, ◌&&◌, inl, inr, refl, sym, ◌∙◌, ap, subst, arith}
 use Rattle.std.specs.Bool.{IsFalse, nat_lt, ◌==◌}
 use Rattle.std.specs.Int.{bit_at}
 use Rattle.std.proofs.lemmas.Bool.{and_parts, both_ways, cases_Bool, eqb-true, ltb-true}
 use Rattle.std.proofs.lemmas.List.{ext_get_or}
 use Rattle.std.proofs.lemmas.Nat.Bits.{same_from_bits_below}
 use Rattle.pci_spec.specs.Number.{byte_at, number_at, has_bit, IsImage}
-use Rattle.pci_spec.specs.Header.{layout, rom_register}
+use Rattle.pci_spec.specs.Header.{class_code, layout, rom_register}
 use Rattle.pci_spec.specs.Registers.{COMMAND}
 use Rattle.pci_spec.specs.System.{Function}
 use Rattle.pci_spec.specs.Machine.{in_fields, address_fields, writable_bits, writable_by, clearing_bits}
@@ -26,11 +26,12 @@ pub record IsAs (f h : Function) : Type 0 where
   pub slot : h.slot ≡ f.slot
   pub probe : h.probe ≡ f.probe
   pub kind : layout h.image ≡ layout f.image
+  pub class : class_code h.image / 256 ≡ class_code f.image / 256
   pub image : IsImage h.image
   pub same : (place i : ℕ) → place < 256 → i < 8 → may_set f place i ≡ true → bit_at (byte_at h.image place) i ≡ bit_at (byte_at f.image place) i
 
 pub as_itself : (f : Function) → IsImage f.image → IsAs f f
-as_itself f is = record { slot = refl; probe = refl; kind = refl; image = is; same = λ place i inside small may. refl }
+as_itself f is = record { slot = refl; probe = refl; kind = refl; class = refl; image = is; same = λ place i inside small may. refl }
 
 module _ (f h : Function) (slot_kind : layout h.image ≡ layout f.image) (probe : h.probe ≡ f.probe) where
   -- the same bits may be set
@@ -54,6 +55,7 @@ as_through f g h a b = record {
   slot = b.slot ∙ a.slot;
   probe = b.probe ∙ a.probe;
   kind = b.kind ∙ a.kind;
+  class = b.class ∙ a.class;
   image = b.image;
   same = λ place i inside small may. b.same place i inside small (may_set_same f g a.kind a.probe place i inside small ∙ may) ∙ a.same place i inside small may;
 }

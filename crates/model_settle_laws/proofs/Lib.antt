@@ -8,3 +8,4 @@ mod ListedWrites
 mod OwnFaults
 mod SetAside
 mod TakenAlong
+mod WordsAfter

@@ -19,6 +19,7 @@ use Rattle.plan_spec.specs.Plan.{IsMoved}
 use Rattle.plan_spec.specs.Planning.Fitting.{IsFitting}
 use Rattle.plan_spec.proofs.Planning.Fit.{fitting_later, fitting_moves, moved_trans, written_image}
 use Rattle.plan_spec.proofs.Planning.Moved.{layout_same, no_early_field}
+use Rattle.plan_spec.proofs.Planning.Profile.{class_same}
 use Rattle.plan_spec.proofs.Planning.Registers.{datum_bit_at, register_bit}
 use Rattle.plan_spec.proofs.Planning.Settled.{function_after}
 use Rattle.plan_spec.proofs.Planning.Writes.{byte_outside, write_elsewhere, write_here}
@@ -55,7 +56,7 @@ offset_is u c = cond_both (u.offset == COMMAND) (record u { value = put_enables 
 width_is : (u : Write) (c : ℕ) → (put_write c u).width ≡ u.width
 width_is u c = cond_both (u.offset == COMMAND) (record u { value = put_enables c u.value }) u (λ x. x.width ≡ u.width) (λ on. refl) (λ off. refl)
 
-slot_is : (u : Write) (c : ℕ) → (put_write c u).slot ≡ u.slot
+pub slot_is : (u : Write) (c : ℕ) → (put_write c u).slot ≡ u.slot
 slot_is u c = cond_both (u.offset == COMMAND) (record u { value = put_enables c u.value }) u (λ x. x.slot ≡ u.slot) (λ on. refl) (λ off. refl)
 
 -- Command is c, but for its enables
@@ -199,6 +200,7 @@ module _ (f h : Function) (shown : IsAs f h) (is : IsImage f.image) (u : Write) 
     slot = shown.slot;
     probe = shown.probe;
     kind = layout_same h k k_moved shown.image ∙ shown.kind ∙ sym (layout_same f g g_moved is);
+    class = ap (λ n. n / 256) (class_same h k k_moved shown.image) ∙ shown.class ∙ ap (λ n. n / 256) (sym (class_same f g g_moved is));
     image = k_moved.image;
     same = λ place i inside small may. shows place i inside small (sym (may_set_same f g (layout_same f g g_moved is) refl place i inside small) ∙ may);
   }
@@ -217,10 +219,10 @@ command_later f g is m j i few small other =
 
 module _ (f h : Function) (is : IsImage f.image) (first : IsAs f h) where
   -- a state of both
-  record AreAfter (g k : Function) : Type 0 where
-    shown : IsAs g k
-    f_moved : IsMoved f g
-    h_moved : IsMoved h k
+  pub record AreAfter (g k : Function) : Type 0 where
+    pub shown : IsAs g k
+    pub f_moved : IsMoved f g
+    pub h_moved : IsMoved h k
 
   abbrev listed : Write → Write
   listed u = put_write (command f.image) u
@@ -250,7 +252,7 @@ module _ (f h : Function) (is : IsImage f.image) (first : IsAs f h) where
       written_same : record g { image = written (target_of g) (listed u).offset (listed u).width (listed u).value } ≡ record g { image = written (target_of g) u.offset u.width (listed u).value }
       written_same = λ i. record g { image = written (target_of g) (offset_is u (command f.image) i) (width_is u (command f.image) i) (listed u).value }
 
-  each_step : (g k : Function) (writes : List Write) → AreAfter g k → ((u : Write) → Contains writes u → same_slot h.slot u.slot ≡ true → IsFitting u h)
+  pub each_step : (g k : Function) (writes : List Write) → AreAfter g k → ((u : Write) → Contains writes u → same_slot h.slot u.slot ≡ true → IsFitting u h)
       → AreAfter (function_after g (map listed writes)) (function_after k writes)
   each_step g k [] state fits = state
   each_step g k (u ∷ writes) state fits =

@@ -30,6 +30,8 @@ use Rattle.model_settle_laws.proofs.Along.{IsAlong, IsAs, along_itself, along_th
 pub record IsPut (place : ℕ) (v : ℕ → ℕ) : Type 0 where
   pub low : place < 256
   pub other : place ≡ 0x0e → ⊥
+  pub lower : place ≡ 0x0a → ⊥
+  pub higher : place ≡ 0x0b → ⊥
   pub small : (n : ℕ) → n < 256 → v n < 256
   pub bits : (n m i : ℕ) → i < 8 → bit_at n i ≡ bit_at m i → bit_at (v n) i ≡ bit_at (v m) i
   pub stays : (f : Function) (i : ℕ) → i < 8 → may_set f place i ≡ true → (n : ℕ) → bit_at (v n) i ≡ bit_at n i
@@ -56,11 +58,20 @@ module _ (place : ℕ) (v : ℕ → ℕ) (is_put : IsPut place v) where
     ];
   }
 
+  put_class : (f : Function) → IsImage f.image → class_code (put f).image / 256 ≡ class_code f.image / 256
+  put_class f is =
+      let was = is.bytes 9 in
+      let new = (put_image f is).bytes 9 in
+      let low : byte_at (put f).image 10 ≡ byte_at f.image 10 = put_other f 0x0a (λ e. is_put.lower (sym e)) in
+      let high : byte_at (put f).image 11 ≡ byte_at f.image 11 = put_other f 0x0b (λ e. is_put.higher (sym e)) in
+      omega (arith, was, new, low, high)
+
   put_as : (f : Function) → IsImage f.image → IsAs f (put f)
   put_as f is = record {
     slot = refl;
     probe = refl;
     kind = put_kind f;
+    class = put_class f is;
     image = put_image f is;
     same = λ at i inside small may. elim (cases_eq at place) [
       | inl here ↦
@@ -195,18 +206,18 @@ snoop_stays n (suc (suc (suc (suc (suc (suc (suc zero))))))) small other = omega
 snoop_stays n (suc (suc (suc (suc (suc (suc (suc (suc i)))))))) small other = absurd (let no : ⊥ = omega (arith, small) in no)
 
 vga_is_put : IsPut 0x3e no_vga
-vga_is_put = record { low = omega arith; other = λ e. cc e; small = λ n less. omega (arith, less); bits = no_vga_bits; stays = λ f i small may n. absurd (control_fixed f i small may) }
+vga_is_put = record { low = omega arith; other = λ e. cc e; lower = λ e. cc e; higher = λ e. cc e; small = λ n less. omega (arith, less); bits = no_vga_bits; stays = λ f i small may n. absurd (control_fixed f i small may) }
 
 isa_is_put : IsPut 0x3e no_isa
-isa_is_put = record { low = omega arith; other = λ e. cc e; small = λ n less. omega (arith, less); bits = no_isa_bits; stays = λ f i small may n. absurd (control_fixed f i small may) }
+isa_is_put = record { low = omega arith; other = λ e. cc e; lower = λ e. cc e; higher = λ e. cc e; small = λ n less. omega (arith, less); bits = no_isa_bits; stays = λ f i small may n. absurd (control_fixed f i small may) }
 
 reset_is_put : IsPut 0x3e no_reset
-reset_is_put = record { low = omega arith; other = λ e. cc e; small = λ n less. omega (arith, less); bits = no_reset_bits; stays = λ f i small may n. absurd (control_fixed f i small may) }
+reset_is_put = record { low = omega arith; other = λ e. cc e; lower = λ e. cc e; higher = λ e. cc e; small = λ n less. omega (arith, less); bits = no_reset_bits; stays = λ f i small may n. absurd (control_fixed f i small may) }
 
 snoop_is_put : IsPut 4 no_snoop
 snoop_is_put = record {
   low = omega arith;
-  other = λ e. cc e;
+  other = λ e. cc e; lower = λ e. cc e; higher = λ e. cc e;
   small = λ n less. omega (arith, less);
   bits = no_snoop_bits;
   stays = λ f i small may n. snoop_stays n i small (λ five. both_ways (may_set f 4 5) (has_bit-writable_bits f.image f.probe 4 5 (omega arith) (omega arith) ∙ no_snoop_bit (layout f.image == 1) f.probe) (ap (λ j. may_set f 4 j) (sym five) ∙ may));
@@ -215,7 +226,7 @@ snoop_is_put = record {
 positive_is_put : IsPut 9 (λ n. 0)
 positive_is_put = record {
   low = omega arith;
-  other = λ e. cc e;
+  other = λ e. cc e; lower = λ e. cc e; higher = λ e. cc e;
   small = λ n less. omega arith;
   bits = λ n m i small same. refl;
   stays = λ f i small may n. absurd (both_ways (may_set f 9 i) (has_bit-writable_bits f.image f.probe 9 i (omega arith) small ∙ none_at_9 (layout f.image == 1) f.probe i) may);
@@ -227,7 +238,7 @@ module _ (f g : Function) (is : IsImage f.image) (m : IsMoved f g) where
   control_is : (bit : ℕ) → controls_bridge g.image bit ≡ controls_bridge f.image bit
   control_is bit = λ i. bridge_same f g m is i && has_bit (control_same f g m is i) bit
 
-  subtractive_is : is_subtractive_bridge g.image ≡ is_subtractive_bridge f.image
+  pub subtractive_is : is_subtractive_bridge g.image ≡ is_subtractive_bridge f.image
   subtractive_is = λ i. bridge_same f g m is i && class_same f g m is i == 0x060401
 
   anyone_is : (slots : List Slot) → is_bridge f ≡ true → is_anyone_behind slots g ≡ is_anyone_behind slots f
@@ -287,3 +298,9 @@ module _ (f g : Function) (is : IsImage f.image) (m : IsMoved f g) where
       (w.subtractive && is_subtractive_bridge f.image && not (is_anyone_behind slots f))
       (w.subtractive && is_subtractive_bridge g.image && not (is_anyone_behind slots g)) is m (positive_is w slots)
       (put_along 9 (λ n. 0) positive_is_put f g is m)
+
+  -- a bridge of the class of subtractive decoding that decodes its windows alone
+  pub unclaimed_along : (p r : Bool) → r ≡ p → IsAlong f g (if p then record { slot = f.slot; image = set f.image INTERFACE 0; probe = f.probe } else f)
+      (if r then record { slot = g.slot; image = set g.image INTERFACE 0; probe = g.probe } else g)
+  unclaimed_along p r same = along_where f g (record { slot = f.slot; image = set f.image INTERFACE 0; probe = f.probe }) (record { slot = g.slot; image = set g.image INTERFACE 0; probe = g.probe })
+      p r is m same (put_along 9 (λ n. 0) positive_is_put f g is m)

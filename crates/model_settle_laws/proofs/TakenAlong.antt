@@ -1,10 +1,10 @@
 -- What moved from a function is taken as what moved along with what the function was taken as.
-use Rattle.std.proofs.Common.{◌≡◌, ℕ, ◌+◌, ◌%◌, ◌<◌, [], ◌∷◌, List, Bool, true, false, ◌&&◌, not, is_some, Some, None, inl, inr, refl, sym, ◌∙◌, ap, subst, arith}
+use Rattle.std.proofs.Common.{◌≡◌, ℕ, ◌+◌, ◌/◌, ◌%◌, ◌<◌, [], ◌∷◌, List, Bool, true, false, ◌&&◌, ◌||◌, not, is_some, Some, None, inl, inr, refl, sym, ◌∙◌, ap, subst, arith}
 use Rattle.std.specs.Bool.{IsTrue, ◌==◌, if◌then◌else◌, nat_lt}
 use Rattle.std.proofs.lemmas.Bool.{and_left, and_parts, both_ways, cases_Bool, cond_both, ltb-true, ne_eqb, not_from_false, not_from_true}
 use Rattle.std.proofs.Math.Bool.{and-false}
 use Rattle.pci_spec.specs.Number.{byte_at, IsImage}
-use Rattle.pci_spec.specs.Header.{layout}
+use Rattle.pci_spec.specs.Header.{class_code, layout}
 use Rattle.pci_spec.specs.Slot.{IsSlot, Slot}
 use Rattle.pci_spec.specs.Bus.{secondary}
 use Rattle.pci_spec.specs.Decoded.{bridge_of, record_of}
@@ -13,12 +13,13 @@ use Rattle.pci_spec.specs.System.{Function, IsFunction, is_bridge}
 use Rattle.pci_spec.specs.Window.{WindowKind, IoWindow, MemoryWindow, PrefetchWindow, breaks_window_rule, bounds_at}
 use Rattle.plan_spec.specs.Plan.{IsMoved}
 use Rattle.plan_spec.proofs.Planning.Fit.{moved_itself}
-use Rattle.plan_spec.proofs.Planning.Moved.{bridge_same, secondary_same}
+use Rattle.plan_spec.proofs.Planning.Moved.{bridge_same, layout_same, secondary_same}
+use Rattle.plan_spec.proofs.Planning.Profile.{class_same}
 use Rattle.plan_spec.proofs.Planning.OtherRules.{window_rule_same}
 use Rattle.model_spec.specs.Words.{Words}
 use Rattle.model_spec.specs.Windows.{shown_nibble, window_as_shown, windows_as_shown, with_nibble}
-use Rattle.model_spec.specs.Taken.{FixedParts, HasNoOwnFaultBefore, IsAsleepBy, IsTakenAs, IsWhere, bridge_aside, cardbus_aside, first_aside, fixed_parts_by, has_numbers, is_unnumbered, is_unnumbered_bridge, isa_aside_by, may_have_parts_by, parts_aside, reset_aside, vga_aside_by, windows_aside, without_buses}
-use Rattle.model_spec.proofs.Changes.{device_is_none}
+use Rattle.model_spec.specs.Taken.{FixedParts, HasNoOwnFaultBefore, IsAsleepBy, IsTakenAs, IsWhere, bridge_aside, cardbus_aside, first_aside, fixed_parts_by, has_numbers, is_cardbus, is_ide, is_unnumbered, is_unnumbered_bridge, isa_aside_by, may_have_parts_by, parts_aside, reset_aside, vga_aside_by, windows_aside, without_buses, without_channels, without_socket}
+use Rattle.model_spec.proofs.Changes.{device_is_device, device_is_none}
 use Rattle.model_spec.proofs.Kept.{unnumbered_is_bridge}
 use Rattle.model_settle_laws.proofs.Along.{IsAlong, IsAs, along_itself, along_through}
 use Rattle.model_settle_laws.proofs.OwnFaults.{asleep_later, moves_back, own_later}
@@ -107,15 +108,14 @@ pub record IsTakenAlong (w : Words) (slots : List Slot) (f g h : Function) : Typ
   pub taken : IsTakenAs w slots g k
   pub along : IsAlong f g h k
 
--- ---- without the words that take away registers
+-- ---- where it keeps its registers
 
-abbrev pub plain_words : Words → Words
-plain_words w = record w { ide = false; cardbus = false }
+-- By no word it is a controller without channels or a socket.
+pub record IsTakenWhole (w : Words) (f : Function) : Type 0 where
+  pub channels : (w.ide && is_ide f.image) ≡ false
+  pub socket : (w.cardbus && is_cardbus f) ≡ false
 
-module _ (v : Words) (slots : List Slot) (f g h : Function) (is : IsFunction f) (m : IsMoved f g) (stirred : IsStirred (plain_words v) f h) (taken : IsTakenAs (plain_words v) slots f h) where
-  abbrev w : Words
-  w = plain_words v
-
+module _ (w : Words) (slots : List Slot) (f g h : Function) (is : IsFunction f) (m : IsMoved f g) (stirred : IsStirred w f h) (whole : IsTakenWhole w f) (taken : IsTakenAs w slots f h) where
   abbrev x : Function
   x = first_aside w f
 
@@ -163,14 +163,33 @@ module _ (v : Words) (slots : List Slot) (f g h : Function) (is : IsFunction f) 
   parts_were : AreParts (fixed_parts_by w f) b taken.k
   parts_were = subst (λ z. AreParts (fixed_parts_by w f) (bridge_aside w slots z) taken.k) g_is taken.parts
 
+  no_socket : (r : Function) → is_cardbus r ≡ is_cardbus f → cardbus_aside w r ≡ r
+  no_socket r same = ap (λ t. if t then without_socket r else r) (ap (λ t. w.cardbus && t) same ∙ whole.socket)
+
+  no_channels : (r : Function) → layout r.image ≡ layout f.image → class_code r.image / 256 ≡ class_code f.image / 256 → (w.ide && is_ide r.image) ≡ false
+  no_channels r kind class = (λ i. w.ide && (kind i == 0 && class i == 0x0101)) ∙ whole.channels
+
+  b_channels : (w.ide && is_ide b.image) ≡ false
+  b_channels = no_channels b all_along.before.kind all_along.before.class
+
+  c_channels : (w.ide && is_ide c.image) ≡ false
+  c_channels = no_channels c (all_along.after.kind ∙ layout_same f g m is.image) (all_along.after.class ∙ ap (λ n. n / 256) (class_same f g m is.image))
+
+  -- just buses may be left out
+  parts_by : (fixed : FixedParts) (r : Function) → (w.ide && is_ide r.image) ≡ false → parts_aside w fixed r ≡ (if w.unnumbered && is_unnumbered fixed r then without_buses r else r)
+  parts_by fixed r none = ap (λ t. if t then without_channels r else if w.unnumbered && is_unnumbered fixed r then without_buses r else r) none
+
+  bare_is_none : cardbus_aside w (without_buses b) ≡ without_buses b
+  bare_is_none = ap (λ t. if t then without_socket (without_buses b) else without_buses b) (ap (λ n. w.cardbus && n == 2) (device_is_device b.image) ∙ and-false w.cardbus)
+
   -- it is a bridge no more where its buses are left out
   k_is : taken.k ≡ b
   k_is = elim parts_were [
     | inr (fails, same) ↦ same
-    | inl (holds, changed) ↦ elim (cases_Bool (w.unnumbered && is_unnumbered (fixed_parts_by w f) b)) [
+    | inl (holds, changed_to) ↦ let changed = changed_to ∙ parts_by (fixed_parts_by w f) b b_channels in elim (cases_Bool (w.unnumbered && is_unnumbered (fixed_parts_by w f) b)) [
       | inr other ↦ changed ∙ ap (λ t. if t then without_buses b else b) other
       | inl bare ↦
-          let none : is_bridge h ≡ false = ap is_bridge (taken.header ∙ changed ∙ ap (λ t. if t then without_buses b else b) bare) ∙ device_is_none b.image in
+          let none : is_bridge h ≡ false = ap is_bridge (taken.header ∙ ap (cardbus_aside w) (changed ∙ ap (λ t. if t then without_buses b else b) bare) ∙ bare_is_none) ∙ device_is_none b.image in
           let leads : is_bridge f ≡ true = elim (cases_Bool (is_bridge f)) [
             | inl bridge ↦ bridge
             | inr device ↦
@@ -182,7 +201,7 @@ module _ (v : Words) (slots : List Slot) (f g h : Function) (is : IsFunction f) 
   ]
 
   h_is : h ≡ b
-  h_is = taken.header ∙ k_is
+  h_is = taken.header ∙ ap (cardbus_aside w) k_is ∙ no_socket b (ap (λ n. n == 2) all_along.before.kind)
 
   -- so none is left out later
   unchanged : parts_aside w (fixed_parts_by w g) c ≡ c
@@ -190,11 +209,12 @@ module _ (v : Words) (slots : List Slot) (f g h : Function) (is : IsFunction f) 
       let some : is_bridge c ≡ true → secondary c ≡ 0 → ⊥ = λ bridge zero.
       let was : is_bridge b ≡ true = sym (bridge_same b c to_b.moved to_b.before.image) ∙ bridge in
       stirred.numbers (ap is_bridge h_is ∙ was) (ap secondary h_is ∙ sym (secondary_same b c to_b.moved to_b.before.image was) ∙ zero) in
-      ap (λ t. if w.unnumbered && t then without_buses c else c) (numbered (fixed_parts_by w g) c some)
+      parts_by (fixed_parts_by w g) c c_channels
+      ∙ ap (λ t. if w.unnumbered && t then without_buses c else c) (numbered (fixed_parts_by w g) c some)
       ∙ ap (λ t. if t then without_buses c else c) (and-false w.unnumbered)
 
   may_same : may_have_parts_by w c ≡ may_have_parts_by w b
-  may_same = ap (λ t. w.unnumbered && t) (bridge_same b c to_b.moved to_b.before.image)
+  may_same = λ i. (c_channels ∙ sym b_channels) i || (w.unnumbered && bridge_same b c to_b.moved to_b.before.image i)
 
   b_is : IsFunction b
   b_is = record {
@@ -221,9 +241,9 @@ module _ (v : Words) (slots : List Slot) (f g h : Function) (is : IsFunction f) 
   still_awake : IsAsleepBy w g → ⊥
   still_awake asleep = stirred.awake (asleep.0, asleep_later x y x_is (later_is x y x_is to_x.moved) to_x.moved asleep.1)
 
-  pub plain_along : IsTakenAlong w slots f g h
-  plain_along = record {
+  pub whole_along : IsTakenAlong w slots f g h
+  whole_along = record {
     k = c;
-    taken = record { g = y; k = c; power = inr (still_awake, refl); parts = parts_are; header = refl };
+    taken = record { g = y; k = c; power = inr (still_awake, refl); parts = parts_are; header = sym (no_socket c (ap (λ n. n == 2) (all_along.after.kind ∙ layout_same f g m is.image))) };
     along = subst (λ z. IsAlong f g z c) (sym h_is) all_along;
   }
