@@ -1,9 +1,10 @@
 -- So it is where settling with room behind slots ends in writes.
 use Rattle.std.proofs.Common.{◌≡◌, ◌⊎◌, ◌≤◌, ℕ, List, length, take, sym, ◌∙◌, ap, refl, subst}
-use Rattle.std.specs.List.{Contains}
+use Rattle.std.specs.List.{All, Contains}
 use Rattle.std.proofs.lemmas.Bool.{cond_both}
 use Rattle.pci_spec.specs.System.{System}
 use Rattle.pci_spec.specs.Machine.{Write, system_after}
+use Rattle.plan_spec.specs.Planning.Fitting.{FitsAt}
 use Rattle.given_spec.specs.Given.{Given}
 use Rattle.given_spec.specs.ToldClaims.{Told}
 use Rattle.given_spec.specs.ToldSound.{IsSound}
@@ -14,7 +15,7 @@ use Rattle.settle_spec.specs.Keeping.Writes.{closings, settle_writes, settle_kee
 use Rattle.settle_spec.specs.Sparing.{without_slots, have_spares, placing_request, grants, settle_sparing}
 use Rattle.settle_spec.specs.Writes.{Settled}
 use Rattle.settle_laws.specs.ToldSoundLaws.{CanAskTold, CanSettleTold, IsToldOf}
-use Rattle.settle_laws.proofs.Keeping.Stopping.{writes_settle}
+use Rattle.settle_laws.proofs.Keeping.Stopping.{writes_fit, writes_settle}
 use Rattle.settle_laws.proofs.Told.Ended.{told_end}
 use Rattle.settle_laws.proofs.Told.Settling.{beside_wishes, placing_admitted, settled_can, sparing_can}
 use Rattle.model_settle_laws.specs.StopLaws.{AreToldTo, SettlingSparingCanStop}
@@ -49,6 +50,10 @@ module _ (q : Request) (s : System) (writes : List Write) (may : CanAskTold q s)
 
   result_is : system_after s writes ≡ settled p s j
   result_is = ap (system_after s) (sym same_writes) ∙ writes_settle p s j can.can
+
+  -- each write fits the function at its slot
+  pub sparing_fits : All (FitsAt s) writes
+  sparing_fits = subst (All (FitsAt s)) same_writes (writes_fit p s j can.can)
 
   module _ (told : Told) (given : Given) (among : AreToldTo q told) where
     among_placing : AreToldTo p told

@@ -4,8 +4,11 @@ mod GivenLeft
 mod GivenMore
 mod GivenSparing
 mod GivenStops
+mod Interfaces
+mod InterfacesAside
 mod ListedWrites
 mod OwnFaults
 mod SetAside
 mod TakenAlong
 mod WordsAfter
+mod WordsSettled

@@ -4,12 +4,12 @@ use Rattle.std.proofs.Common.{◌≡◌, ℕ, zero, suc, ◌+◌, ◌-◌, ◌*�
 use Rattle.std.specs.Bool.{IsFalse, nat_lt, ◌==◌, if◌then◌else◌}
 use Rattle.std.specs.Int.{bit_at}
 use Rattle.std.specs.List.{Contains}
-use Rattle.std.proofs.lemmas.Bool.{and_parts, both_ways, cases_Bool, cases_eq, cases_lt, cond_both, eqb-true, eq-eqb, ne_eqb, ltb-true, lt-ltb, le-ltb}
+use Rattle.std.proofs.lemmas.Bool.{and_parts, both_ways, cases_Bool, cases_eq, cases_lt, cond_both, eqb-true, eq-eqb, ltb-true, lt-ltb}
 use Rattle.std.proofs.lemmas.Nat.{shr-shr}
-use Rattle.pci_spec.specs.Number.{byte_at, number_at, has_bit, IsImage}
+use Rattle.pci_spec.specs.Number.{byte_at, has_bit, IsImage}
 use Rattle.pci_spec.specs.Header.{layout, command}
 use Rattle.pci_spec.specs.Registers.{COMMAND}
-use Rattle.pci_spec.specs.Slot.{Slot, same_slot}
+use Rattle.pci_spec.specs.Slot.{same_slot}
 use Rattle.pci_spec.specs.System.{Function}
 use Rattle.pci_spec.specs.Machine.{Write, in_fields, address_fields, writable_by, clearing_by, clearing_bits, target_of, write_function, written}
 use Rattle.pci_spec.proofs.Members.{in_head, in_tail}
@@ -23,7 +23,7 @@ use Rattle.plan_spec.proofs.Planning.Profile.{class_same}
 use Rattle.plan_spec.proofs.Planning.Registers.{datum_bit_at, register_bit}
 use Rattle.plan_spec.proofs.Planning.Settled.{function_after}
 use Rattle.plan_spec.proofs.Planning.Writes.{byte_outside, write_elsewhere, write_here}
-use Rattle.model_settle_laws.proofs.Along.{IsAs, may_set, may_set_same, fields_same, clears_same, enables_may}
+use Rattle.model_settle_laws.proofs.Along.{IsAs, may_set, may_set_same, fields_same, clears_same}
 
 -- ---- Command with the enables of a datum
 

@@ -1,15 +1,14 @@
 -- Words that change one byte take what moved as they took what was there before.
-use Rattle.std.specs.Prelude.{◌⊎◌}
-use Rattle.std.proofs.Common.{◌≡◌, ℕ, zero, suc, ◌+◌, ◌-◌, ◌*◌, ◌/◌, ◌%◌, ◌^◌, ◌<◌, ◌≤◌, List, Bool, true, false, ◌&&◌, not, is_some, inl, inr, refl, sym, ◌∙◌, ap, subst, arith, length, set}
+use Rattle.std.proofs.Common.{◌≡◌, ℕ, zero, suc, ◌+◌, ◌-◌, ◌*◌, ◌/◌, ◌%◌, ◌<◌, List, Bool, true, false, ◌&&◌, not, is_some, inl, inr, refl, sym, ◌∙◌, ap, subst, arith, length, set}
 use Rattle.std.specs.List.{list_any}
 use Rattle.std.proofs.Math.Bool.{and-false}
-use Rattle.std.specs.Bool.{IsFalse, nat_le, nat_lt, ◌==◌, if◌then◌else◌}
+use Rattle.std.specs.Bool.{IsFalse, nat_le, ◌==◌, if◌then◌else◌}
 use Rattle.std.specs.Int.{bit_at}
-use Rattle.std.proofs.lemmas.Bool.{both_ways, cases_Bool, cases_eq, cases_lt, cond_both}
+use Rattle.std.proofs.lemmas.Bool.{both_ways, cases_Bool, cases_eq, cond_both}
 use Rattle.std.proofs.lemmas.List.{get_or-set_same, get_or-set_other, length-set}
-use Rattle.pci_spec.specs.Number.{byte_at, number_at, has_bit, IsImage}
-use Rattle.pci_spec.specs.Header.{layout, bridge_control, class_code, command}
-use Rattle.pci_spec.specs.Registers.{COMMAND, INTERFACE, BRIDGE_CONTROL, SECONDARY_BUS_RESET, ISA_ENABLE, VGA_ENABLE}
+use Rattle.pci_spec.specs.Number.{byte_at, has_bit, IsImage}
+use Rattle.pci_spec.specs.Header.{layout, bridge_control, class_code}
+use Rattle.pci_spec.specs.Registers.{INTERFACE, SECONDARY_BUS_RESET, ISA_ENABLE, VGA_ENABLE}
 use Rattle.pci_spec.specs.Slot.{Slot}
 use Rattle.pci_spec.specs.System.{Function, is_bridge}
 use Rattle.pci_spec.specs.Fault.{controls_bridge, is_subtractive_bridge}
@@ -18,11 +17,11 @@ use Rattle.pci_spec.proofs.WritableBits.{has_bit-writable_bits}
 use Rattle.given_spec.specs.Words.{isa_aside, snoop_aside, vga_aside}
 use Rattle.model_spec.specs.Words.{Words}
 use Rattle.model_spec.specs.Bytes.{out_of_reset, positive}
-use Rattle.model_spec.specs.Taken.{bridge_aside, function_with_image, is_anyone_behind, isa_aside_by, reset_aside, snoop_aside_by, subtractive_aside, vga_aside_by}
+use Rattle.model_spec.specs.Taken.{function_with_image, is_anyone_behind, isa_aside_by, reset_aside, snoop_aside_by, subtractive_aside, vga_aside_by}
 use Rattle.plan_spec.specs.Plan.{IsMoved}
 use Rattle.plan_spec.proofs.Planning.Moved.{bridge_same, secondary_same, subordinate_same}
 use Rattle.plan_spec.proofs.Planning.Profile.{class_same, control_same}
-use Rattle.model_settle_laws.proofs.Along.{IsAlong, IsAs, along_itself, along_through, fields_same, may_set}
+use Rattle.model_settle_laws.proofs.Along.{IsAlong, IsAs, along_itself, fields_same, may_set}
 
 -- ---- one byte
 
@@ -217,7 +216,9 @@ reset_is_put = record { low = omega arith; other = λ e. cc e; lower = λ e. cc 
 snoop_is_put : IsPut 4 no_snoop
 snoop_is_put = record {
   low = omega arith;
-  other = λ e. cc e; lower = λ e. cc e; higher = λ e. cc e;
+  other = λ e. cc e;
+  lower = λ e. cc e;
+  higher = λ e. cc e;
   small = λ n less. omega (arith, less);
   bits = no_snoop_bits;
   stays = λ f i small may n. snoop_stays n i small (λ five. both_ways (may_set f 4 5) (has_bit-writable_bits f.image f.probe 4 5 (omega arith) (omega arith) ∙ no_snoop_bit (layout f.image == 1) f.probe) (ap (λ j. may_set f 4 j) (sym five) ∙ may));
@@ -226,7 +227,9 @@ snoop_is_put = record {
 positive_is_put : IsPut 9 (λ n. 0)
 positive_is_put = record {
   low = omega arith;
-  other = λ e. cc e; lower = λ e. cc e; higher = λ e. cc e;
+  other = λ e. cc e;
+  lower = λ e. cc e;
+  higher = λ e. cc e;
   small = λ n less. omega arith;
   bits = λ n m i small same. refl;
   stays = λ f i small may n. absurd (both_ways (may_set f 9 i) (has_bit-writable_bits f.image f.probe 9 i (omega arith) small ∙ none_at_9 (layout f.image == 1) f.probe i) may);

@@ -1,9 +1,9 @@
 -- What moved from a function is taken as what moved along with what the function was taken as.
-use Rattle.std.proofs.Common.{◌≡◌, ℕ, ◌+◌, ◌/◌, ◌%◌, ◌<◌, [], ◌∷◌, List, Bool, true, false, ◌&&◌, ◌||◌, not, is_some, Some, None, inl, inr, refl, sym, ◌∙◌, ap, subst, arith}
-use Rattle.std.specs.Bool.{IsTrue, ◌==◌, if◌then◌else◌, nat_lt}
-use Rattle.std.proofs.lemmas.Bool.{and_left, and_parts, both_ways, cases_Bool, cond_both, ltb-true, ne_eqb, not_from_false, not_from_true}
+use Rattle.std.proofs.Common.{◌≡◌, ◌/◌, List, Bool, true, false, ◌&&◌, ◌||◌, not, Some, None, inl, inr, refl, sym, ◌∙◌, ap, subst, arith}
+use Rattle.std.specs.Bool.{IsTrue, ◌==◌, if◌then◌else◌}
+use Rattle.std.proofs.lemmas.Bool.{and_left, and_parts, both_ways, cases_Bool, ne_eqb, not_from_false, not_from_true}
 use Rattle.std.proofs.Math.Bool.{and-false}
-use Rattle.pci_spec.specs.Number.{byte_at, IsImage}
+use Rattle.pci_spec.specs.Number.{IsImage}
 use Rattle.pci_spec.specs.Header.{class_code, layout}
 use Rattle.pci_spec.specs.Slot.{IsSlot, Slot}
 use Rattle.pci_spec.specs.Bus.{secondary}
@@ -12,7 +12,6 @@ use Rattle.pci_spec.specs.Order.{Place}
 use Rattle.pci_spec.specs.System.{Function, IsFunction, is_bridge}
 use Rattle.pci_spec.specs.Window.{WindowKind, IoWindow, MemoryWindow, PrefetchWindow, breaks_window_rule, bounds_at}
 use Rattle.plan_spec.specs.Plan.{IsMoved}
-use Rattle.plan_spec.proofs.Planning.Fit.{moved_itself}
 use Rattle.plan_spec.proofs.Planning.Moved.{bridge_same, layout_same, secondary_same}
 use Rattle.plan_spec.proofs.Planning.Profile.{class_same}
 use Rattle.plan_spec.proofs.Planning.OtherRules.{window_rule_same}
@@ -42,7 +41,7 @@ all_shown f fine =
 abbrev pub AreWindowsShown : Words → Function → Type 0
 AreWindowsShown w f = (w.windows && is_bridge f) ≡ true → HasNoStuckWindow f
 
-aside_is : (w : Words) (f : Function) → AreWindowsShown w f → windows_aside w f ≡ f
+pub aside_is : (w : Words) (f : Function) → AreWindowsShown w f → windows_aside w f ≡ f
 aside_is w f fine = elim (cases_Bool (w.windows && is_bridge f)) [
   | inl counts ↦ ap (λ b. if b then windows_as_shown f else f) counts ∙ all_shown f (fine counts)
   | inr other ↦ ap (λ b. if b then windows_as_shown f else f) other

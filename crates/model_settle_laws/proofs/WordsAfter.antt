@@ -1,9 +1,9 @@
 -- Words take a system after the writes that it lists as they took it, and as what they took is after these writes.
-use Rattle.std.proofs.Common.{◌≡◌, ℕ, ◌<◌, [], ◌∷◌, List, Bool, true, false, ◌&&◌, ◌||◌, not, inl, inr, refl, sym, ◌∙◌, ap, subst, arith, map, set}
+use Rattle.std.proofs.Common.{◌≡◌, ℕ, [], ◌∷◌, List, Bool, true, false, ◌&&◌, ◌||◌, not, inl, inr, refl, sym, ◌∙◌, ap, subst, map, set}
 use Rattle.std.specs.Prelude.{◌⊎◌}
 use Rattle.std.specs.Bool.{◌==◌, if◌then◌else◌}
 use Rattle.std.specs.List.{AllZip, Contains, list_any}
-use Rattle.std.proofs.lemmas.Bool.{cases_Bool, cond_both}
+use Rattle.std.proofs.lemmas.Bool.{cases_Bool}
 use Rattle.std.proofs.lemmas.List.{map-id}
 use Rattle.std.proofs.lemmas.List.Elements.{All-contains}
 use Rattle.pci_spec.specs.Number.{IsImage}
@@ -11,7 +11,6 @@ use Rattle.pci_spec.specs.Header.{command}
 use Rattle.pci_spec.specs.Registers.{INTERFACE}
 use Rattle.pci_spec.specs.Slot.{IsSlot, Slot, same_slot}
 use Rattle.pci_spec.specs.System.{Function, IsFunction, IsSystem, System}
-use Rattle.pci_spec.specs.Fault.{is_subtractive_bridge}
 use Rattle.pci_spec.specs.Machine.{Write, system_after, write_function}
 use Rattle.pci_spec.proofs.Members.{in_head, in_tail}
 use Rattle.pci_spec.proofs.Pairs.{member_forth}
@@ -23,7 +22,7 @@ use Rattle.plan_spec.proofs.Planning.Settled.{function_after, system_by_function
 use Rattle.plan_spec.proofs.Planning.Writes.{write_elsewhere}
 use Rattle.model_spec.specs.Words.{Words}
 use Rattle.model_spec.specs.Taken.{AreFunctionsTakenAs, IsTakenAs, unclaimed_aside_by}
-use Rattle.model_settle_laws.proofs.Along.{IsAlong, IsAs, along_itself, as_itself, as_through, one_along}
+use Rattle.model_settle_laws.proofs.Along.{IsAlong, IsAs, along_itself, as_through, one_along}
 use Rattle.model_settle_laws.proofs.ListedWrites.{AreAfter, each_step, put_write, slot_is}
 use Rattle.model_settle_laws.proofs.SetAside.{subtractive_is, unclaimed_along}
 use Rattle.model_settle_laws.proofs.TakenAlong.{IsStirred, IsTakenAlong, IsTakenWhole, whole_along}
@@ -33,7 +32,7 @@ use Rattle.model_settle_laws.proofs.TakenAlong.{IsStirred, IsTakenAlong, IsTaken
 abbrev pub alone_aside : Words → System → Function → Function
 alone_aside w s f = if w.unclaimed then unclaimed_aside s f else f
 
-each_aside : (w : Words) (s : System) → unclaimed_aside_by w s ≡ map (alone_aside w s) s
+pub each_aside : (w : Words) (s : System) → unclaimed_aside_by w s ≡ map (alone_aside w s) s
 each_aside w s = elim (cases_Bool w.unclaimed) [
   | inl counts ↦ (λ i. if counts i then taken_by_unclaimed s else s) ∙ sym (λ i. map (λ (f : Function). if counts i then unclaimed_aside s f else f) s)
   | inr other ↦ (λ i. if other i then taken_by_unclaimed s else s) ∙ sym (map-id s) ∙ sym (λ i. map (λ (f : Function). if other i then unclaimed_aside s f else f) s)
@@ -135,7 +134,7 @@ module _ (w : Words) (slots : List Slot) (s : System) (system : IsSystem s) (lis
   none_moves x has = ((is_of x has).image, moved_itself x (is_of x has).image)
 
   -- beside functions that stay it is taken as it is
-  aside_shows : (f : Function) → Contains s f → IsAs f (alone_aside w s f)
+  pub aside_shows : (f : Function) → Contains s f → IsAs f (alone_aside w s f)
   aside_shows f has = (aside_along f f (is_of f has).image (moved_itself f (is_of f has).image) w (λ x. x) s none_moves).before
 
   aside_is : (f : Function) → Contains s f → IsFunction (alone_aside w s f)

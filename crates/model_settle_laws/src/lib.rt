@@ -1,5 +1,6 @@
 //! Laws of settling where more is beside a system than settling was told of.
-//! What they speak of is in `given_spec` and `settle_spec`.
+//! What they speak of is in `given_spec`, `settle_spec` and `model_spec`.
 #![tactic(auto)]
 
 pub mod stop_laws;
+pub mod word_laws;
