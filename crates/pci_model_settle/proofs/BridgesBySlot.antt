@@ -1,7 +1,7 @@
 -- The bridges of a system that have a part stand by slot.
 use Rattle.std.proofs.Common.{◌≡◌, ℕ, zero, suc, ◌+◌, ◌<◌, ◌≤◌, List, [], ◌∷◌, Bool, true, false, length, map, get_or, arith, subst}
 use Rattle.std.specs.Prelude.{⊤, Option, if◌then◌else◌, slice_index}
-use Rattle.std.specs.List.{All, filter}
+use Rattle.std.specs.List.{filter}
 use Rattle.std.specs.List.Sorted.{IsNonDecreasingBy, IsStrictlyIncreasing}
 use Rattle.std.proofs.lemmas.List.Elements.{All-filter, All-map, All-weaker}
 use Rattle.pci_spec.specs.Slot.{IsSlot, slot_number}

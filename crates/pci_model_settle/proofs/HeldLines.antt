@@ -18,24 +18,24 @@ use Rattle.pci_claims.specs.declared.legacy.FixedPart.TheVariants.{Legacy, Palet
 use Rattle.pci_claims.specs.Legacy.{blocks_of, vga_low, vga_high, palette_low, palette_high}
 use Rattle.pci_model_settle.specs.declared.claim_lines.Line.{Line as CodeLine}
 use Rattle.pci_model_settle.specs.declared.claim_lines.TooManyLines.{TooManyLines}
-use Rattle.pci_model_settle.specs.LineValues.{line_value}
-use Rattle.pci_model_settle.specs.ClaimLines.{AreBySlot, Line, claim_line, claim_lines, held, joined, lines_with, merged, part_lines, port_lines, ports_of_kb, told_lines}
-use Rattle.pci_model_settle.proofs.MergedLines.{map_merged, merged_length}
+use Rattle.pci_model_settle.specs.LineValues.{AreToldInOrder, line_value, ranges_in}
+use Rattle.pci_model_settle.specs.ClaimLines.{AreBySlot, Line, claim_line, claim_lines, held, joined, line_key, lines_with, merged, own_lines, part_lines, port_lines, ports_of_kb, ranges_of, told_lines}
+use Rattle.pci_model_settle.proofs.MergedLines.{map_merged, merged_length, ranges_of_lines}
 
-abbrev number_of : ToldRange → ℕ
+abbrev pub number_of : ToldRange → ℕ
 number_of r = slot_number r.slot
 
 -- ranges that can be told, from a slot on
-abbrev AreFrom : ℕ → List ToldRange → Type 0
+abbrev pub AreFrom : ℕ → List ToldRange → Type 0
 AreFrom k [] = ⊤
 AreFrom k (r ∷ rs) = IsToldRange r × (k ≤ number_of r) × AreFrom (number_of r) rs
 
 -- ranges that can be told, of one slot
-abbrev AreAt : ℕ → List ToldRange → Type 0
+abbrev pub AreAt : ℕ → List ToldRange → Type 0
 AreAt k [] = ⊤
 AreAt k (r ∷ rs) = IsToldRange r × (number_of r ≡ k) × AreAt k rs
 
-from_lower : (k n : ℕ) (rs : List ToldRange) → n ≤ k → AreFrom k rs → AreFrom n rs
+pub from_lower : (k n : ℕ) (rs : List ToldRange) → n ≤ k → AreFrom k rs → AreFrom n rs
 from_lower k n [] le h = tt
 from_lower k n (r ∷ rs) le h = (h.0, let up = h.1 in omega (arith, le, up), h.2)
 
@@ -68,6 +68,17 @@ nameless r h = record {
   forward = h.forward;
 }
 
+-- ranges that can be told one by one and stand in order
+pub from_list : (k : ℕ) (rs : List ToldRange) → All IsToldRange rs → IsNonDecreasingBy number_of rs → ((d : ToldRange) → 0 < length rs → k ≤ number_of (get_or rs 0 d)) → AreFrom k rs
+from_list k [] each order low = tt
+from_list k (r ∷ rs) each order low = (
+  each 0 r (omega arith),
+  low r (omega arith),
+  from_list (number_of r) rs (All-tail IsToldRange r rs each)
+      (λ (i j : ℕ) (d : ToldRange) (le : i ≤ j) (lt : j < length rs). order (suc i) (suc j) d (omega (arith, le)) (omega (arith, lt)))
+      (λ (d : ToldRange) (some : 0 < length rs). order 0 1 d (omega arith) (omega (arith, some))),
+)
+
 told_from : (k n : ℕ) (rs : List ToldRange) → All IsToldRange rs → IsNonDecreasingBy number_of rs → ((d : ToldRange) → 0 < length rs → k ≤ number_of (get_or rs 0 d))
     → AreFrom k (map (λ l. l.range) (told_lines n rs))
 told_from k n [] each order low = tt
@@ -91,7 +102,7 @@ held_told slot space first last is_slot low high forward = record {
   forward = forward;
 }
 
-at_both : (k : ℕ) (xs ys : List ToldRange) → AreAt k xs → AreAt k ys → AreAt k (xs ++ ys)
+pub at_both : (k : ℕ) (xs ys : List ToldRange) → AreAt k xs → AreAt k ys → AreAt k (xs ++ ys)
 at_both k [] ys hx hy = hy
 at_both k (x ∷ xs) ys hx hy = (hx.0, hx.1, at_both k xs ys hx.2 hy)
 
@@ -127,7 +138,7 @@ part_at Legacy b is_slot =
 part_at Palette b is_slot =
     ports_at b.slot is_slot palette_low palette_high (omega arith) (omega arith) (omega arith) (omega arith) (blocks_of b.is_wide) (few_blocks b.is_wide)
 
-from_at : (k n : ℕ) (xs ys : List ToldRange) → k ≤ n → AreAt n xs → AreFrom n ys → AreFrom k (xs ++ ys)
+pub from_at : (k n : ℕ) (xs ys : List ToldRange) → k ≤ n → AreAt n xs → AreFrom n ys → AreFrom k (xs ++ ys)
 from_at k n [] ys le hx hy = from_lower n k ys le hy
 from_at k n (x ∷ xs) ys le hx hy = (
   hx.0,
@@ -146,7 +157,7 @@ bridges_from k part (b ∷ bs) each order low =
 
 -- ---- what can be told
 
-each_told : (k : ℕ) (rs : List ToldRange) → AreFrom k rs → All IsToldRange rs
+pub each_told : (k : ℕ) (rs : List ToldRange) → AreFrom k rs → All IsToldRange rs
 each_told k [] h = All-nil IsToldRange
 each_told k (r ∷ rs) h = All-cons IsToldRange r rs h.0 (each_told (number_of r) rs h.2)
 
@@ -155,7 +166,7 @@ not_below k [] j d h within = absurd (let no : ⊥ = omega (arith, within) in no
 not_below k (r ∷ rs) zero d h within = h.1
 not_below k (r ∷ rs) (suc j) d h within = let up = h.1 in let more = not_below (number_of r) rs j d h.2 (omega (arith, within)) in omega (arith, up, more)
 
-in_order : (k : ℕ) (rs : List ToldRange) → AreFrom k rs → IsNonDecreasingBy number_of rs
+pub in_order : (k : ℕ) (rs : List ToldRange) → AreFrom k rs → IsNonDecreasingBy number_of rs
 in_order k [] h i j d le within = absurd (let no : ⊥ = omega (arith, within) in no)
 in_order k (r ∷ rs) h zero zero d le within = omega arith
 in_order k (r ∷ rs) h zero (suc j) d le within = not_below (number_of r) rs j d h.2 (omega (arith, within))
@@ -168,36 +179,48 @@ ranges_of_claims : (claims : List ToldRange) → map (λ (l : Line). l.range) (m
 ranges_of_claims [] = refl
 ranges_of_claims (r ∷ claims) = ap (λ rs. r ∷ rs) (ranges_of_claims claims)
 
-lines_are : (ranges claims : List ToldRange) → lines_with ranges claims ≡ merged number_of (map (λ l. l.range) (told_lines 1 ranges)) claims
-lines_are ranges claims =
-    map_merged (λ (l : Line). l.range) number_of (told_lines 1 ranges) (map claim_line claims)
-    ∙ ap (merged number_of (map (λ l. l.range) (told_lines 1 ranges))) (ranges_of_claims claims)
+lines_are : (lines : List Line) (claims : List ToldRange) → lines_with lines claims ≡ merged number_of (ranges_of lines) claims
+lines_are lines claims =
+    map_merged (λ (l : Line). l.range) number_of lines (map claim_line claims) ∙ ap (merged number_of (ranges_of lines)) (ranges_of_claims claims)
 
-pub lines_length : (ranges claims : List ToldRange) → length (lines_with ranges claims) ≡ length ranges + length claims
-lines_length ranges claims =
-    let whole = length-map (joined ranges claims) (λ (l : Line). l.range) in
-    let two = merged_length (λ (l : Line). number_of l.range) (told_lines 1 ranges) (map claim_line claims) in
-    let told = told_length 1 ranges in
+pub lines_length : (lines : List Line) (claims : List ToldRange) → length (lines_with lines claims) ≡ length lines + length claims
+lines_length lines claims =
+    let whole = length-map (joined lines claims) (λ (l : Line). l.range) in
+    let two = merged_length line_key lines (map claim_line claims) in
     let held_ones = length-map claims claim_line in
-    omega (arith, whole, two, told, held_ones)
+    omega (arith, whole, two, held_ones)
+
+pub own_length : (ranges : List ToldRange) (devices : List Line) → length (own_lines ranges devices) ≡ length ranges + length devices
+own_length ranges devices =
+    let two = merged_length line_key (told_lines 1 ranges) devices in
+    let told = told_length 1 ranges in
+    omega (arith, two, told)
 
 pub claims_length : (legacy palette : List LegacyBridge) → length (claim_lines legacy palette) ≡ length (flat_map (part_lines Legacy) legacy) + length (flat_map (part_lines Palette) palette)
 claims_length legacy palette = merged_length number_of (flat_map (part_lines Legacy) legacy) (flat_map (part_lines Palette) palette)
 
-pub lines_told : (ranges : List ToldRange) (legacy palette : List LegacyBridge) → IsTold ranges → AreBySlot legacy → AreBySlot palette → length (lines_with ranges (claim_lines legacy palette)) ≤ 4096
-    → IsTold (lines_with ranges (claim_lines legacy palette))
-lines_told ranges legacy palette told first second few =
+told_whole : (rs : List ToldRange) → AreFrom 0 rs → length rs ≤ 4096 → IsTold rs
+told_whole rs whole few = record { each = each_told 0 rs whole; order = in_order 0 rs whole; room = few }
+
+pub lines_told : (lines : List Line) (legacy palette : List LegacyBridge) → IsTold (ranges_of lines) → AreBySlot legacy → AreBySlot palette → length (lines_with lines (claim_lines legacy palette)) ≤ 4096
+    → IsTold (lines_with lines (claim_lines legacy palette))
+lines_told lines legacy palette told first second few =
     let first_from = bridges_from 0 Legacy legacy first.each first.order (λ d some. omega arith) in
     let second_from = bridges_from 0 Palette palette second.each second.order (λ d some. omega arith) in
     let claims_from = merged_from 0 (flat_map (part_lines Legacy) legacy) (flat_map (part_lines Palette) palette) first_from second_from in
+    let own_from = from_list 0 (ranges_of lines) told.each told.order (λ d some. omega arith) in
+    told_whole (lines_with lines (claim_lines legacy palette))
+    (subst (AreFrom 0) (sym (lines_are lines (claim_lines legacy palette))) (merged_from 0 (ranges_of lines) (claim_lines legacy palette) own_from claims_from)) few
+
+pub own_told : (ranges : List ToldRange) (devices : List Line) → IsTold ranges → All IsToldRange (ranges_of devices) → IsNonDecreasingBy number_of (ranges_of devices) → length (own_lines ranges devices) ≤ 4096
+    → IsTold (ranges_of (own_lines ranges devices))
+own_told ranges devices told each order few =
     let user_from = told_from 0 1 ranges told.each told.order (λ d some. omega arith) in
-    let whole : AreFrom 0 (lines_with ranges (claim_lines legacy palette)) =
-    subst (AreFrom 0) (sym (lines_are ranges (claim_lines legacy palette))) (merged_from 0 (map (λ l. l.range) (told_lines 1 ranges)) (claim_lines legacy palette) user_from claims_from) in
-    record {
-      each = each_told 0 (lines_with ranges (claim_lines legacy palette)) whole;
-      order = in_order 0 (lines_with ranges (claim_lines legacy palette)) whole;
-      room = few;
-    }
+    let devices_from = from_list 0 (ranges_of devices) each order (λ d some. omega arith) in
+    let size = length-map (own_lines ranges devices) (λ (l : Line). l.range) in
+    told_whole (ranges_of (own_lines ranges devices))
+    (subst (AreFrom 0) (sym (map_merged (λ (l : Line). l.range) number_of (told_lines 1 ranges) devices))
+    (merged_from 0 (map (λ l. l.range) (told_lines 1 ranges)) (ranges_of devices) user_from devices_from)) (omega (arith, size, few))
 
 -- ---- room
 
@@ -212,28 +235,28 @@ module _ (legacy palette : List LegacyBridge) (lines : ℕ) where
     pub some_room : (rest : ℕ) → rest + length (flat_map (part_lines Palette) palette) ≡ left → true ≡ nat_le (length (claim_lines legacy palette)) lines
     some_room rest second = let size = claims_length legacy palette in sym (le-leb (length (claim_lines legacy palette)) lines (omega (arith, size, first, second)))
 
-pub parts_fit : (ranges : List ToldRange) (legacy palette : List LegacyBridge) (n m : ℕ) → length (lines_with ranges (claim_lines legacy palette)) ≤ 4096
+pub parts_fit : (lines : List Line) (legacy palette : List LegacyBridge) (n m : ℕ) → length (lines_with lines (claim_lines legacy palette)) ≤ 4096
     → n ≡ length (flat_map (part_lines Legacy) legacy) → m ≡ length (flat_map (part_lines Palette) palette) → n + m ≤ 4096
-parts_fit ranges legacy palette n m few en em =
-    let size = lines_length ranges (claim_lines legacy palette) in
+parts_fit lines legacy palette n m few en em =
+    let size = lines_length lines (claim_lines legacy palette) in
     let parts = claims_length legacy palette in
     omega (arith, few, size, parts, en, em)
 
-pub all_fit : (ranges claims : List ToldRange) (n m : ℕ) → length (lines_with ranges claims) ≤ 4096 → n ≡ length ranges → m ≡ length claims → n + m ≤ 4096
-all_fit ranges claims n m few en em = let size = lines_length ranges claims in omega (arith, few, size, en, em)
+pub all_fit : (lines : List Line) (claims : List ToldRange) (n m : ℕ) → length (lines_with lines claims) ≤ 4096 → n ≡ length lines → m ≡ length claims → n + m ≤ 4096
+all_fit lines claims n m few en em = let size = lines_length lines claims in omega (arith, few, size, en, em)
 
 -- lines for which there is no room
-pub too_many : (ranges claims : List ToldRange) (room : Bool) → length ranges ≤ 4096 → room ≡ nat_le (length claims) (4096 - length ranges) → room ≡ false → 4096 < length (lines_with ranges claims)
-too_many ranges claims room few is off =
-    let size = lines_length ranges claims in
-    let less = leb-false (length claims) (4096 - length ranges) (sym is ∙ off) in
-    omega (arith, size, less, few)
+pub too_many : (lines : List Line) (claims : List ToldRange) (n : ℕ) (room : Bool) → n ≡ length lines → n ≤ 4096 → room ≡ nat_le (length claims) (4096 - n) → room ≡ false → 4096 < length (lines_with lines claims)
+too_many lines claims n room count few is off =
+    let size = lines_length lines claims in
+    let less = leb-false (length claims) (4096 - n) (sym is ∙ off) in
+    omega (arith, size, less, few, count)
 
-pub not_too_many : (ranges claims : List ToldRange) (room : Bool) → length ranges ≤ 4096 → room ≡ nat_le (length claims) (4096 - length ranges) → room ≡ true → length (lines_with ranges claims) ≤ 4096
-not_too_many ranges claims room few is on =
-    let size = lines_length ranges claims in
-    let less = leb-true (length claims) (4096 - length ranges) (sym is ∙ on) in
-    omega (arith, size, less, few)
+pub not_too_many : (lines : List Line) (claims : List ToldRange) (n : ℕ) (room : Bool) → n ≡ length lines → n ≤ 4096 → room ≡ nat_le (length claims) (4096 - n) → room ≡ true → length (lines_with lines claims) ≤ 4096
+not_too_many lines claims n room count few is on =
+    let size = lines_length lines claims in
+    let less = leb-true (length claims) (4096 - n) (sym is ∙ on) in
+    omega (arith, size, less, few, count)
 
 -- ---- what is answered
 
@@ -248,3 +271,25 @@ lines_are_other result x is same = cc
 
 pub not_refused : {T : Type 0} (result : Result T (Refused TooManyLines)) (n : ℕ) → n ≤ 4096 → (result ≡ Err (refusals.Fault record {}) → ⊥) → (result ≡ Err (refusals.Fault record {})) ↔ (4096 < n)
 not_refused result n few other = (λ e. absurd (other e), λ (many : 4096 < n). absurd (let no : ⊥ = omega (arith, few, many) in no))
+
+-- ---- with those of devices
+
+pub own_fit : (ranges : List ToldRange) (xs ys : List CodeLine) → map line_value xs ≡ told_lines 1 ranges → length ranges + length ys ≤ 4096 → length xs + length ys ≤ 4096
+own_fit ranges xs ys e few = let size = told_size ranges xs e in omega (arith, size, few)
+
+pub own_few : (ranges : List ToldRange) (ys : List CodeLine) → length ranges + length ys ≤ 4096 → length (own_lines ranges (map line_value ys)) ≤ 4096
+own_few ranges ys few =
+    let size = own_length ranges (map line_value ys) in
+    let same = length-map ys line_value in
+    omega (arith, size, same, few)
+
+pub own_many : (ranges : List ToldRange) (ys : List CodeLine) → 4096 < length ranges + length ys → 4096 < length (own_lines ranges (map line_value ys))
+own_many ranges ys many =
+    let size = own_length ranges (map line_value ys) in
+    let same = length-map ys line_value in
+    omega (arith, size, same, many)
+
+pub devices_told : (ranges : List ToldRange) (ys out : List CodeLine) → IsTold ranges → AreToldInOrder ys → length ranges + length ys ≤ 4096 → map line_value out ≡ own_lines ranges (map line_value ys) → IsTold (ranges_in out)
+devices_told ranges ys out told are few is =
+    subst IsTold (sym (ranges_of_lines out ∙ ap ranges_of is))
+    (own_told ranges (map line_value ys) told (subst (All IsToldRange) (ranges_of_lines ys) are.each) (subst (IsNonDecreasingBy number_of) (ranges_of_lines ys) are.order) (own_few ranges ys few))

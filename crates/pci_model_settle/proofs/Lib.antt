@@ -6,3 +6,5 @@ pub mod MergedLines
 pub mod HeldLines
 pub mod PartAddresses
 pub mod BridgesBySlot
+mod DeviceLines
+mod LeftDevices

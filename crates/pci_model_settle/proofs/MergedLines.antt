@@ -14,7 +14,9 @@ use Rattle.pci_claims.specs.declared.legacy.FixedPart.TheVariants.{Legacy, Palet
 use Rattle.pci_claims.specs.Legacy.{blocks_of, vga_low, vga_high, palette_low, palette_high}
 use Rattle.pci_claims.specs.Values.{legacy_value}
 use Rattle.pci_model_settle.specs.declared.claim_lines.Line.{Line as CodeLine}
-use Rattle.pci_model_settle.specs.ClaimLines.{Kept, Line, claim_line, claim_lines, held, joined, kept_lines, lines_with, merged, part_lines, port_lines, ports_of_kb, told_line_of, told_lines}
+use Rattle.pci_model_settle.specs.declared.claim_lines.Origin.{Origin}
+use Rattle.pci_model_settle.specs.declared.claim_lines.Origin.TheVariants.{Bridge}
+use Rattle.pci_model_settle.specs.ClaimLines.{Kept, Line, claim_line, claim_lines, held, joined, kept_lines, line_key, lines_with, merged, own_lines, part_lines, port_lines, ports_of_kb, ranges_of, told_line_of, told_lines}
 use Rattle.pci_model_settle.specs.LineValues.{AddsClaims, is_next, kept_of, key_of, line_value, ranges_in}
 
 -- ---- two lists as one
@@ -200,24 +202,26 @@ claims_merged legacy palette xs ys out ex ey e =
     ∙ ap (merged (λ (l : Line). slot_number l.range.slot) (map claim_line (flat_map (part_lines Legacy) legacy))) ey
     ∙ sym (map_merged claim_line (λ (l : Line). slot_number l.range.slot) (flat_map (part_lines Legacy) legacy) (flat_map (part_lines Palette) palette))
 
-pub joined_is : (ranges claims : List ToldRange) (xs ys out : List CodeLine) → map line_value xs ≡ told_lines 1 ranges → map line_value ys ≡ map claim_line claims
-    → out ≡ merged key_of xs ys → map line_value out ≡ joined ranges claims
-joined_is ranges claims xs ys out ex ey e =
-    ap (map line_value) e ∙ map_merged line_value (λ (l : Line). slot_number l.range.slot) xs ys
-    ∙ ap (λ zs. merged (λ (l : Line). slot_number l.range.slot) zs (map line_value ys)) ex
-    ∙ ap (merged (λ (l : Line). slot_number l.range.slot) (told_lines 1 ranges)) ey
+pub joined_is : (claims : List ToldRange) (xs ys out : List CodeLine) → map line_value ys ≡ map claim_line claims → out ≡ merged key_of xs ys → map line_value out ≡ joined (map line_value xs) claims
+joined_is claims xs ys out ey e = ap (map line_value) e ∙ map_merged line_value line_key xs ys ∙ ap (merged line_key (map line_value xs)) ey
+
+pub own_is : (ranges : List ToldRange) (xs ys out : List CodeLine) → map line_value xs ≡ told_lines 1 ranges → out ≡ merged key_of xs ys → map line_value out ≡ own_lines ranges (map line_value ys)
+own_is ranges xs ys out ex e = ap (map line_value) e ∙ map_merged line_value line_key xs ys ∙ ap (λ zs. merged line_key zs (map line_value ys)) ex
 
 map_twice : {X Y Z : Type 0} (f : X → Y) (g : Y → Z) (xs : List X) → map (λ x. g (f x)) xs ≡ map g (map f xs)
 map_twice f g [] = refl
 map_twice f g (x ∷ xs) = ap (λ zs. g (f x) ∷ zs) (map_twice f g xs)
 
-pub ranges_are : (ranges claims : List ToldRange) (out : List CodeLine) → map line_value out ≡ joined ranges claims → ranges_in out ≡ lines_with ranges claims
-ranges_are ranges claims out e = map_twice line_value (λ (l : Line). l.range) out ∙ ap (map (λ (l : Line). l.range)) e
+pub ranges_of_lines : (xs : List CodeLine) → ranges_in xs ≡ ranges_of (map line_value xs)
+ranges_of_lines xs = map_twice line_value (λ (l : Line). l.range) xs
 
-abbrev kept : List ToldRange → List ℕ → Kept
-kept told numbers = record { told = told; numbers = 0 ∷ numbers }
+pub ranges_are : (lines : List Line) (claims : List ToldRange) (out : List CodeLine) → map line_value out ≡ joined lines claims → ranges_in out ≡ lines_with lines claims
+ranges_are lines claims out e = ranges_of_lines out ∙ ap ranges_of e
 
-pub kept_are : (ranges claims : List ToldRange) (out : List CodeLine) → map line_value out ≡ joined ranges claims → kept_of out ≡ kept_lines ranges claims
-kept_are ranges claims out e =
-    ap (λ (told : List ToldRange). kept told (map (λ (l : CodeLine). (line_value l).number) out)) (ranges_are ranges claims out e)
-    ∙ ap (λ (ns : List ℕ). kept (lines_with ranges claims) ns) (map_twice line_value (λ (l : Line). l.number) out ∙ ap (map (λ (l : Line). l.number)) e)
+abbrev kept : List ToldRange → List Origin → Kept
+kept told origins = record { told = told; origins = Bridge ∷ origins }
+
+pub kept_are : (lines : List Line) (claims : List ToldRange) (out : List CodeLine) → map line_value out ≡ joined lines claims → kept_of out ≡ kept_lines lines claims
+kept_are lines claims out e =
+    ap (λ (told : List ToldRange). kept told (map (λ (l : CodeLine). (line_value l).origin) out)) (ranges_are lines claims out e)
+    ∙ ap (λ (origins : List Origin). kept (lines_with lines claims) origins) (map_twice line_value (λ (l : Line). l.origin) out ∙ ap (map (λ (l : Line). l.origin)) e)

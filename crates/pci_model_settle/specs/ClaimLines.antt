@@ -1,5 +1,6 @@
--- The addresses that legacy parts and palette parts of bridges have, as held ranges among those that a user tells.
-use Rattle.std.specs.Prelude.{ℕ, zero, suc, ◌+◌, ◌*◌, ◌==◌, nat_le, if◌then◌else◌, List, [], ◌∷◌, ◌++◌, map, Option, None, Some, false, slice_index_or}
+-- The addresses that legacy parts and palette parts of bridges have, as held ranges among those that a user tells, and among
+-- lines of devices.
+use Rattle.std.specs.Prelude.{ℕ, zero, suc, ◌+◌, ◌*◌, nat_le, if◌then◌else◌, List, [], ◌∷◌, ◌++◌, map, false, slice_index_or}
 use Rattle.std.specs.List.{flat_map, All, Any}
 use Rattle.std.specs.List.Sorted.{IsNonDecreasingBy}
 use Rattle.pci_base.specs.declared.range.Range.{Range}
@@ -10,6 +11,8 @@ use Rattle.given_spec.specs.Told.{ToldRange, Held}
 use Rattle.given_spec.specs.ToldClaims.{Holds}
 use Rattle.pci_claims.specs.declared.legacy.FixedPart.{FixedPart}
 use Rattle.pci_claims.specs.declared.legacy.FixedPart.TheVariants.{Legacy, Palette}
+use Rattle.pci_model_settle.specs.declared.claim_lines.Origin.{Origin}
+use Rattle.pci_model_settle.specs.declared.claim_lines.Origin.TheVariants.{Bridge, User}
 use Rattle.pci_claims.specs.Legacy.{blocks_of, vga_low, vga_high, palette_low, palette_high}
 
 -- ---- what a part of a bridge has
@@ -66,48 +69,53 @@ claim_lines legacy palette =
     merged (λ r. slot_number r.slot) (flat_map (part_lines Legacy) legacy)
     (flat_map (part_lines Palette) palette)
 
--- a range, and the number of the user's line that tells of it: 0 where it is a bridge's
+-- a range, and where it comes from: from a part of a bridge, from the user's line of a number, or from a device's register
 pub record Line : Type 0 where
   pub range : ToldRange
-  pub number : ℕ
+  pub origin : Origin
 
 abbrev pub claim_line : ToldRange → Line
-claim_line r = record { range = r; number = 0 }
+claim_line r = record { range = r; origin = Bridge }
 
 -- a user's line of a number; its name is left out
 abbrev pub told_line_of : ℕ → ToldRange → Line
-told_line_of n r = record { range = record r { name = [] }; number = n }
+told_line_of n r = record { range = record r { name = [] }; origin = User n }
 
 -- a user's lines, counted on from a number
 abbrev pub told_lines : ℕ → List ToldRange → List Line
 told_lines n [] = []
 told_lines n (r ∷ ranges) = told_line_of n r ∷ told_lines (suc n) ranges
 
--- the user's lines with the held ranges among them
-abbrev pub joined : List ToldRange → List ToldRange → List Line
-joined ranges claims =
-    merged (λ l. slot_number l.range.slot) (told_lines 1 ranges) (map claim_line claims)
+abbrev pub line_key : Line → ℕ
+line_key l = slot_number l.range.slot
 
-abbrev pub lines_with : List ToldRange → List ToldRange → List ToldRange
-lines_with ranges claims = map (λ l. l.range) (joined ranges claims)
+-- the user's lines with those of devices among them
+abbrev pub own_lines : List ToldRange → List Line → List Line
+own_lines ranges devices = merged line_key (told_lines 1 ranges) devices
 
--- ---- the user's numbers
+-- lines with the held ranges of bridges among them
+abbrev pub joined : List Line → List ToldRange → List Line
+joined lines claims = merged line_key lines (map claim_line claims)
 
--- ranges, and the number of the user's line for each line of them, from line 0 on, which is no line
+abbrev pub ranges_of : List Line → List ToldRange
+ranges_of lines = map (λ l. l.range) lines
+
+abbrev pub lines_with : List Line → List ToldRange → List ToldRange
+lines_with lines claims = ranges_of (joined lines claims)
+
+-- ---- where they come from
+
+-- ranges, and where each line of them comes from, from line 0 on, which is no line
 pub record Kept : Type 0 where
   pub told : List ToldRange
-  pub numbers : List ℕ
+  pub origins : List Origin
 
-abbrev pub kept_lines : List ToldRange → List ToldRange → Kept
-kept_lines ranges claims = record {
-  told = lines_with ranges claims;
-  numbers = 0 ∷ map (λ l. l.number) (joined ranges claims);
+abbrev pub kept_lines : List Line → List ToldRange → Kept
+kept_lines lines claims = record {
+  told = lines_with lines claims;
+  origins = Bridge ∷ map (λ l. l.origin) (joined lines claims);
 }
 
--- a number that is one of a line
-abbrev pub line_number : ℕ → Option ℕ
-line_number n = if n == 0 then None else Some n
-
--- the number of the user's line that is a line of these: none where that is a bridge's, or isn't there
-abbrev pub told_line : Kept → ℕ → Option ℕ
-told_line kept line = line_number (slice_index_or kept.numbers line 0)
+-- where a line of these comes from: one that isn't there comes from no user and from no device
+abbrev pub origin_of : Kept → ℕ → Origin
+origin_of kept line = slice_index_or kept.origins line Bridge

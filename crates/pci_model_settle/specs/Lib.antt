@@ -3,3 +3,4 @@ pub mod SleepTables
 pub mod Listed
 pub mod ClaimLines
 pub mod LineValues
+pub mod OffDevices

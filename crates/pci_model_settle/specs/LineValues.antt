@@ -1,10 +1,14 @@
 -- Lines as the definitions have them.
 use Rattle.std.specs.Prelude.{◌≡◌, ℕ, nat_le, Bool, true, false, List, [], ◌∷◌, ◌++◌, map}
 use Rattle.pci_spec.specs.Slot.{slot_number}
-use Rattle.given_spec.specs.Told.{ToldRange}
+use Rattle.std.specs.List.{All}
+use Rattle.given_spec.specs.Told.{AreInSlotOrder, IsToldRange, ToldRange}
 use Rattle.pci_base.specs.Space.{space_of}
 use Rattle.pci_told.specs.Marks.{mark_of}
 use Rattle.pci_model_settle.specs.declared.claim_lines.Line.{Line as CodeLine}
+use Rattle.pci_model_settle.specs.declared.claim_lines.Origin.TheVariants.{Bridge}
+use Rattle.pci_model_settle.specs.declared.off_devices.Shown.{Shown}
+use Rattle.pci_model_settle.specs.OffDevices.{ShownPart}
 use Rattle.pci_model_settle.specs.ClaimLines.{Line, Kept, claim_line}
 
 abbrev pub line_value : CodeLine → Line
@@ -18,7 +22,17 @@ line_value l = record {
     mark = mark_of l.mark;
     name = [];
   };
-  number = l.number;
+  origin = l.origin;
+}
+
+-- a range that a register shows
+abbrev pub shown_value : Shown → ShownPart
+shown_value s = record {
+  slot = s.slot;
+  register = s.register;
+  space = space_of s.space;
+  prefetchable = s.prefetchable;
+  range = record { first = s.first; last = s.last };
 }
 
 -- what lines are put in order by
@@ -29,9 +43,13 @@ key_of l = slot_number l.slot
 abbrev pub ranges_in : List CodeLine → List ToldRange
 ranges_in lines = map (λ l. (line_value l).range) lines
 
--- some held ranges are put behind lines
+-- some lines are put behind others
+abbrev pub AddsLines : List CodeLine → List CodeLine → List Line → Type 0
+AddsLines old new lines = map line_value new ≡ map line_value old ++ lines
+
+-- some held ranges are
 abbrev pub AddsClaims : List CodeLine → List CodeLine → List ToldRange → Type 0
-AddsClaims old new claims = map line_value new ≡ map line_value old ++ map claim_line claims
+AddsClaims old new claims = AddsLines old new (map claim_line claims)
 
 -- whether the next line of two lists is the first list's
 abbrev pub is_next : List CodeLine → List CodeLine → Bool
@@ -39,6 +57,11 @@ is_next xs [] = true
 is_next [] (y ∷ ys) = false
 is_next (x ∷ xs) (y ∷ ys) = nat_le (key_of x) (key_of y)
 
+-- their ranges can be told one by one, and stand in the order of slots
+pub record AreToldInOrder (lines : List CodeLine) : Type 0 where
+  pub each : All IsToldRange (ranges_in lines)
+  pub order : AreInSlotOrder (ranges_in lines)
+
 -- lines as they are kept
 abbrev pub kept_of : List CodeLine → Kept
-kept_of lines = record { told = ranges_in lines; numbers = 0 ∷ map (λ l. l.number) lines }
+kept_of lines = record { told = ranges_in lines; origins = Bridge ∷ map (λ l. l.origin) lines }

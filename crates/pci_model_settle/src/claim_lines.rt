@@ -1,5 +1,5 @@
-//! Legacy parts and palette parts of bridges as held ranges among the ranges that a user tells, so that settling places
-//! nothing on them (Bridge 1.2, 3.2.5.18; PCI 3.0, 6.2.2).
+//! Legacy parts and palette parts of bridges as held ranges among the ranges that a user tells and those of devices, so that
+//! settling places nothing on them (Bridge 1.2, 3.2.5.18; PCI 3.0, 6.2.2).
 ghost use Rattle.std.specs.Prelude.{◌≡◌, ◌+◌, ◌<◌, ◌≤◌, ◌↔◌, nat_le, ℕ, IsTrue, Option, length, map, Err, IfOk, OnOk, MatchOption};
 ghost use Rattle.std.specs.List.{flat_map};
 ghost use Rattle.pci_base.specs.declared.memory.Refused.TheVariants as Refused;
@@ -11,8 +11,8 @@ ghost use Rattle.given_spec.specs.Words.{VgaWord as WordValue, legacy_bridges, p
 ghost use Rattle.pci_claims.specs.Values.{legacy_value};
 ghost use Rattle.pci_claims.specs.declared.legacy.FixedPart.{FixedPart as FixedPartValue};
 ghost use Rattle.pci_claims.specs.Legacy.{blocks_of, part_holds};
-ghost use Rattle.pci_model_settle.specs.ClaimLines.{AreBySlot, HasAddress, claim_line, claim_lines, held, joined, kept_lines, lines_with, merged, part_lines, port_lines, told_line, told_line_of, told_lines};
-ghost use Rattle.pci_model_settle.specs.LineValues.{AddsClaims, is_next, kept_of, key_of, line_value, ranges_in};
+ghost use Rattle.pci_model_settle.specs.ClaimLines.{AreBySlot, HasAddress, claim_line, claim_lines, held, joined, kept_lines, lines_with, merged, origin_of, own_lines, part_lines, port_lines, told_line_of, told_lines};
+ghost use Rattle.pci_model_settle.specs.LineValues.{AddsClaims, AreToldInOrder, is_next, kept_of, key_of, line_value, ranges_in};
 
 use arrayvec::ArrayVec;
 use pci_base::memory::{OutOfMemory, Refused};
@@ -28,7 +28,7 @@ use std::fmt;
 use std::marker::Model;
 
 /// The most lines of a list of told ranges.
-const LINES_MAX: u64 = 4096;
+const LINES_MAX: usize = 4096;
 
 /// Ports of a VGA adapter, and ports of its palette, counted from the start of a KB.
 const VGA_LOW: Range = Range {
@@ -66,25 +66,38 @@ impl fmt::Display for TooManyLines {
     }
 }
 
-/// A told range without its name, or a held one of a bridge.
-#[derive(Clone, Copy)]
-struct Line {
-    slot: Slot,
-    space: Space,
-    prefetchable: bool,
-    first: u64,
-    last: u64,
-    mark: Mark,
-    /// The user's line, counted from 1; 0 where the range is a bridge's.
-    number: u16,
+/// Where a line comes from.
+#[derive(Clone, Copy, Debug, PartialEq, Eq)]
+pub enum Origin {
+    /// A part of a bridge.
+    Bridge,
+    /// The user's line of this number, counted from 1.
+    User(u16),
+    /// A device's register at this byte offset.
+    Device(u8),
 }
 
-/// Told ranges with those of bridges among them, and which lines of them are the user's.
+/// A told range without a name.
+#[derive(Clone, Copy, Debug, PartialEq, Eq)]
+pub struct Line {
+    pub slot: Slot,
+    pub space: Space,
+    /// A prefetchable window passes it, too.
+    pub prefetchable: bool,
+    /// The first address.
+    pub first: u64,
+    /// The last address.
+    pub last: u64,
+    pub mark: Mark,
+    pub origin: Origin,
+}
+
+/// Told ranges with those of devices and of bridges among them, and where each comes from.
 #[derive(Drop)]
 pub struct KeptLines<A: Allocator> {
     told: ToldList<A>,
-    /// By line, counted from 1: the user's line, or 0. Line 0 is none.
-    numbers: Vec<u16, A>,
+    /// By line, counted from 1. Line 0 is none.
+    origins: Vec<Origin, A>,
 }
 
 impl<A: Allocator> Model for KeptLines<A> {
@@ -92,25 +105,24 @@ impl<A: Allocator> Model for KeptLines<A> {
 
     ghost Value = { Kept };
 
-    ghost view = { λ k. record { told = k.told; numbers = k.numbers.items } };
+    ghost view = { λ k. record { told = k.told; origins = k.origins.items } };
 }
 
 impl<A: Allocator> KeptLines<A> {
-    /// The ranges by slot. Of one slot, those of the user stand first.
+    /// The ranges by slot. Of one slot, those of the user stand first, and those of bridges last.
     pub fn told(&self) -> &ToldList<A>
         ensures { result.now ≡ self.now.told }
     {
         &self.told
     }
 
-    /// The user's line that is this line of the ranges, both counted from 1: `None` where it is a bridge's, or isn't there.
-    pub fn told_line(&self, line: u16) -> Option<u16>
-        ensures { result ≡ told_line self.now line }
+    /// Where this line of the ranges comes from, counted from 1: `Bridge` where it isn't there.
+    pub fn origin(&self, line: u16) -> Origin
+        ensures { result ≡ origin_of self.now line }
     {
-        match self.numbers.get(usize::from(line)) {
-            None => None,
-            Some(number) if *number == 0 => None,
-            Some(number) => Some(*number),
+        match self.origins.get(usize::from(line)) {
+            None => Origin::Bridge,
+            Some(origin) => *origin,
         }
     }
 }
@@ -126,7 +138,7 @@ fn told_line_of(range: &ToldRange, number: u16) -> Line
         first: range.first,
         last: range.last,
         mark: range.mark,
-        number,
+        origin: Origin::User(number),
     }
 }
 
@@ -141,7 +153,7 @@ fn held(slot: Slot, space: Space, first: u64, last: u64) -> Line
         first,
         last,
         mark: Mark::Held,
-        number: 0,
+        origin: Origin::Bridge,
     }
 }
 
@@ -313,73 +325,103 @@ fn is_room(lines: u64, legacy: &[LegacyBridge], palette: &[LegacyBridge]) -> boo
     }
 }
 
-/// The ranges of lines, and their numbers.
+/// The ranges of lines, and where they come from.
 fn kept<A: Allocator + Copy>(alloc: A, lines: &[Line]) -> Result<KeptLines<A>, OutOfMemory>
     requires { IsTold (ranges_in lines.now) }
     ensures { IfOk result (λ k. k ≡ kept_of lines.now) }
 {
     let mut ranges = Vec::new(alloc);
-    let mut numbers = Vec::new(alloc);
-    numbers.push(0)?;
+    let mut origins = Vec::new(alloc);
+    origins.push(Origin::Bridge)?;
     for line in lines {
         ranges.push(range_of(*line))?;
-        numbers.push(line.number)?;
+        origins.push(line.origin)?;
     }
     Ok(KeptLines {
         told: ToldList::of(ranges),
-        numbers,
+        origins,
     })
 }
 
-/// The lines that a user tells and those of bridges' parts, where they are no more than a list may have.
+/// Lines with those of bridges' parts among them, where they are no more than a list may have.
 fn joined<A: Allocator + Copy>(
     alloc: A,
-    ranges: &[ToldRange],
+    lines: &[Line],
     legacy: &[LegacyBridge],
     palette: &[LegacyBridge],
 ) -> Result<Vec<Line, A>, OutOfMemory>
-    requires told { IsTold ranges.now }
-    requires few { length (lines_with ranges.now (claim_lines (map legacy_value legacy.now)
+    requires { length (lines_with (map line_value lines.now) (claim_lines (map legacy_value legacy.now)
         (map legacy_value palette.now))) ≤ 4096 }
-    ensures { IfOk result (λ v. map line_value v.items ≡ joined ranges.now
+    ensures { IfOk result (λ v. map line_value v.items ≡ joined (map line_value lines.now)
         (claim_lines (map legacy_value legacy.now) (map legacy_value palette.now))) }
 {
-    let told = told_lines(alloc, ranges)?;
     let legacy = claims_of(alloc, FixedPart::Legacy, legacy)?;
     let palette = claims_of(alloc, FixedPart::Palette, palette)?;
     let claims = merged(alloc, &legacy, &palette)?;
-    merged(alloc, &told, &claims)
+    merged(alloc, lines, &claims)
 }
 
-/// The ranges that a user tells, with those of legacy parts and palette parts among them, which are held.
+/// The lines that a user tells, with those of devices among them. Of one slot, those of the user stand first.
+///
+/// # Errors
+///
+/// 77 `TooManyLines` where they are more than 4,096; `Memory` (2) where a growth was refused.
+pub fn lines_with_devices<A: Allocator + Copy>(
+    alloc: A,
+    ranges: &[ToldRange],
+    devices: &[Line],
+) -> Result<Vec<Line, A>, Refused<TooManyLines>>
+    requires told { IsTold ranges.now }
+    // so that the list is in the order of slots, too
+    requires devices { AreToldInOrder devices.now }
+    ensures lines { IfOk result (λ v. map line_value v.items ≡ own_lines ranges.now (map line_value devices.now)) }
+    ensures can_be_told { IfOk result (λ v. IsTold (ranges_in v.items)) }
+    // both ways: lines that are no more are refused for want of memory alone
+    ensures fault { (result ≡ Err (Refused.Fault (record {})))
+        ↔ 4096 < length (own_lines ranges.now (map line_value devices.now)) }
+{
+    if ranges.len() + devices.len() > LINES_MAX {
+        return Err(Refused::Fault(TooManyLines));
+    }
+    let told = match told_lines(alloc, ranges) {
+        Ok(told) => told,
+        Err(OutOfMemory) => return Err(Refused::Memory),
+    };
+    match merged(alloc, &told, devices) {
+        Ok(lines) => Ok(lines),
+        Err(OutOfMemory) => Err(Refused::Memory),
+    }
+}
+
+/// Lines with those of legacy parts and palette parts among them, which are held.
 ///
 /// # Errors
 ///
 /// 77 `TooManyLines` where they are more than 4,096; `Memory` (2) where a growth was refused.
 pub fn lines_with_claims<A: Allocator + Copy>(
     alloc: A,
-    ranges: &[ToldRange],
+    lines: &[Line],
     legacy: &[LegacyBridge],
     palette: &[LegacyBridge],
 ) -> Result<KeptLines<A>, Refused<TooManyLines>>
-    requires told { IsTold ranges.now }
+    requires told { IsTold (ranges_in lines.now) }
     // so that the list is in the order of slots, too
     requires legacy { AreBySlot (map legacy_value legacy.now) }
     requires palette { AreBySlot (map legacy_value palette.now) }
-    ensures kept { IfOk result (λ k. k ≡ kept_lines ranges.now
+    ensures kept { IfOk result (λ k. k ≡ kept_lines (map line_value lines.now)
         (claim_lines (map legacy_value legacy.now) (map legacy_value palette.now))) }
     // both ways: lines that are no more are refused for want of memory alone
-    ensures fault { (result ≡ Err (Refused.Fault (record {}))) ↔ 4096 < length (lines_with ranges.now
+    ensures fault { (result ≡ Err (Refused.Fault (record {}))) ↔ 4096 < length (lines_with (map line_value lines.now)
         (claim_lines (map legacy_value legacy.now) (map legacy_value palette.now))) }
 {
-    if !is_room(LINES_MAX - ranges.len() as u64, legacy, palette) {
+    if !is_room((LINES_MAX - lines.len()) as u64, legacy, palette) {
         return Err(Refused::Fault(TooManyLines));
     }
-    let lines = match joined(alloc, ranges, legacy, palette) {
-        Ok(lines) => lines,
+    let all = match joined(alloc, lines, legacy, palette) {
+        Ok(all) => all,
         Err(OutOfMemory) => return Err(Refused::Memory),
     };
-    match kept(alloc, &lines) {
+    match kept(alloc, &all) {
         Ok(kept) => Ok(kept),
         Err(OutOfMemory) => Err(Refused::Memory),
     }

@@ -28,10 +28,10 @@ use pci_model::words::Words;
 use std::alloc::Allocator;
 
 /// How many slots there are: their numbers have 16 bits (PCI 3.0, 3.2.2.3).
-const SLOTS: usize = 65_536;
+pub(crate) const SLOTS: usize = 65_536;
 
 /// A table by slot number: which slots are some.
-fn slot_table(slots: &[Slot]) -> [bool; SLOTS]
+pub(crate) fn slot_table(slots: &[Slot]) -> [bool; SLOTS]
     ensures { IsSlotTable slots.now result }
 {
     let mut table = [false; SLOTS];

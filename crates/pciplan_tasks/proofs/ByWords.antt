@@ -1,6 +1,7 @@
 -- What is left in a dump after writes, and what is answered where something is settled by words.
-use Rattle.std.proofs.Common.{◌≡◌, ◌==◌, ◌||◌, ◌+◌, ◌*◌, ◌/◌, ◌%◌, ℕ, zero, suc, List, [], ◌∷◌, ◌++◌, Bool, true, false, Option, None, Some, Result, length, map, take, drop, get_or, inl, inr, refl, sym, ap, subst, ◌∙◌, arith, eqb-true, if◌then◌else◌, IsTrue}
-use Rattle.std.specs.Prelude.{◌↔◌, ◌≢◌, IfSome, is_some}
+use Rattle.std.proofs.Common.{◌≡◌, ◌==◌, ◌||◌, ◌+◌, ◌*◌, ◌/◌, ◌%◌, ℕ, zero, suc, List, [], ◌∷◌, ◌++◌, Bool, true, false, Option, None, Some, Result, ◌<◌, length, map, take, drop, get_or, inl, inr, refl, sym, ap, subst, ◌∙◌, arith, eqb-true, if◌then◌else◌, IsTrue}
+use Rattle.std.specs.Prelude.{◌↔◌, ◌≢◌, ◌≤◌, IfSome, is_some}
+use Rattle.std.proofs.lemmas.Bool.{le-leb, lt-leb}
 use Rattle.std.specs.Result.{IfOk}
 use Rattle.std.specs.List.{All, Contains}
 use Rattle.std.proofs.lemmas.List.{length-map}
@@ -9,7 +10,7 @@ use Rattle.pci_spec.specs.Fault.{IsInOne}
 use Rattle.pci_spec.specs.Slot.{Slot}
 use Rattle.pci_spec.specs.Machine.{Write}
 use Rattle.pci_spec.specs.Registers.{COMMAND}
-use Rattle.pci_spec.specs.System.{IsSystem, system_of}
+use Rattle.pci_spec.specs.System.{IsSystem, System, system_of}
 use Rattle.pci_spec.specs.Text.{Block, IsDump, slots_of}
 use Rattle.pci_spec.proofs.Pairing.{IsSystem-of_dumps}
 use Rattle.given_spec.specs.Given.{Given, LegacyBridge, TakingBridge, nothing_given}
@@ -22,8 +23,11 @@ use Rattle.settle_spec.specs.Sparing.{without_slots}
 use Rattle.pci_base.specs.declared.memory.Refused.TheVariants as refusal
 use Rattle.pci_given.specs.Every.{AreBefore, AreSound}
 use Rattle.pci_model.specs.declared.words.Words.{Words}
-use Rattle.pci_model_settle.specs.ClaimLines.{AreBySlot, Kept}
+use Rattle.pci_model_settle.specs.ClaimLines.{AreBySlot, Kept, Line, kept_lines}
 use Rattle.pci_model_settle.specs.Listed.{blocks_after, command_at, listed_write}
+use Rattle.pci_model_settle.specs.OffDevices.{blocks_without, device_lines, left_out}
+use Rattle.pci_model_settle.proofs.HeldLines.{lines_length}
+use Rattle.given_spec.specs.Told.{ToldRange}
 use Rattle.pci_model_settle.proofs.BridgesBySlot.{legacy_by_slot, palette_by_slot}
 use Rattle.pci_plan.specs.Writes.{is_two_or_four, write_value}
 use Rattle.pci_plan.specs.declared.write.Write.{Write as CodeWrite}
@@ -33,14 +37,14 @@ use Rattle.pci_settle_writes.specs.Endings.{IsRefusal, HasNoAssumed}
 use Rattle.pci_settle_writes.specs.FaultText.{settle_fault_text}
 use Rattle.pci_settle_writes.specs.Requests.{request}
 use Rattle.pci_settle_writes.specs.declared.lack.SettleFault.{SettleFault}
-use Rattle.pci_tree.specs.Admission.{Admission}
+use Rattle.pci_tree.specs.Admission.{Admission, IsAdmitted}
 use Rattle.pci_tree.specs.Roots.{buses_of}
 use Rattle.pciplan_tasks.specs.Answers.{Answer, answer_of, done_with, fault_answer_line, refused}
 use Rattle.pciplan_tasks.specs.FaultsAnswers.{AreTakenBeside, given_of, legacy_by, palette_by, snoop_of, taking_of, vga_of}
 use Rattle.pciplan_tasks.specs.MapAnswers.{IsFirstLine}
 use Rattle.pciplan_tasks.specs.TakenAnswers.{AreTakenBy}
 use Rattle.pciplan_tasks.specs.SettleAnswers.{IsReadyAsTold, IsSettlingTold, demand_said, request_said, settled_text, spare_remarks}
-use Rattle.pciplan_tasks.specs.WordsSettling.{AreFaultsBeside, IsEnded, IsEndLine, IsSettlingBy, IsSettlingKept, IsSettlingReady, IsSettlingTaken, TakenTexts, asked_with, beside_said, kept_by, users_fault}
+use Rattle.pciplan_tasks.specs.WordsSettling.{AreFaultsBeside, IsEnded, IsEndLine, IsSettlingAdmitted, IsSettlingAny, IsSettlingBut, IsSettlingBy, IsSettlingKept, IsSettlingLeft, IsSettlingOf, IsSettlingReady, TakenTexts, asked_with, beside_said, can_tell, kept_by, kept_with, left_that_fit, users_fault}
 use Rattle.pciplan_tasks.specs.declared.reply.Reply.{Reply}
 use Rattle.pciplan_tasks.specs.declared.task.Beside.{Beside}
 use Rattle.pciplan_tasks.specs.declared.task.Printed.{Printed}
@@ -110,26 +114,27 @@ not_settled_taken r kept a d fixed anew printed dump probe fault res stands told
     (λ reply. IsSettlingKept r kept record { request = request a.roots d fixed anew; printed = printed } record { dump = dump; probe = probe; taken = a.dump; taken_probe = a.probe } (answer_of reply))
     (λ reply line. inr record { fault = fault; stands = stands; line = line }) told
 
-module _ (w : Words) (r : SettleRequest) (printed : Printed) (fixed : List Slot) (dump probe taken taken_probe : List Block) where
+module _ (w : Words) (r : SettleRequest) (printed : Printed) (fixed left : List Slot) (dump probe taken taken_probe : List Block) where
   abbrev texts : TakenTexts
   texts = record { dump = dump; probe = probe; taken = taken; taken_probe = taken_probe }
 
   abbrev Means : Answer → Type 0
-  Means answer = (unmoved : List Slot) → fixed ≡ r.fixed.items ++ unmoved → IsSettlingReady w r printed unmoved texts answer
+  Means answer = (unmoved : List Slot) → fixed ≡ r.fixed.items ++ unmoved → left ≡ left_out unmoved dump taken taken_probe → IsSettlingReady w r printed unmoved texts answer
 
   pub taken_ready : {A E : Type 0} (res : Result (Reply A) E) → IsReadyAsTold (demand_said r dump).told (buses_of r.roots) taken taken_probe
-      → IfOk res (λ reply. IsSettlingTaken r (kept_by w r dump) (asked_with fixed (kept_by w r dump).told r printed dump) texts (answer_of reply)) → IfOk res (λ reply. Means (answer_of reply))
+      → IfOk res (λ reply. IsSettlingLeft w r printed fixed left texts (answer_of reply)) → IfOk res (λ reply. Means (answer_of reply))
   taken_ready res ready told =
-      IfOk-weaker res (λ reply. IsSettlingTaken r (kept_by w r dump) (asked_with fixed (kept_by w r dump).told r printed dump) texts (answer_of reply)) (λ reply. Means (answer_of reply))
-      (λ reply is unmoved same. inl record {
+      IfOk-weaker res (λ reply. IsSettlingLeft w r printed fixed left texts (answer_of reply)) (λ reply. Means (answer_of reply))
+      (λ reply is unmoved same same_left. inl record {
         ready = ready;
-        is = subst (λ (all : List Slot). IsSettlingTaken r (kept_by w r dump) (asked_with all (kept_by w r dump).told r printed dump) texts (answer_of reply)) same is;
+        is = subst (λ (all : List Slot). IsSettlingLeft w r printed all (left_out unmoved dump taken taken_probe) texts (answer_of reply)) same
+            (subst (λ (some : List Slot). IsSettlingLeft w r printed fixed some texts (answer_of reply)) same_left is);
       }) told
 
   pub taken_unready : {A E : Type 0} (faults : List Fault) (res : Result (Reply A) E) → AreBefore (demand_said r dump).told nothing_given (buses_of r.roots) taken taken_probe faults
       → IfOk res (λ reply. IsFirstLine faults (answer_of reply)) → IfOk res (λ reply. Means (answer_of reply))
   taken_unready faults res before told =
-      IfOk-weaker res (λ reply. IsFirstLine faults (answer_of reply)) (λ reply. Means (answer_of reply)) (λ reply line unmoved same. inr record { faults = faults; before = before; line = line }) told
+      IfOk-weaker res (λ reply. IsFirstLine faults (answer_of reply)) (λ reply. Means (answer_of reply)) (λ reply line unmoved same same_left. inr record { faults = faults; before = before; line = line }) told
 
 -- ---- bridges that claim stand by slot
 
@@ -234,3 +239,89 @@ as_they_are None r printed dump probe res differ told = told
 as_they_are (Some w) r printed dump probe res differ told =
     IfOk-weaker res (λ reply. IsSettlingTold record { request = request_said r dump; printed = printed } dump probe (answer_of reply)) (λ reply. IsSettlingBy (Some w) r printed dump probe (answer_of reply))
     (λ reply is. inr (differ, is)) told
+
+-- ---- without devices
+
+none_left : (bs : List Block) → blocks_without [] bs ≡ bs
+none_left [] = refl
+none_left (b ∷ bs) = ap (λ (rest : List Block). b ∷ rest) (none_left bs)
+
+no_lines : (t : System) → device_lines [] t ≡ []
+no_lines [] = refl
+no_lines (f ∷ t) = no_lines t
+
+pub no_slots : (left : List Slot) → (length left == 0) ≡ true → left ≡ []
+no_slots [] none = refl
+no_slots (slot ∷ left) none = absurd (let same : length (slot ∷ left) ≡ 0 = eqb-true _ _ none in let no : ⊥ = omega (arith, same) in no)
+
+all_fit : (fit : Bool) (left : List Slot) → fit ≡ true → left_that_fit fit left ≡ left
+all_fit true left e = refl
+all_fit false left e = absurd (let no : ⊥ = cc in no)
+
+none_fits : (fit : Bool) (left : List Slot) → fit ≡ false → left_that_fit fit left ≡ []
+none_fits true left e = absurd (let no : ⊥ = cc in no)
+none_fits false left e = refl
+
+pub none_to_fit : (fit : Bool) (left : List Slot) → left ≡ [] → left_that_fit fit left ≡ []
+none_to_fit true left e = e
+none_to_fit false left e = refl
+
+-- too many lines without those of bridges are too many with them
+pub too_many_already : (lines : List Line) (claims : List ToldRange) → 4096 < length lines → 4096 < length (kept_lines lines claims).told
+too_many_already lines claims many = let size = lines_length lines claims in omega (arith, size, many)
+
+module _ (w : Words) (r : SettleRequest) (printed : Printed) (fixed left : List Slot) (dump probe taken taken_probe : List Block) where
+  abbrev as_taken : TakenTexts
+  as_taken = record { dump = dump; probe = probe; taken = taken; taken_probe = taken_probe }
+
+  -- what settling two comes to, off these ranges
+  abbrev Comes : Kept → List Block → List Block → Answer → Type 0
+  Comes kept after after_probe answer =
+      IsSettlingAny r kept (asked_with fixed kept.told r printed dump) record { dump = dump; probe = probe; taken = after; taken_probe = after_probe } answer
+
+  abbrev fit : Bool
+  fit = can_tell (kept_by w r left as_taken)
+
+  -- where these are left out
+  comes_to : {A E : Type 0} (some : List Slot) (kept : Kept) (after after_probe : List Block) (res : Result (Reply A) E) → left_that_fit fit left ≡ some → kept ≡ kept_by w r some as_taken
+      → after ≡ blocks_without some taken → after_probe ≡ blocks_without some taken_probe → IfOk res (λ reply. Comes kept after after_probe (answer_of reply))
+      → IfOk res (λ reply. IsSettlingOf w r printed fixed left as_taken (answer_of reply))
+  comes_to some kept after after_probe res are same is is_probe told =
+      IfOk-weaker res (λ reply. Comes kept after after_probe (answer_of reply)) (λ reply. IsSettlingOf w r printed fixed left as_taken (answer_of reply))
+      (λ reply comes. subst (λ (slots : List Slot). IsSettlingBut w r printed fixed slots as_taken (answer_of reply)) (sym are)
+      (subst (λ (k : Kept). Comes k (blocks_without some taken) (blocks_without some taken_probe) (answer_of reply)) same
+      (subst (λ (bs : List Block). Comes kept bs (blocks_without some taken_probe) (answer_of reply)) is (subst (λ (bs : List Block). Comes kept after bs (answer_of reply)) is_probe comes)))) told
+
+  pub settled_without : {A E : Type 0} (devices : List Line) (kept : Kept) (after after_probe : List Block) (res : Result (Reply A) E) → devices ≡ device_lines left (system_of taken taken_probe)
+      → kept ≡ kept_with w r devices dump → length kept.told ≤ 4096 → after ≡ blocks_without left taken → after_probe ≡ blocks_without left taken_probe
+      → IfOk res (λ reply. Comes kept after after_probe (answer_of reply)) → IfOk res (λ reply. IsSettlingOf w r printed fixed left as_taken (answer_of reply))
+  settled_without devices kept after after_probe res shown same few is is_probe told =
+      let all : kept ≡ kept_by w r left as_taken = same ∙ ap (λ (ls : List Line). kept_with w r ls dump) shown in
+      let fits : fit ≡ true = sym (ap can_tell all) ∙ le-leb (length kept.told) 4096 few in
+      comes_to left kept after after_probe res (all_fit fit left fits) all is is_probe told
+
+  -- where none is
+  pub settled_whole : {A E : Type 0} (res : Result (Reply A) E) → left_that_fit fit left ≡ [] → IsAdmitted record { roots = buses_of r.roots; dump = taken; probe = taken_probe }
+      → IfOk res (λ reply. IsSettlingAdmitted r (kept_with w r [] dump) (asked_with fixed (kept_with w r [] dump).told r printed dump) as_taken (answer_of reply))
+      → IfOk res (λ reply. IsSettlingOf w r printed fixed left as_taken (answer_of reply))
+  settled_whole res none admitted told =
+      comes_to [] (kept_with w r [] dump) taken taken_probe res none (ap (λ (ls : List Line). kept_with w r ls dump) (sym (no_lines (system_of taken taken_probe)))) (sym (none_left taken)) (sym (none_left taken_probe))
+      (IfOk-weaker res (λ reply. IsSettlingAdmitted r (kept_with w r [] dump) (asked_with fixed (kept_with w r [] dump).told r printed dump) as_taken (answer_of reply))
+      (λ reply. Comes (kept_with w r [] dump) taken taken_probe (answer_of reply)) (λ reply is. inl (admitted, is)) told)
+
+  pub too_many_fit_none : (devices : List Line) → devices ≡ device_lines left (system_of taken taken_probe) → 4096 < length (kept_with w r devices dump).told → left_that_fit fit left ≡ []
+  too_many_fit_none devices shown many =
+      let all : kept_with w r devices dump ≡ kept_by w r left as_taken = ap (λ (ls : List Line). kept_with w r ls dump) shown in
+      none_fits fit left (sym (ap can_tell all) ∙ lt-leb (length (kept_with w r devices dump).told) 4096 many)
+
+-- two that are admitted, as they are and as they were
+pub admitted_left : {A E : Type 0} (w : Words) (r : SettleRequest) (printed : Printed) (fixed left : List Slot) (dump probe taken taken_probe : List Block) (a : Admission) (res : Result (Reply A) E) → IsAdmitted a
+    → a.roots ≡ buses_of r.roots → a.dump ≡ taken → a.probe ≡ taken_probe
+    → IfOk res (λ reply. IsSettlingOf w r printed fixed left record { dump = dump; probe = probe; taken = a.dump; taken_probe = a.probe } (answer_of reply))
+    → IfOk res (λ reply. IsSettlingLeft w r printed fixed left record { dump = dump; probe = probe; taken = taken; taken_probe = taken_probe } (answer_of reply))
+admitted_left w r printed fixed left dump probe taken taken_probe a res admitted roots same same_probe told =
+    IfOk-weaker res (λ reply. IsSettlingOf w r printed fixed left record { dump = dump; probe = probe; taken = a.dump; taken_probe = a.probe } (answer_of reply))
+    (λ reply. IsSettlingLeft w r printed fixed left record { dump = dump; probe = probe; taken = taken; taken_probe = taken_probe } (answer_of reply))
+    (λ reply is. subst (λ (bs : List Block). IsSettlingLeft w r printed fixed left record { dump = dump; probe = probe; taken = bs; taken_probe = taken_probe } (answer_of reply)) same
+    (subst (λ (bs : List Block). IsSettlingLeft w r printed fixed left record { dump = dump; probe = probe; taken = a.dump; taken_probe = bs } (answer_of reply)) same_probe
+    (inl (subst (λ (roots : List ℕ). IsAdmitted record { roots = roots; dump = a.dump; probe = a.probe }) roots admitted, is)))) told

@@ -11,7 +11,6 @@ use Rattle.pci_spec.proofs.Members.{in_nil, in_head}
 use Rattle.std.specs.List.{Contains}
 use Rattle.given_spec.specs.Given.{Given}
 use Rattle.given_spec.specs.Fault as untold
-use Rattle.given_spec.specs.FaultLines as untold_lines
 use Rattle.given_spec.specs.ToldClaims.{nothing_told}
 use Rattle.given_spec.specs.ToldFault.{Fault, Known}
 use Rattle.given_spec.specs.ToldFaultLines.{IsEarlyThere, HasNotListed, AreAllFaults}

@@ -3,7 +3,7 @@ use Rattle.std.proofs.Common.{◌≡◌, ℕ, List, [], ◌∷◌, map, option_m
 use Rattle.std.specs.Prelude.{◌↔◌}
 use Rattle.pci_spec.specs.Slot.{Slot}
 use Rattle.pci_spec.specs.Text.{Block, IsDump}
-use Rattle.pci_spec.specs.System.{System, IsSystem, system_of}
+use Rattle.pci_spec.specs.System.{System, system_of}
 use Rattle.pci_spec.specs.Fault as plain
 use Rattle.pci_spec.specs.FaultLines as plain_lines
 use Rattle.pci_spec.specs.Mark.{all_named}
@@ -12,7 +12,7 @@ use Rattle.pci_check.specs.Audits as plain_sound
 use Rattle.given_spec.specs.Given.{nothing_given}
 use Rattle.given_spec.specs.Fault as untold
 use Rattle.given_spec.specs.Told.{ToldRange, IsTold}
-use Rattle.given_spec.specs.ToldClaims.{Told, nothing_told}
+use Rattle.given_spec.specs.ToldClaims.{nothing_told}
 use Rattle.given_spec.specs.ToldFault.{Fault, Known, NotListed, IsIn}
 use Rattle.given_spec.specs.ToldFaultLines.{AreAllFaults}
 use Rattle.given_spec.specs.Laws.{plain_known}

@@ -1,5 +1,5 @@
 -- What the program answers where two texts are to be settled as a user's words take their functions.
-use Rattle.std.specs.Prelude.{◌≡◌, ◌≢◌, ◌⊎◌, ◌↔◌, ◌<◌, ◌≤◌, ℕ, List, [], ◌∷◌, ◌++◌, map, length, codes, Option, None, Some}
+use Rattle.std.specs.Prelude.{◌≡◌, ◌≢◌, ◌⊎◌, ◌↔◌, ◌<◌, ◌≤◌, ℕ, nat_le, Bool, if◌then◌else◌, List, [], ◌∷◌, ◌++◌, map, length, codes, Option, None, Some}
 use Rattle.pci_spec.specs.Slot.{Slot}
 use Rattle.pci_spec.specs.Text.{Block, slots_of}
 use Rattle.pci_spec.specs.System.{system_of}
@@ -17,14 +17,17 @@ use Rattle.pci_base.specs.declared.memory.Refused.TheVariants as refusal
 use Rattle.pci_given.specs.Every.{AreBefore, AreSound}
 use Rattle.pci_model.specs.declared.words.Words.{Words}
 use Rattle.pci_model.specs.WordsValue.{words_value}
-use Rattle.pci_model_settle.specs.ClaimLines.{Kept, claim_lines, kept_lines, told_line}
+use Rattle.pci_model_settle.specs.ClaimLines.{Kept, Line, claim_lines, kept_lines, origin_of, own_lines}
 use Rattle.pci_model_settle.specs.Listed.{blocks_after, listed_write}
+use Rattle.pci_model_settle.specs.OffDevices.{blocks_without, device_lines, left_out}
 use Rattle.pci_model_settle.specs.Unmoved.{AreUnmoved}
+use Rattle.pci_model_settle.specs.declared.claim_lines.Origin.{Origin}
+use Rattle.pci_model_settle.specs.declared.claim_lines.Origin.TheVariants.{Bridge, Device, User}
 use Rattle.pci_settle_writes.specs.Endings.{IsRefusal}
 use Rattle.pci_settle_writes.specs.FaultText.{settle_fault_text}
 use Rattle.pci_settle_writes.specs.Requests.{request}
 use Rattle.pci_settle_writes.specs.declared.lack.SettleFault.{SettleFault}
-use Rattle.pci_settle_writes.specs.declared.lack.SettleFault.TheVariants.{Told as ToldFault}
+use Rattle.pci_settle_writes.specs.declared.lack.SettleFault.TheVariants.{Fixed, Told as ToldFault}
 use Rattle.pci_tree.specs.Admission.{IsAdmitted}
 use Rattle.pci_tree.specs.Roots.{buses_of}
 use Rattle.pciplan_tasks.specs.Also.{ranges_told}
@@ -94,10 +97,6 @@ claims_by w dump =
     claim_lines (legacy_by (vga_of (Some w)) (system_of dump dump))
     (palette_by (snoop_of (Some w)) (vga_of (Some w)) (system_of dump dump))
 
--- the ranges that the user tells, with those of the bridges among them
-abbrev pub kept_by : Words → SettleRequest → List Block → Kept
-kept_by w r dump = kept_lines (ranges_told r.also) (claims_by w dump)
-
 -- What is asked of settling a dump: these functions aren't written, and nothing is placed on these ranges.
 abbrev pub asked_with : List Slot → List ToldRange → SettleRequest → Printed → List Block → SettleAsked
 asked_with fixed ranges r printed dump = record {
@@ -117,6 +116,25 @@ pub record TakenTexts : Type 0 where
   pub taken : List Block
   pub taken_probe : List Block
 
+-- without the address registers of devices at some slots
+abbrev pub texts_without : List Slot → TakenTexts → TakenTexts
+texts_without left t = record {
+  dump = t.dump;
+  probe = t.probe;
+  taken = blocks_without left t.taken;
+  taken_probe = blocks_without left t.taken_probe;
+}
+
+-- the ranges that the user tells, with lines of devices and the held ranges of the bridges among them
+abbrev pub kept_with : Words → SettleRequest → List Line → List Block → Kept
+kept_with w r devices dump =
+    kept_lines (own_lines (ranges_told r.also) devices) (claims_by w dump)
+
+-- where the devices are those at these slots
+abbrev pub kept_by : Words → SettleRequest → List Slot → TakenTexts → Kept
+kept_by w r left t =
+    kept_with w r (device_lines left (system_of t.taken t.taken_probe)) t.dump
+
 -- what settling them comes to, where the dump has no fault after it
 pub record IsSettledTaken (r : SettleRequest) (asked : SettleAsked) (t : TakenTexts)
     (answer : Answer) : Type 0 where
@@ -126,13 +144,14 @@ pub record IsSettledTaken (r : SettleRequest) (asked : SettleAsked) (t : TakenTe
   pub is : IsSettled asked.request (settle_admission asked t.taken t.taken_probe) after writes denied
   pub ended : IsEnded (beside_said r) asked.printed t.dump t.probe writes denied answer
 
--- a fault that names a line names it by the user's number
-abbrev pub number_or : ℕ → Option ℕ → ℕ
-number_or line None = line
-number_or line (Some number) = number
+-- A fault that names a line names the user's line by its number, and that of a device by its register.
+abbrev pub named_by : Slot → ℕ → Origin → SettleFault
+named_by slot line Bridge = ToldFault slot line
+named_by slot line (User number) = ToldFault slot number
+named_by slot line (Device register) = Fixed slot register
 
 abbrev pub users_fault : Kept → SettleFault → SettleFault
-users_fault kept (ToldFault slot line) = ToldFault slot (number_or line (told_line kept line))
+users_fault kept (ToldFault slot line) = named_by slot line (origin_of kept line)
 users_fault kept fault = fault
 
 -- the line of the fault for which nothing is settled: slots refuse nothing
@@ -162,18 +181,46 @@ IsSettlingAdmitted r kept asked t answer =
     ⊎ ((length kept.told ≤ 4096) × IsSettlingKept r kept asked t answer)
 
 -- and of any two
-abbrev pub IsSettlingTaken : SettleRequest → Kept → SettleAsked → TakenTexts → Answer → Type 0
-IsSettlingTaken r kept asked t answer =
+abbrev pub IsSettlingAny : SettleRequest → Kept → SettleAsked → TakenTexts → Answer → Type 0
+IsSettlingAny r kept asked t answer =
     (IsAdmitted (settle_admission asked t.taken t.taken_probe)
     × IsSettlingAdmitted r kept asked t answer)
     ⊎ IsRefusedText asked.request.roots t.taken t.taken_probe answer
+
+-- whether a text can tell of so many ranges
+abbrev pub can_tell : Kept → Bool
+can_tell kept = nat_le (length kept.told) 4096
+
+-- The devices that are left out, of some: none where all ranges together would be more.
+abbrev pub left_that_fit : Bool → List Slot → List Slot
+left_that_fit fit left = if fit then left else []
+
+-- of two that are admitted, where these devices are left out
+abbrev pub IsSettlingBut :
+    Words → SettleRequest → Printed → List Slot → List Slot → TakenTexts → Answer → Type 0
+IsSettlingBut w r printed fixed left t answer =
+    IsSettlingAny r (kept_by w r left t)
+    (asked_with fixed (kept_by w r left t).told r printed t.dump) (texts_without left t) answer
+
+-- and where they are if they fit
+abbrev pub IsSettlingOf :
+    Words → SettleRequest → Printed → List Slot → List Slot → TakenTexts → Answer → Type 0
+IsSettlingOf w r printed fixed left t answer =
+    IsSettlingBut w r printed fixed (left_that_fit (can_tell (kept_by w r left t)) left) t answer
+
+abbrev pub IsSettlingLeft :
+    Words → SettleRequest → Printed → List Slot → List Slot → TakenTexts → Answer → Type 0
+IsSettlingLeft w r printed fixed left t answer =
+    (IsAdmitted record { roots = buses_of r.roots; dump = t.taken; probe = t.taken_probe }
+    × IsSettlingOf w r printed fixed left t answer)
+    ⊎ IsRefusedText (buses_of r.roots) t.taken t.taken_probe answer
 
 -- of two that are ready as told, where these functions stay as they are, too
 pub record IsTakenReady (w : Words) (r : SettleRequest) (printed : Printed) (unmoved : List Slot)
     (t : TakenTexts) (answer : Answer) : Type 0 where
   pub ready : IsReadyAsTold (demand_said r t.dump).told (buses_of r.roots) t.taken t.taken_probe
-  pub is : IsSettlingTaken r (kept_by w r t.dump)
-      (asked_with (r.fixed.items ++ unmoved) (kept_by w r t.dump).told r printed t.dump) t answer
+  pub is : IsSettlingLeft w r printed (r.fixed.items ++ unmoved)
+      (left_out unmoved t.dump t.taken t.taken_probe) t answer
 
 -- the line of the first fault that is there before judging
 pub record IsTakenUnready (r : SettleRequest) (t : TakenTexts) (answer : Answer) : Type 0 where

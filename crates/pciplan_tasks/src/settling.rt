@@ -22,14 +22,14 @@ use pci_claims::told::Told;
 use pci_dump::block::Block;
 use pci_dump::dump::Dump;
 use pci_given::every::{BeforeJudging, before_judging};
-use pci_plan::write::Write;
+use pci_plan::write::Write as RegisterWrite;
 use pci_script::script::script;
 use pci_settle::list::Lists;
 use pci_settle_writes::settle::{Denied, settle};
 use pci_tree::admit::admit_with;
 use pci_tree::admitted::Admitted;
 use std::alloc::{AllocError, Allocator};
-use std::fmt::{self, Write as TextWrite};
+use std::fmt::{self, Write};
 
 /// A window whose spare has no room, as it is told.
 #[derive(Clone, Copy)]
@@ -81,7 +81,7 @@ fn spare_remarks<A: Allocator>(alloc: A, denied: &[Denied]) -> Result<String<A>,
 fn settled_text<A: Allocator + Copy>(
     alloc: A,
     start: &[Block],
-    writes: &[Write],
+    writes: &[RegisterWrite],
     after: Dump<A>,
     printed: Printed,
 ) -> Result<Text<A>, OutOfMemory>
@@ -102,11 +102,12 @@ fn settled_text<A: Allocator + Copy>(
     }
 }
 
-/// What settling a dump answers: what is printed of its writes and of the dump after them, and a remark on each window whose spare has no room.
+/// What settling a dump answers: what is printed of its writes and of the dump after them, and a remark on each window whose
+/// spare has no room.
 pub fn settled_reply<A: Allocator + Copy>(
     alloc: A,
     start: &[Block],
-    writes: &[Write],
+    writes: &[RegisterWrite],
     after: Dump<A>,
     denied: &[Denied],
     printed: Printed,

@@ -1,11 +1,14 @@
 //! What `settle` answers of a dump and its probe as a user's words take their functions.
-ghost use Rattle.std.specs.Prelude.{◌≡◌, ◌++◌, List, map, IfOk, IsTrue};
+ghost use Rattle.std.specs.Prelude.{◌≡◌, ◌<◌, ◌≤◌, ◌++◌, [], List, length, map, Err, IfOk, IsTrue};
+ghost use Rattle.pci_base.specs.declared.memory.Refused.TheVariants as RefusedValue;
 ghost use Rattle.std.specs.List.{All};
 ghost use Rattle.pci_spec.specs.Slot.{Slot as SlotValue};
 ghost use Rattle.pci_spec.specs.Text.{slots_of};
 ghost use Rattle.given_spec.specs.Told.{IsTold};
 ghost use Rattle.pci_claims.specs.Values.{given_value, legacy_value, told_value};
 ghost use Rattle.pci_given.specs.AllLines.{fault_of};
+ghost use Rattle.pci_model_settle.specs.LineValues.{AreToldInOrder, line_value};
+ghost use Rattle.pci_model_settle.specs.OffDevices.{left_out};
 ghost use Rattle.pci_plan.specs.Writes.{is_two_or_four, write_value};
 ghost use Rattle.pci_settle.specs.Slots.{demand_value};
 ghost use Rattle.pci_settle_writes.specs.Denied.{denied_value};
@@ -15,7 +18,7 @@ ghost use Rattle.pciplan_tasks.specs.Also.{ranges_told};
 ghost use Rattle.pciplan_tasks.specs.Answers.{answer_of};
 ghost use Rattle.pciplan_tasks.specs.FaultsAnswers.{given_with};
 ghost use Rattle.pciplan_tasks.specs.SettleAnswers.{demand_said};
-ghost use Rattle.pciplan_tasks.specs.WordsSettling.{AreFaultsBeside, IsEnded, IsSettleAnswer, IsSettlingAdmitted, IsSettlingByWords, IsSettlingKept, IsSettlingReady, IsSettlingTaken, all_is_sent, asked_with, beside_said, kept_by, users_fault};
+ghost use Rattle.pciplan_tasks.specs.WordsSettling.{AreFaultsBeside, IsEnded, IsSettleAnswer, IsSettlingAdmitted, IsSettlingAny, IsSettlingByWords, IsSettlingKept, IsSettlingLeft, IsSettlingOf, IsSettlingReady, all_is_sent, asked_with, beside_said, kept_with, users_fault};
 
 use crate::mapping::first_line;
 use crate::reply::{Reply, refused};
@@ -34,8 +37,11 @@ use pci_given::every::{BeforeJudging, all_faults, before_judging};
 use pci_given::said::Said;
 use pci_model::take::{TakenPair, taken_by};
 use pci_model::words::Words;
-use pci_model_settle::claim_lines::{KeptLines, lines_with_claims};
+use pci_model_settle::claim_lines::{
+    KeptLines, Line, Origin, TooManyLines, lines_with_claims, lines_with_devices,
+};
 use pci_model_settle::listed::{as_listed, dump_after};
+use pci_model_settle::off_devices::{device_lines, left_out, without_registers};
 use pci_model_settle::unmoved::unmoved;
 use pci_pair::pair::first_difference;
 use pci_settle::list::Lists;
@@ -146,17 +152,20 @@ struct Asked<'a> {
     words: Words,
     /// The functions that aren't written.
     fixed: &'a [Slot],
+    /// The devices among them that are left out of what is settled.
+    left: &'a [Slot],
     printed: Printed,
 }
 
-/// A fault that names a line of these ranges, by the user's line.
+/// A fault that names a line of these ranges, by the user's line or by the device's register.
 fn users_fault<A: Allocator>(kept: &KeptLines<A>, fault: SettleFault) -> SettleFault
     ensures { result ≡ users_fault kept.now fault }
 {
     match fault {
-        SettleFault::Told { slot, line } => SettleFault::Told {
-            slot,
-            line: kept.told_line(line).unwrap_or(line),
+        SettleFault::Told { slot, line } => match kept.origin(line) {
+            Origin::Bridge => fault,
+            Origin::User(line) => SettleFault::Told { slot, line },
+            Origin::Device(reg) => SettleFault::Fixed { slot, reg },
         },
         other => other,
     }
@@ -247,8 +256,30 @@ fn settle_kept<A: Allocator + Copy>(
     settle_behind(alloc, texts, admitted, kept, asked, bridges.as_slice())
 }
 
-/// Settles what was admitted as words take it.
-fn settle_admitted<A: Allocator + Copy>(
+/// The ranges on which nothing is placed: those that the user tells, those of these devices, and those of bridges.
+fn kept_beside<A: Allocator + Copy>(
+    alloc: A,
+    dump: &Dump<A>,
+    devices: &[Line],
+    asked: &Asked<'_>,
+) -> Result<KeptLines<A>, Refused<TooManyLines>>
+    requires devices { AreToldInOrder devices.now }
+    ensures kept { IfOk result (λ kept. kept
+        ≡ kept_with asked.now.words asked.now.request.now (map line_value devices.now) dump.now) }
+    ensures few { IfOk result (λ kept. length kept.told ≤ 4096) }
+    ensures many { result ≡ Err (RefusedValue.Fault (record {})) → 4096
+        < length (kept_with asked.now.words asked.now.request.now (map line_value devices.now) dump.now).told }
+{
+    // its slots rise, so bridges stand by slot
+    let _ = dump.blocks();
+    let bridges = bridges_by(alloc, dump, Some(asked.words))?;
+    let ranges = asked.request.also.ranges();
+    let lines = lines_with_devices(alloc, ranges, devices)?;
+    lines_with_claims(alloc, &lines, &bridges.legacy, &bridges.palette)
+}
+
+/// Settles what was admitted as words take it, where no device is left out.
+fn settle_whole<A: Allocator + Copy>(
     alloc: A,
     texts: &Texts<'_, A>,
     admitted: &Admitted<A>,
@@ -256,8 +287,9 @@ fn settle_admitted<A: Allocator + Copy>(
 ) -> Result<Reply<A>, OutOfMemory>
     requires roots { admitted.now.roots ≡ buses_of asked.now.request.now.roots }
     ensures { IfOk result (λ reply. IsSettlingAdmitted asked.now.request.now
-        (kept_by asked.now.words asked.now.request.now texts.now.dump.now)
-        (asked_with asked.now.fixed.now (kept_by asked.now.words asked.now.request.now texts.now.dump.now).told
+        (kept_with asked.now.words asked.now.request.now [] texts.now.dump.now)
+        (asked_with asked.now.fixed.now
+        (kept_with asked.now.words asked.now.request.now [] texts.now.dump.now).told
         asked.now.request.now asked.now.printed texts.now.dump.now) record {
           dump = texts.now.dump.now;
           probe = texts.now.probe.now;
@@ -265,15 +297,71 @@ fn settle_admitted<A: Allocator + Copy>(
           taken_probe = admitted.now.probe;
         } (answer_of reply)) }
 {
-    // its slots rise, so bridges stand by slot
-    let _ = texts.dump.blocks();
-    let bridges = bridges_by(alloc, texts.dump, Some(asked.words))?;
-    let ranges = asked.request.also.ranges();
-    match lines_with_claims(alloc, ranges, &bridges.legacy, &bridges.palette) {
+    match kept_beside(alloc, texts.dump, &[], asked) {
         Ok(kept) => settle_kept(alloc, texts, admitted, &kept, asked),
         Err(Refused::Fault(fault)) => refused(alloc, &fault),
         Err(Refused::Memory) => Err(OutOfMemory),
     }
+}
+
+/// Settles two texts as words take them, off these ranges.
+fn settle_off<A: Allocator + Copy>(
+    alloc: A,
+    texts: &Texts<'_, A>,
+    taken: TakenPair<A>,
+    kept: &KeptLines<A>,
+    asked: &Asked<'_>,
+) -> Result<Reply<A>, OutOfMemory>
+    requires { length kept.now.told ≤ 4096 }
+    ensures { IfOk result (λ reply. IsSettlingAny asked.now.request.now kept.now
+        (asked_with asked.now.fixed.now kept.now.told asked.now.request.now asked.now.printed
+        texts.now.dump.now) record {
+          dump = texts.now.dump.now;
+          probe = texts.now.probe.now;
+          taken = taken.dump;
+          taken_probe = taken.probe;
+        } (answer_of reply)) }
+{
+    match admit_with(alloc, taken.dump, taken.probe, asked.request.roots) {
+        Ok(admitted) => settle_kept(alloc, texts, &admitted, kept, asked),
+        Err(Refused::Fault(fault)) => refused(alloc, &fault),
+        Err(Refused::Memory) => Err(OutOfMemory),
+    }
+}
+
+/// Settles what was admitted as words take it, without the devices that are left out. Where their ranges would be too many,
+/// none is.
+fn settle_without<A: Allocator + Copy>(
+    alloc: A,
+    texts: &Texts<'_, A>,
+    admitted: &Admitted<A>,
+    asked: &Asked<'_>,
+) -> Result<Reply<A>, OutOfMemory>
+    requires roots { admitted.now.roots ≡ buses_of asked.now.request.now.roots }
+    ensures { IfOk result (λ reply. IsSettlingOf asked.now.words asked.now.request.now asked.now.printed
+        asked.now.fixed.now asked.now.left.now record {
+          dump = texts.now.dump.now;
+          probe = texts.now.probe.now;
+          taken = admitted.now.dump;
+          taken_probe = admitted.now.probe;
+        } (answer_of reply)) }
+{
+    // its invariant says that the two are admitted
+    let _ = admitted.outline();
+    if asked.left.is_empty() {
+        return settle_whole(alloc, texts, admitted, asked);
+    }
+    let devices = device_lines(alloc, admitted, asked.left)?;
+    let kept = match kept_beside(alloc, texts.dump, &devices, asked) {
+        Ok(kept) => kept,
+        Err(Refused::Fault(_)) => return settle_whole(alloc, texts, admitted, asked),
+        Err(Refused::Memory) => return Err(OutOfMemory),
+    };
+    let without = TakenPair {
+        dump: without_registers(alloc, admitted.dump(), asked.left)?,
+        probe: without_registers(alloc, admitted.probe(), asked.left)?,
+    };
+    settle_off(alloc, texts, without, &kept, asked)
 }
 
 /// Settles two texts as words take them.
@@ -283,10 +371,8 @@ fn settle_taken<A: Allocator + Copy>(
     taken: TakenPair<A>,
     asked: &Asked<'_>,
 ) -> Result<Reply<A>, OutOfMemory>
-    ensures { IfOk result (λ reply. IsSettlingTaken asked.now.request.now
-        (kept_by asked.now.words asked.now.request.now texts.now.dump.now)
-        (asked_with asked.now.fixed.now (kept_by asked.now.words asked.now.request.now texts.now.dump.now).told
-        asked.now.request.now asked.now.printed texts.now.dump.now) record {
+    ensures { IfOk result (λ reply. IsSettlingLeft asked.now.words asked.now.request.now asked.now.printed asked.now.fixed.now
+        asked.now.left.now record {
           dump = texts.now.dump.now;
           probe = texts.now.probe.now;
           taken = taken.dump;
@@ -294,7 +380,7 @@ fn settle_taken<A: Allocator + Copy>(
         } (answer_of reply)) }
 {
     match admit_with(alloc, taken.dump, taken.probe, asked.request.roots) {
-        Ok(admitted) => settle_admitted(alloc, texts, &admitted, asked),
+        Ok(admitted) => settle_without(alloc, texts, &admitted, asked),
         Err(Refused::Fault(fault)) => refused(alloc, &fault),
         Err(Refused::Memory) => Err(OutOfMemory),
     }
@@ -324,6 +410,7 @@ fn settle_told<A: Allocator + Copy>(
 ) -> Result<Reply<A>, OutOfMemory>
     ensures { IfOk result (λ reply. (unmoved : List SlotValue)
         → asked.now.fixed.now ≡ asked.now.request.now.fixed.items ++ unmoved
+        → asked.now.left.now ≡ left_out unmoved texts.now.dump.now taken.dump taken.probe
         → IsSettlingReady asked.now.words asked.now.request.now asked.now.printed unmoved record {
           dump = texts.now.dump.now;
           probe = texts.now.probe.now;
@@ -361,10 +448,12 @@ fn settle_by_words<A: Allocator + Copy>(
     let taken = taken_by(alloc, texts.dump, texts.probe, words)?;
     let stay = unmoved(alloc, texts.dump, texts.probe, &taken, words)?;
     let fixed = joined(alloc, request.fixed.as_slice(), stay.as_slice())?;
+    let left = left_out(alloc, texts.dump.blocks(), &taken, stay.as_slice())?;
     let asked = Asked {
         request,
         words,
         fixed: fixed.as_slice(),
+        left: left.as_slice(),
         printed,
     };
     settle_told(alloc, texts, taken, &asked)

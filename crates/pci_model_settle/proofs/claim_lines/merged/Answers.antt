@@ -1,7 +1,7 @@
 use Rattle.std.proofs.Common.{◌≡◌, ◌+◌, ◌<◌, ◌++◌, [], ◌∷◌, length, drop, arith, subst, sym, ap, ◌∙◌}
 use Rattle.std.proofs.lemmas.List.{length-drop}
 use Rattle.pci_model_settle.specs.ClaimLines.{merged}
-use Rattle.pci_model_settle.specs.LineValues.{is_next, key_of}
+use Rattle.pci_model_settle.specs.LineValues.{key_of}
 use Rattle.pci_model_settle.proofs.MergedLines.{first_pushed, next_of_rest, next_some, other_some, second_pushed}
 use Rattle.pci_model_settle.proofs.claim_lines.merged.Goals as goal
 use Rattle.pci_model_settle.proofs.claim_lines.merged.Goals.{then-is_next+in_ok-push, else-is_next+in_ok-push-2}

@@ -14,7 +14,7 @@ use Rattle.pciplan_tasks.proofs.settling_by_words.settle_told.Goals as goal
 
 pub returns-then-is_empty : goal.returns-then-is_empty
 returns-then-is_empty g c =
-    taken_ready c.args.asked.now.words c.args.asked.now.request.now c.args.asked.now.printed c.args.asked.now.fixed.now c.args.texts.now.dump.now c.args.texts.now.probe.now c.args.taken.dump c.args.taken.probe c.settle_taken.result
+    taken_ready c.args.asked.now.words c.args.asked.now.request.now c.args.asked.now.printed c.args.asked.now.fixed.now c.args.asked.now.left.now c.args.texts.now.dump.now c.args.texts.now.probe.now c.args.taken.dump c.args.taken.probe c.settle_taken.result
     (inl (sym c.ranges-ranges.ensures.value ∙ none_told c.ranges-ranges.result.now (sym c.is_empty.ensures ∙ c.if-is_empty.true)))
     c.settle_taken.ensures
 
@@ -27,13 +27,13 @@ pub returns-in-Refused : goal.returns-in-Refused
 returns-in-Refused g c =
     let found = (rw c.in-Refused.is at c.in_ok-found.ensures) nothing_given in
     let faults = map fault_of c.in-Refused.faults.items in
-    taken_unready c.args.asked.now.words c.args.asked.now.request.now c.args.asked.now.printed c.args.asked.now.fixed.now c.args.texts.now.dump.now c.args.texts.now.probe.now c.args.taken.dump c.args.taken.probe faults c.first_line.result
+    taken_unready c.args.asked.now.words c.args.asked.now.request.now c.args.asked.now.printed c.args.asked.now.fixed.now c.args.asked.now.left.now c.args.texts.now.dump.now c.args.texts.now.probe.now c.args.taken.dump c.args.taken.probe faults c.first_line.result
     (subst (λ (rs : List ToldRange). AreBefore record { ranges = rs; asleep = [] } nothing_given (buses_of c.args.asked.now.request.now.roots) c.args.taken.dump c.args.taken.probe faults) c.ranges-ranges.ensures.value found.before)
     (subst (λ (items : List AnyFault). IfOk c.first_line.result (λ reply. IsFirstLine (map fault_of items) (answer_of reply))) c.as_slice.ensures.value c.first_line.ensures)
 
 pub returns-in-Admitted : goal.returns-in-Admitted
 returns-in-Admitted g c =
     let ready = rw c.in-Admitted.is at c.in_ok-found.ensures in
-    taken_ready c.args.asked.now.words c.args.asked.now.request.now c.args.asked.now.printed c.args.asked.now.fixed.now c.args.texts.now.dump.now c.args.texts.now.probe.now c.args.taken.dump c.args.taken.probe c.settle_taken-in-Admitted.result
+    taken_ready c.args.asked.now.words c.args.asked.now.request.now c.args.asked.now.printed c.args.asked.now.fixed.now c.args.asked.now.left.now c.args.texts.now.dump.now c.args.texts.now.probe.now c.args.taken.dump c.args.taken.probe c.settle_taken-in-Admitted.result
     (inr (subst (λ (rs : List ToldRange). AreReady record { ranges = rs; asleep = [] } (buses_of c.args.asked.now.request.now.roots) c.args.taken.dump c.args.taken.probe) c.ranges-ranges.ensures.value ready.0))
     c.settle_taken-in-Admitted.ensures
