@@ -1,8 +1,9 @@
 -- So it is where settling with room behind slots ends in writes.
-use Rattle.std.proofs.Common.{◌≡◌, ◌⊎◌, ◌≤◌, ℕ, List, length, take, sym, ◌∙◌, ap, refl, subst}
+use Rattle.std.proofs.Common.{◌≡◌, ◌⊎◌, ◌≤◌, ℕ, false, true, List, length, take, sym, ◌∙◌, ap, refl, subst}
 use Rattle.std.specs.List.{All, Contains}
 use Rattle.std.proofs.lemmas.Bool.{cond_both}
-use Rattle.pci_spec.specs.System.{System}
+use Rattle.pci_spec.specs.Slot.{same_slot}
+use Rattle.pci_spec.specs.System.{Function, System, is_bridge}
 use Rattle.pci_spec.specs.Machine.{Write, system_after}
 use Rattle.plan_spec.specs.Planning.Fitting.{FitsAt}
 use Rattle.given_spec.specs.Given.{Given}
@@ -19,6 +20,7 @@ use Rattle.settle_laws.proofs.Keeping.Stopping.{writes_fit, writes_settle}
 use Rattle.settle_laws.proofs.Told.Ended.{told_end}
 use Rattle.settle_laws.proofs.Told.Settling.{beside_wishes, placing_admitted, settled_can, sparing_can}
 use Rattle.model_settle_laws.specs.StopLaws.{AreToldTo, SettlingSparingCanStop}
+use Rattle.model_settle_laws.proofs.DeviceWrites.{IsDeviceWrite, IsSettledWrite, device_write, settled_write}
 use Rattle.model_settle_laws.proofs.GivenStops.{given_stops}
 
 module _ (q : Request) (s : System) (writes : List Write) (may : CanAskTold q s) (ended : settle_sparing q s ≡ Settled writes) where
@@ -54,6 +56,14 @@ module _ (q : Request) (s : System) (writes : List Write) (may : CanAskTold q s)
   -- each write fits the function at its slot
   pub sparing_fits : All (FitsAt s) writes
   sparing_fits = subst (All (FitsAt s)) same_writes (writes_fit p s j can.can)
+
+  -- it is of Command or of an address register
+  pub sparing_write : (u : Write) → Contains writes u → IsSettledWrite u
+  sparing_write u has = settled_write p s j u (subst (λ ws. Contains ws u) (sym same_writes) has)
+
+  -- and a device at Command, or at a register that has address bits
+  pub sparing_device_write : (h : Function) → Contains s h → is_bridge h ≡ false → (u : Write) → Contains writes u → same_slot h.slot u.slot ≡ true → IsDeviceWrite h u
+  sparing_device_write h listed device u has here = device_write p s j can.can h listed device u here (subst (λ ws. Contains ws u) (sym same_writes) has)
 
   module _ (told : Told) (given : Given) (among : AreToldTo q told) where
     among_placing : AreToldTo p told

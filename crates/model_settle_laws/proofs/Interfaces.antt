@@ -1,5 +1,5 @@
 -- Whether a function is asleep doesn't hang on its interface, so not on what is taken of bridges that are alone of their class.
-use Rattle.std.proofs.Common.{◌≡◌, ℕ, zero, suc, ◌+◌, ◌*◌, ◌/◌, ◌%◌, ◌^◌, ◌<◌, ◌≤◌, [], ◌∷◌, List, Bool, true, false, cond, ◌&&◌, ◌||◌, not, Some, None, inl, inr, refl, sym, ◌∙◌, ap, subst, arith, length, set}
+use Rattle.std.proofs.Common.{◌≡◌, ℕ, zero, suc, ◌+◌, ◌*◌, ◌/◌, ◌%◌, ◌^◌, ◌<◌, ◌≤◌, [], ◌∷◌, List, Bool, true, false, cond, ◌&&◌, ◌||◌, not, None, inl, inr, refl, sym, ◌∙◌, ap, subst, arith, length}
 use Rattle.std.specs.Bool.{IsTrue, ◌==◌, if◌then◌else◌, nat_lt}
 use Rattle.std.specs.List.{Contains}
 use Rattle.std.proofs.lemmas.Bool.{cases_lt}
@@ -11,7 +11,7 @@ use Rattle.pci_spec.specs.Rom.{breaks_rom_rule, is_rom_size, rom_at}
 use Rattle.pci_spec.specs.Window.{WindowKind, bounds_at, breaks_window_rule, is_optional, is_zero, shows_window}
 use Rattle.pci_spec.specs.Capability.{HasChain, HasCutBody, HasLowPlace, ComesTwiceTo, IsChain, body_length, pointer, pointer_at, power_state}
 use Rattle.pci_spec.specs.Slot.{Slot}
-use Rattle.pci_spec.specs.Fault.{Fault, NoVendor, HeaderKind, BarType, BarMask, BarPair, RomMask, WindowMask, CapRange, CapLoop, CapCut, SlotsDiffer, StrayProbe, LoneFunction, PaletteSnoop, VgaEnable, IsaEnable, Subtractive, InReset, PowerState, BusRange, Orphan, Unreached, Clash, Split, HasBarFault, HasRomFault, HasWindowFault, IsNotInD0, SomeAt, controls_bridge, has_no_vendor, has_other_layout, is_in_address_register, is_stray}
+use Rattle.pci_spec.specs.Fault.{NoVendor, HeaderKind, BarType, BarMask, BarPair, RomMask, WindowMask, CapRange, CapLoop, CapCut, SlotsDiffer, StrayProbe, LoneFunction, PaletteSnoop, VgaEnable, IsaEnable, Subtractive, InReset, PowerState, BusRange, Orphan, Unreached, Clash, Split, HasBarFault, HasRomFault, HasWindowFault, IsNotInD0, SomeAt, controls_bridge, has_no_vendor, has_other_layout, is_in_address_register, is_stray}
 use Rattle.pci_spec.specs.Order.{Profile}
 use Rattle.pci_spec.specs.System.{Function}
 use Rattle.pci_spec.proofs.Chains.{chain_without_faults}

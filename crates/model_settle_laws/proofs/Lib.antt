@@ -1,4 +1,7 @@
 mod AddressBits
+mod ChannelsAside
+mod DeviceFields
+mod DeviceWrites
 mod Along
 mod GivenLeft
 mod GivenMore
@@ -6,9 +9,19 @@ mod GivenSparing
 mod GivenStops
 mod Interfaces
 mod InterfacesAside
+mod KeptRegisters
+mod LeavingOut
+mod LeftOut
+mod LeftOutBlocks
 mod ListedWrites
 mod OwnFaults
+mod PrintedStops
 mod SetAside
+mod SocketsAside
+mod SoundStops
+mod Stripped
 mod TakenAlong
+mod TakenOnce
+mod WithoutRegisters
 mod WordsAfter
 mod WordsSettled

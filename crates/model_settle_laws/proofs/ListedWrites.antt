@@ -35,7 +35,7 @@ low_bit c value zero small = omega arith
 low_bit c value (suc zero) small = omega arith
 low_bit c value (suc (suc i)) small = absurd (let no : ⊥ = omega (arith, small) in no)
 
-high_bit : (c value k : ℕ) → 2 ≤ k → bit_at (put_enables c value) k ≡ bit_at c k
+pub high_bit : (c value k : ℕ) → 2 ≤ k → bit_at (put_enables c value) k ≡ bit_at c k
 high_bit c value k from =
     let at : 2 + (k - 2) ≡ k = omega (arith, from) in
     let quotient : put_enables c value / 4 ≡ c / 4 = omega arith in
@@ -208,7 +208,7 @@ module _ (f h : Function) (shown : IsAs f h) (is : IsImage f.image) (u : Write) 
 -- ---- writes one after another
 
 -- Command of a function is its own
-own_command : (f : Function) → IsImage f.image → IsCommandOf (command f.image) f
+pub own_command : (f : Function) → IsImage f.image → IsCommandOf (command f.image) f
 own_command f is j i few small other = register_bit f.image 4 is 2 j i few small
 
 -- and that of what moved from it

@@ -1,14 +1,14 @@
 -- What is wrong with a function by itself before its place is looked at stays so wherever it moves.
-use Rattle.std.proofs.Common.{◌≡◌, ℕ, zero, suc, ◌<◌, ◌≤◌, [], ◌∷◌, Bool, true, false, inl, inr, refl, sym, ◌∙◌, ap, subst, arith, get_or}
+use Rattle.std.proofs.Common.{◌≡◌, ℕ, zero, suc, ◌<◌, ◌≤◌, [], ◌∷◌, true, false, inl, inr, refl, sym, ◌∙◌, ap, subst, arith, get_or}
 use Rattle.std.specs.List.{Contains}
 use Rattle.std.proofs.lemmas.Bool.{both_ways, cases_Bool}
 use Rattle.pci_spec.specs.Number.{IsImage}
 use Rattle.pci_spec.specs.Capability.{ComesTwiceTo, HasChain, HasCutBody, HasLowPlace}
 use Rattle.pci_spec.specs.Fault.{Fault, NoVendor, HeaderKind, BarType, BarMask, BarPair, RomMask, WindowMask, CapRange, CapLoop, CapCut, SlotsDiffer, StrayProbe, LoneFunction, PaletteSnoop, VgaEnable, IsaEnable, Subtractive, InReset, PowerState, BusRange, Orphan, Unreached, Clash, Split, IsIn}
-use Rattle.pci_spec.specs.Order.{Phase, Profile, Place, phase_key, phase_of}
+use Rattle.pci_spec.specs.Order.{Phase, Profile, phase_key, phase_of}
 use Rattle.pci_spec.specs.Sound.{is_of_profile, HasChains}
 use Rattle.pci_spec.specs.Machine.{in_fields}
-use Rattle.pci_spec.specs.System.{Function, IsFunction, IsSystem, System}
+use Rattle.pci_spec.specs.System.{Function, IsFunction, IsSystem}
 use Rattle.pci_spec.proofs.Chains.{chain_without_faults}
 use Rattle.pci_spec.proofs.Members.{in_cons_cases, in_head, in_nil}
 use Rattle.pci_spec.proofs.Walks.{chain-no_cut_body, chain-no_loop, chain-no_low_place}

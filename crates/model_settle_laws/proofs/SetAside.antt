@@ -1,10 +1,10 @@
 -- Words that change one byte take what moved as they took what was there before.
-use Rattle.std.proofs.Common.{◌≡◌, ℕ, zero, suc, ◌+◌, ◌-◌, ◌*◌, ◌/◌, ◌%◌, ◌<◌, List, Bool, true, false, ◌&&◌, not, is_some, inl, inr, refl, sym, ◌∙◌, ap, subst, arith, length, set}
+use Rattle.std.proofs.Common.{◌≡◌, ℕ, zero, suc, ◌+◌, ◌*◌, ◌/◌, ◌%◌, ◌<◌, List, Bool, true, false, ◌&&◌, not, is_some, inl, inr, refl, sym, ◌∙◌, ap, subst, arith, set}
 use Rattle.std.specs.List.{list_any}
 use Rattle.std.proofs.Math.Bool.{and-false}
 use Rattle.std.specs.Bool.{IsFalse, nat_le, ◌==◌, if◌then◌else◌}
 use Rattle.std.specs.Int.{bit_at}
-use Rattle.std.proofs.lemmas.Bool.{both_ways, cases_Bool, cases_eq, cond_both}
+use Rattle.std.proofs.lemmas.Bool.{both_ways, cases_Bool, cases_eq}
 use Rattle.std.proofs.lemmas.List.{get_or-set_same, get_or-set_other, length-set}
 use Rattle.pci_spec.specs.Number.{byte_at, has_bit, IsImage}
 use Rattle.pci_spec.specs.Header.{layout, bridge_control, class_code}

@@ -1,7 +1,8 @@
 -- What moved from a function is taken as what moved along with what the function was taken as.
-use Rattle.std.proofs.Common.{◌≡◌, ◌/◌, List, Bool, true, false, ◌&&◌, ◌||◌, not, Some, None, inl, inr, refl, sym, ◌∙◌, ap, subst, arith}
+use Rattle.std.proofs.Common.{◌≡◌, ◌/◌, List, true, false, ◌&&◌, ◌||◌, Some, None, inl, inr, refl, sym, ◌∙◌, ap, subst, arith}
+use Rattle.std.specs.Prelude.{⊤}
 use Rattle.std.specs.Bool.{IsTrue, ◌==◌, if◌then◌else◌}
-use Rattle.std.proofs.lemmas.Bool.{and_left, and_parts, both_ways, cases_Bool, ne_eqb, not_from_false, not_from_true}
+use Rattle.std.proofs.lemmas.Bool.{and_left, and_parts, and_right, both_ways, cases_Bool, eqb-true, ne_eqb, not_from_false, not_from_true, or_from}
 use Rattle.std.proofs.Math.Bool.{and-false}
 use Rattle.pci_spec.specs.Number.{IsImage}
 use Rattle.pci_spec.specs.Header.{class_code, layout}
@@ -17,10 +18,12 @@ use Rattle.plan_spec.proofs.Planning.Profile.{class_same}
 use Rattle.plan_spec.proofs.Planning.OtherRules.{window_rule_same}
 use Rattle.model_spec.specs.Words.{Words}
 use Rattle.model_spec.specs.Windows.{shown_nibble, window_as_shown, windows_as_shown, with_nibble}
-use Rattle.model_spec.specs.Taken.{FixedParts, HasNoOwnFaultBefore, IsAsleepBy, IsTakenAs, IsWhere, bridge_aside, cardbus_aside, first_aside, fixed_parts_by, has_numbers, is_cardbus, is_ide, is_unnumbered, is_unnumbered_bridge, isa_aside_by, may_have_parts_by, parts_aside, reset_aside, vga_aside_by, windows_aside, without_buses, without_channels, without_socket}
+use Rattle.model_spec.specs.Taken.{FixedParts, HasNoOwnFaultBefore, IsAsleepBy, IsTakenAs, IsWhere, bridge_aside, cardbus_aside, compatible_bars, first_aside, fixed_parts_by, has_numbers, is_cardbus, is_ide, is_unnumbered, is_unnumbered_bridge, isa_aside_by, may_have_parts_by, parts_aside, reset_aside, vga_aside_by, windows_aside, without_buses, without_channels, without_socket}
 use Rattle.model_spec.proofs.Changes.{device_is_device, device_is_none}
 use Rattle.model_spec.proofs.Kept.{unnumbered_is_bridge}
-use Rattle.model_settle_laws.proofs.Along.{IsAlong, IsAs, along_itself, along_through}
+use Rattle.model_spec.proofs.NoEnables.{bars_stay, is_controller}
+use Rattle.model_settle_laws.proofs.Along.{IsAlong, along_itself, along_through}
+use Rattle.model_settle_laws.proofs.KeptRegisters.{AreRegistersKept, bridge_kept, first_kept}
 use Rattle.model_settle_laws.proofs.OwnFaults.{asleep_later, moves_back, own_later}
 use Rattle.model_settle_laws.proofs.SetAside.{isa_along, reset_along, snoop_along, subtractive_along, vga_along}
 
@@ -101,20 +104,37 @@ pub record IsStirred (w : Words) (f h : Function) : Type 0 where
   pub leads : is_bridge f ≡ true → is_bridge h ≡ true
   pub numbers : is_bridge h ≡ true → secondary h ≡ 0 → ⊥
 
--- what it is taken as, and what goes along
+-- ---- what is left out of a function as it is taken
+
+-- nothing, the BARs of channels in compatibility mode, or all registers of a socket
+pub data Omitted : Type 0 where
+  Nothing : Omitted
+  Channels : Omitted
+  Socket : Omitted
+
+abbrev pub taken_without : Omitted → Function → Function
+taken_without Nothing f = f
+taken_without Channels f = without_channels f
+taken_without Socket f = without_socket f
+
+-- the header of such a function
+abbrev pub HasKindFor : Omitted → Function → Type 0
+HasKindFor Nothing f = ⊤
+HasKindFor Channels f = layout f.image ≡ 0
+HasKindFor Socket f = layout f.image ≡ 2
+
+-- A function f is taken as h, which is b without some registers. Where f moves to g, this is taken as c without them.
 pub record IsTakenAlong (w : Words) (slots : List Slot) (f g h : Function) : Type 0 where
-  pub k : Function
-  pub taken : IsTakenAs w slots g k
-  pub along : IsAlong f g h k
+  pub b : Function
+  pub c : Function
+  pub omitted : Omitted
+  pub kind : HasKindFor omitted b
+  pub before : h ≡ taken_without omitted b
+  pub taken : IsTakenAs w slots g (taken_without omitted c)
+  pub along : IsAlong f g b c
+  pub registers : AreRegistersKept f b
 
--- ---- where it keeps its registers
-
--- By no word it is a controller without channels or a socket.
-pub record IsTakenWhole (w : Words) (f : Function) : Type 0 where
-  pub channels : (w.ide && is_ide f.image) ≡ false
-  pub socket : (w.cardbus && is_cardbus f) ≡ false
-
-module _ (w : Words) (slots : List Slot) (f g h : Function) (is : IsFunction f) (m : IsMoved f g) (stirred : IsStirred w f h) (whole : IsTakenWhole w f) (taken : IsTakenAs w slots f h) where
+module _ (w : Words) (slots : List Slot) (f g h : Function) (is : IsFunction f) (m : IsMoved f g) (stirred : IsStirred w f h) (taken : IsTakenAs w slots f h) where
   abbrev x : Function
   x = first_aside w f
 
@@ -136,6 +156,9 @@ module _ (w : Words) (slots : List Slot) (f g h : Function) (is : IsFunction f) 
   all_along : IsAlong f g b c
   all_along = along_through f g x y b c to_x to_b
 
+  kept : AreRegistersKept f b
+  kept place from to = bridge_kept w slots x place from to ∙ first_kept w f (aside_is w f stirred.shown) place from to
+
   x_is : IsFunction x
   x_is = record {
     slot = subst IsSlot (sym to_x.before.slot) is.slot;
@@ -150,71 +173,6 @@ module _ (w : Words) (slots : List Slot) (f g h : Function) (is : IsFunction f) 
     probe = subst IsImage (sym m.probe) is.probe;
   }
 
-  g_is : taken.g ≡ x
-  g_is = elim taken.power [
-    | inl (asleep, changed) ↦ absurd (stirred.awake asleep)
-    | inr (fails, same) ↦ same
-  ]
-
-  abbrev AreParts : FixedParts → Function → Function → Type 0
-  AreParts fixed r k = IsWhere (IsTrue (may_have_parts_by w r) × HasNoOwnFaultBefore Place r) r (parts_aside w fixed r) k
-
-  parts_were : AreParts (fixed_parts_by w f) b taken.k
-  parts_were = subst (λ z. AreParts (fixed_parts_by w f) (bridge_aside w slots z) taken.k) g_is taken.parts
-
-  no_socket : (r : Function) → is_cardbus r ≡ is_cardbus f → cardbus_aside w r ≡ r
-  no_socket r same = ap (λ t. if t then without_socket r else r) (ap (λ t. w.cardbus && t) same ∙ whole.socket)
-
-  no_channels : (r : Function) → layout r.image ≡ layout f.image → class_code r.image / 256 ≡ class_code f.image / 256 → (w.ide && is_ide r.image) ≡ false
-  no_channels r kind class = (λ i. w.ide && (kind i == 0 && class i == 0x0101)) ∙ whole.channels
-
-  b_channels : (w.ide && is_ide b.image) ≡ false
-  b_channels = no_channels b all_along.before.kind all_along.before.class
-
-  c_channels : (w.ide && is_ide c.image) ≡ false
-  c_channels = no_channels c (all_along.after.kind ∙ layout_same f g m is.image) (all_along.after.class ∙ ap (λ n. n / 256) (class_same f g m is.image))
-
-  -- just buses may be left out
-  parts_by : (fixed : FixedParts) (r : Function) → (w.ide && is_ide r.image) ≡ false → parts_aside w fixed r ≡ (if w.unnumbered && is_unnumbered fixed r then without_buses r else r)
-  parts_by fixed r none = ap (λ t. if t then without_channels r else if w.unnumbered && is_unnumbered fixed r then without_buses r else r) none
-
-  bare_is_none : cardbus_aside w (without_buses b) ≡ without_buses b
-  bare_is_none = ap (λ t. if t then without_socket (without_buses b) else without_buses b) (ap (λ n. w.cardbus && n == 2) (device_is_device b.image) ∙ and-false w.cardbus)
-
-  -- it is a bridge no more where its buses are left out
-  k_is : taken.k ≡ b
-  k_is = elim parts_were [
-    | inr (fails, same) ↦ same
-    | inl (holds, changed_to) ↦ let changed = changed_to ∙ parts_by (fixed_parts_by w f) b b_channels in elim (cases_Bool (w.unnumbered && is_unnumbered (fixed_parts_by w f) b)) [
-      | inr other ↦ changed ∙ ap (λ t. if t then without_buses b else b) other
-      | inl bare ↦
-          let none : is_bridge h ≡ false = ap is_bridge (taken.header ∙ ap (cardbus_aside w) (changed ∙ ap (λ t. if t then without_buses b else b) bare) ∙ bare_is_none) ∙ device_is_none b.image in
-          let leads : is_bridge f ≡ true = elim (cases_Bool (is_bridge f)) [
-            | inl bridge ↦ bridge
-            | inr device ↦
-                let nobody : is_unnumbered (fixed_parts_by w f) b ≡ false = unnumbered_is_bridge (fixed_parts_by w f) b (ap (λ n. n == 1) all_along.before.kind ∙ device) in
-                absurd (both_ways (is_unnumbered (fixed_parts_by w f) b) nobody (and_parts w.unnumbered (is_unnumbered (fixed_parts_by w f) b) bare).1)
-          ] in
-          absurd (both_ways (is_bridge h) none (stirred.leads leads))
-    ]
-  ]
-
-  h_is : h ≡ b
-  h_is = taken.header ∙ ap (cardbus_aside w) k_is ∙ no_socket b (ap (λ n. n == 2) all_along.before.kind)
-
-  -- so none is left out later
-  unchanged : parts_aside w (fixed_parts_by w g) c ≡ c
-  unchanged =
-      let some : is_bridge c ≡ true → secondary c ≡ 0 → ⊥ = λ bridge zero.
-      let was : is_bridge b ≡ true = sym (bridge_same b c to_b.moved to_b.before.image) ∙ bridge in
-      stirred.numbers (ap is_bridge h_is ∙ was) (ap secondary h_is ∙ sym (secondary_same b c to_b.moved to_b.before.image was) ∙ zero) in
-      parts_by (fixed_parts_by w g) c c_channels
-      ∙ ap (λ t. if w.unnumbered && t then without_buses c else c) (numbered (fixed_parts_by w g) c some)
-      ∙ ap (λ t. if t then without_buses c else c) (and-false w.unnumbered)
-
-  may_same : may_have_parts_by w c ≡ may_have_parts_by w b
-  may_same = λ i. (c_channels ∙ sym b_channels) i || (w.unnumbered && bridge_same b c to_b.moved to_b.before.image i)
-
   b_is : IsFunction b
   b_is = record {
     slot = subst IsSlot (sym all_along.before.slot) is.slot;
@@ -225,24 +183,185 @@ module _ (w : Words) (slots : List Slot) (f g h : Function) (is : IsFunction f) 
   c_is : IsFunction c
   c_is = later_is b c b_is to_b.moved
 
-  parts_are : AreParts (fixed_parts_by w g) c c
-  parts_are = elim parts_were [
-    | inl (holds, changed) ↦ inl (
-      (may_same ∙ holds.0, own_later Place (omega arith) (omega arith) b c b_is to_b.moved holds.1),
-      sym unchanged,
-    )
-    | inr (fails, same) ↦ inr (
-      λ holds. fails (sym may_same ∙ holds.0, own_later Place (omega arith) (omega arith) c b c_is (moves_back b c b_is.image to_b.moved) holds.1),
-      refl,
-    )
+  c_kind : layout c.image ≡ layout b.image
+  c_kind = layout_same b c to_b.moved b_is.image
+
+  c_class : class_code c.image / 256 ≡ class_code b.image / 256
+  c_class = ap (λ n. n / 256) (class_same b c to_b.moved b_is.image)
+
+  g_is : taken.g ≡ x
+  g_is = elim taken.power [
+    | inl (asleep, changed) ↦ absurd (stirred.awake asleep)
+    | inr (fails, same) ↦ same
   ]
 
   still_awake : IsAsleepBy w g → ⊥
   still_awake asleep = stirred.awake (asleep.0, asleep_later x y x_is (later_is x y x_is to_x.moved) to_x.moved asleep.1)
 
-  pub whole_along : IsTakenAlong w slots f g h
-  whole_along = record {
-    k = c;
-    taken = record { g = y; k = c; power = inr (still_awake, refl); parts = parts_are; header = sym (no_socket c (ap (λ n. n == 2) (all_along.after.kind ∙ layout_same f g m is.image))) };
-    along = subst (λ z. IsAlong f g z c) (sym h_is) all_along;
-  }
+  abbrev CanHaveParts : Function → Type 0
+  CanHaveParts r = IsTrue (may_have_parts_by w r) × HasNoOwnFaultBefore Place r
+
+  abbrev AreParts : FixedParts → Function → Function → Type 0
+  AreParts fixed r k = IsWhere (CanHaveParts r) r (parts_aside w fixed r) k
+
+  parts_were : AreParts (fixed_parts_by w f) b taken.k
+  parts_were = subst (λ z. AreParts (fixed_parts_by w f) (bridge_aside w slots z) taken.k) g_is taken.parts
+
+  -- the words count for it as they did
+  ide_same : (w.ide && is_ide c.image) ≡ (w.ide && is_ide b.image)
+  ide_same = λ i. w.ide && (c_kind i == 0 && c_class i == 0x0101)
+
+  may_same : may_have_parts_by w c ≡ may_have_parts_by w b
+  may_same = λ i. ide_same i || (w.unnumbered && bridge_same b c to_b.moved to_b.before.image i)
+
+  holds_later : CanHaveParts b → CanHaveParts c
+  holds_later holds = (may_same ∙ holds.0, own_later Place (omega arith) (omega arith) b c b_is to_b.moved holds.1)
+
+  fails_later : (CanHaveParts b → ⊥) → CanHaveParts c → ⊥
+  fails_later fails holds = fails (sym may_same ∙ holds.0, own_later Place (omega arith) (omega arith) c b c_is (moves_back b c b_is.image to_b.moved) holds.1)
+
+  no_socket : (r : Function) → (w.cardbus && is_cardbus r) ≡ false → cardbus_aside w r ≡ r
+  no_socket r none = ap (λ t. if t then without_socket r else r) none
+
+  -- ---- a CardBus bridge
+
+  module _ (counts : (w.cardbus && is_cardbus b) ≡ true) where
+    two : layout b.image ≡ 2
+    two = eqb-true (layout b.image) 2 (and_parts w.cardbus (is_cardbus b) counts).1
+
+    no_parts : may_have_parts_by w b ≡ false
+    no_parts = or_from (w.ide && is_ide b.image) (w.unnumbered && is_bridge b) (and_right w.ide (is_ide b.image) (and_left _ _ (ap (λ n. n == 0) two))) (and_right w.unnumbered (is_bridge b) (ap (λ n. n == 1) two))
+
+    socket_k : taken.k ≡ b
+    socket_k = elim parts_were [
+      | inl (holds, changed) ↦ absurd (both_ways (may_have_parts_by w b) no_parts holds.0)
+      | inr (fails, same) ↦ same
+    ]
+
+    a_socket : (r : Function) → (w.cardbus && is_cardbus r) ≡ true → cardbus_aside w r ≡ without_socket r
+    a_socket r is_one = ap (λ t. if t then without_socket r else r) is_one
+
+    socket_along : IsTakenAlong w slots f g h
+    socket_along = record {
+      b = b;
+      c = c;
+      omitted = Socket;
+      kind = two;
+      before = taken.header ∙ ap (cardbus_aside w) socket_k ∙ a_socket b counts;
+      taken = record {
+        g = y;
+        k = c;
+        power = inr (still_awake, refl);
+        parts = inr (λ holds. both_ways (may_have_parts_by w c) (may_same ∙ no_parts) holds.0, refl);
+        header = sym (a_socket c (ap (λ n. w.cardbus && n == 2) c_kind ∙ counts));
+      };
+      along = all_along;
+      registers = kept;
+    }
+
+  -- ---- an IDE controller
+
+  module _ (counts : (w.ide && is_ide b.image) ≡ true) where
+    zero_is : layout b.image ≡ 0
+    zero_is = is_controller b (and_parts w.ide (is_ide b.image) counts).1
+
+    device_is : (r : Function) → layout r.image ≡ 0 → cardbus_aside w r ≡ r
+    device_is r kind = no_socket r (and_right w.cardbus (is_cardbus r) (ap (λ n. n == 2) kind))
+
+    channels_by : (fixed : FixedParts) (r : Function) → (w.ide && is_ide r.image) ≡ true → parts_aside w fixed r ≡ without_channels r
+    channels_by fixed r is_one = ap (λ t. if t then without_channels r else if w.unnumbered && is_unnumbered fixed r then without_buses r else r) is_one
+
+    channels_along : IsTakenAlong w slots f g h
+    channels_along = elim parts_were [
+      | inl (holds, changed) ↦ record {
+        b = b;
+        c = c;
+        omitted = Channels;
+        kind = zero_is;
+        before = taken.header ∙ ap (cardbus_aside w) (changed ∙ channels_by (fixed_parts_by w f) b counts) ∙ device_is (without_channels b) (bars_stay (compatible_bars b) b.image zero_is);
+        taken = record {
+          g = y;
+          k = without_channels c;
+          power = inr (still_awake, refl);
+          parts = inl (holds_later holds, sym (channels_by (fixed_parts_by w g) c (ide_same ∙ counts)));
+          header = sym (device_is (without_channels c) (bars_stay (compatible_bars c) c.image (c_kind ∙ zero_is)));
+        };
+        along = all_along;
+        registers = kept;
+      }
+      | inr (fails, same) ↦ record {
+        b = b;
+        c = c;
+        omitted = Nothing;
+        kind = tt;
+        before = taken.header ∙ ap (cardbus_aside w) same ∙ device_is b zero_is;
+        taken = record { g = y; k = c; power = inr (still_awake, refl); parts = inr (fails_later fails, refl); header = sym (device_is c (c_kind ∙ zero_is)) };
+        along = all_along;
+        registers = kept;
+      }
+    ]
+
+  -- ---- any other function
+
+  module _ (socket : (w.cardbus && is_cardbus b) ≡ false) (b_channels : (w.ide && is_ide b.image) ≡ false) where
+    -- just buses may be left out
+    parts_by : (fixed : FixedParts) (r : Function) → (w.ide && is_ide r.image) ≡ false → parts_aside w fixed r ≡ (if w.unnumbered && is_unnumbered fixed r then without_buses r else r)
+    parts_by fixed r none = ap (λ t. if t then without_channels r else if w.unnumbered && is_unnumbered fixed r then without_buses r else r) none
+
+    bare_is_none : cardbus_aside w (without_buses b) ≡ without_buses b
+    bare_is_none = no_socket (without_buses b) (and_right w.cardbus (is_cardbus (without_buses b)) (ap (λ n. n == 2) (device_is_device b.image)))
+
+    -- it is a bridge no more where its buses are left out
+    k_is : taken.k ≡ b
+    k_is = elim parts_were [
+      | inr (fails, same) ↦ same
+      | inl (holds, changed_to) ↦ let changed = changed_to ∙ parts_by (fixed_parts_by w f) b b_channels in elim (cases_Bool (w.unnumbered && is_unnumbered (fixed_parts_by w f) b)) [
+        | inr other ↦ changed ∙ ap (λ t. if t then without_buses b else b) other
+        | inl bare ↦
+            let none : is_bridge h ≡ false = ap is_bridge (taken.header ∙ ap (cardbus_aside w) (changed ∙ ap (λ t. if t then without_buses b else b) bare) ∙ bare_is_none) ∙ device_is_none b.image in
+            let leads : is_bridge f ≡ true = elim (cases_Bool (is_bridge f)) [
+              | inl bridge ↦ bridge
+              | inr device ↦
+                  let nobody : is_unnumbered (fixed_parts_by w f) b ≡ false = unnumbered_is_bridge (fixed_parts_by w f) b (ap (λ n. n == 1) all_along.before.kind ∙ device) in
+                  absurd (both_ways (is_unnumbered (fixed_parts_by w f) b) nobody (and_parts w.unnumbered (is_unnumbered (fixed_parts_by w f) b) bare).1)
+            ] in
+            absurd (both_ways (is_bridge h) none (stirred.leads leads))
+      ]
+    ]
+
+    h_is : h ≡ b
+    h_is = taken.header ∙ ap (cardbus_aside w) k_is ∙ no_socket b socket
+
+    -- so none is left out later
+    unchanged : parts_aside w (fixed_parts_by w g) c ≡ c
+    unchanged =
+        let some : is_bridge c ≡ true → secondary c ≡ 0 → ⊥ = λ bridge zero.
+        let was : is_bridge b ≡ true = sym (bridge_same b c to_b.moved to_b.before.image) ∙ bridge in
+        stirred.numbers (ap is_bridge h_is ∙ was) (ap secondary h_is ∙ sym (secondary_same b c to_b.moved to_b.before.image was) ∙ zero) in
+        parts_by (fixed_parts_by w g) c (ide_same ∙ b_channels)
+        ∙ ap (λ t. if w.unnumbered && t then without_buses c else c) (numbered (fixed_parts_by w g) c some)
+        ∙ ap (λ t. if t then without_buses c else c) (and-false w.unnumbered)
+
+    parts_are : AreParts (fixed_parts_by w g) c c
+    parts_are = elim parts_were [
+      | inl (holds, changed) ↦ inl (holds_later holds, sym unchanged)
+      | inr (fails, same) ↦ inr (fails_later fails, refl)
+    ]
+
+    other_along : IsTakenAlong w slots f g h
+    other_along = record {
+      b = b;
+      c = c;
+      omitted = Nothing;
+      kind = tt;
+      before = h_is;
+      taken = record { g = y; k = c; power = inr (still_awake, refl); parts = parts_are; header = sym (no_socket c (ap (λ n. w.cardbus && n == 2) c_kind ∙ socket)) };
+      along = all_along;
+      registers = kept;
+    }
+
+  pub taken_along : IsTakenAlong w slots f g h
+  taken_along = elim (cases_Bool (w.cardbus && is_cardbus b)) [
+    | inl socket ↦ socket_along socket
+    | inr none ↦ elim (cases_Bool (w.ide && is_ide b.image)) [ inl channels ↦ channels_along channels | inr other ↦ other_along none other ]
+  ]

@@ -1,5 +1,5 @@
 -- Words take a system after the writes that it lists as they took it, and as what they took is after these writes.
-use Rattle.std.proofs.Common.{◌≡◌, ℕ, [], ◌∷◌, List, Bool, true, false, ◌&&◌, ◌||◌, not, inl, inr, refl, sym, ◌∙◌, ap, subst, map, set}
+use Rattle.std.proofs.Common.{◌≡◌, ℕ, [], ◌∷◌, List, true, false, ◌&&◌, ◌||◌, not, inl, inr, refl, sym, ◌∙◌, ap, subst, map, set}
 use Rattle.std.specs.Prelude.{◌⊎◌}
 use Rattle.std.specs.Bool.{◌==◌, if◌then◌else◌}
 use Rattle.std.specs.List.{AllZip, Contains, list_any}
@@ -10,7 +10,7 @@ use Rattle.pci_spec.specs.Number.{IsImage}
 use Rattle.pci_spec.specs.Header.{command}
 use Rattle.pci_spec.specs.Registers.{INTERFACE}
 use Rattle.pci_spec.specs.Slot.{IsSlot, Slot, same_slot}
-use Rattle.pci_spec.specs.System.{Function, IsFunction, IsSystem, System}
+use Rattle.pci_spec.specs.System.{Function, IsFunction, IsSystem, System, is_bridge}
 use Rattle.pci_spec.specs.Machine.{Write, system_after, write_function}
 use Rattle.pci_spec.proofs.Members.{in_head, in_tail}
 use Rattle.pci_spec.proofs.Pairs.{member_forth}
@@ -21,16 +21,24 @@ use Rattle.plan_spec.proofs.Planning.Fit.{moved_itself}
 use Rattle.plan_spec.proofs.Planning.Settled.{function_after, system_by_function}
 use Rattle.plan_spec.proofs.Planning.Writes.{write_elsewhere}
 use Rattle.model_spec.specs.Words.{Words}
-use Rattle.model_spec.specs.Taken.{AreFunctionsTakenAs, IsTakenAs, unclaimed_aside_by}
+use Rattle.model_spec.specs.Taken.{AreFunctionsTakenAs, IsTakenAs, unclaimed_aside_by, without_channels, without_socket}
+use Rattle.model_settle_laws.proofs.ChannelsAside.{channels_after, channels_out, channels_stripped}
+use Rattle.model_settle_laws.proofs.DeviceWrites.{IsDeviceWrite}
 use Rattle.model_settle_laws.proofs.Along.{IsAlong, IsAs, along_itself, as_through, one_along}
+use Rattle.model_settle_laws.proofs.KeptRegisters.{AreRegistersKept, unclaimed_kept}
 use Rattle.model_settle_laws.proofs.ListedWrites.{AreAfter, each_step, put_write, slot_is}
 use Rattle.model_settle_laws.proofs.SetAside.{subtractive_is, unclaimed_along}
-use Rattle.model_settle_laws.proofs.TakenAlong.{IsStirred, IsTakenAlong, IsTakenWhole, whole_along}
+use Rattle.model_settle_laws.proofs.SocketsAside.{socket_after, socket_out, socket_stripped}
+use Rattle.model_settle_laws.proofs.Stripped.{both_after, fits_before}
+use Rattle.model_settle_laws.proofs.TakenAlong.{HasKindFor, IsStirred, IsTakenAlong, Omitted, Nothing, Channels, Socket, taken_along, taken_without}
 
 -- ---- bridges that are alone
 
 abbrev pub alone_aside : Words → System → Function → Function
 alone_aside w s f = if w.unclaimed then unclaimed_aside s f else f
+
+pub alone_kept : (w : Words) (s : System) (f : Function) → AreRegistersKept f (alone_aside w s f)
+alone_kept w s f = unclaimed_kept w s f
 
 pub each_aside : (w : Words) (s : System) → unclaimed_aside_by w s ≡ map (alone_aside w s) s
 each_aside w s = elim (cases_Bool w.unclaimed) [
@@ -64,7 +72,7 @@ module _ (f g : Function) (is : IsImage f.image) (m : IsMoved f g) where
 
 module _ (f : Function) (listed : Write → Write) (slot_kept : (u : Write) → (listed u).slot ≡ u.slot) where
   -- those that are of other functions
-  none_written : (g : Function) (writes : List Write) → g.slot ≡ f.slot → ((u : Write) → Contains writes u → same_slot f.slot u.slot ≡ false) → function_after g writes ≡ g
+  pub none_written : (g : Function) (writes : List Write) → g.slot ≡ f.slot → ((u : Write) → Contains writes u → same_slot f.slot u.slot ≡ false) → function_after g writes ≡ g
   none_written g [] at none = refl
   none_written g (u ∷ writes) at none =
       ap (λ x. function_after x writes) (write_elsewhere u g (ap (λ s. same_slot s u.slot) at ∙ none u (in_head u writes)))
@@ -102,6 +110,10 @@ IsLeftAlone writes f = (u : Write) → Contains writes u → same_slot f.slot u.
 abbrev pub AreFitting : List Write → Function → Type 0
 AreFitting writes h = (u : Write) → Contains writes u → same_slot h.slot u.slot ≡ true → IsFitting u h
 
+-- each one of a device is one of Command, or of a register that has address bits
+abbrev pub AreOfDevice : List Write → Function → Type 0
+AreOfDevice writes h = (u : Write) → Contains writes u → same_slot h.slot u.slot ≡ true → IsDeviceWrite h u
+
 -- A write as it is listed: Command as the function has it, but for its enables.
 pub record IsListing (listed : Write → Write) (s : System) : Type 0 where
   pub slot : (u : Write) → (listed u).slot ≡ u.slot
@@ -110,8 +122,8 @@ pub record IsListing (listed : Write → Write) (s : System) : Type 0 where
 -- what is known of a function of which some writes are, and of what it is taken as beside others
 pub record IsWritten (w : Words) (s : System) (writes : List Write) (f h : Function) : Type 0 where
   pub stirred : IsStirred w (alone_aside w s f) h
-  pub whole : IsTakenWhole w (alone_aside w s f)
   pub fits : AreFitting writes h
+  pub registers : is_bridge h ≡ false → AreOfDevice writes h
 
 module _ (w : Words) (slots : List Slot) (s : System) (system : IsSystem s) (listed : Write → Write) (writes : List Write) (listing : IsListing listed s) where
   abbrev move : Function → Function
@@ -143,29 +155,66 @@ module _ (w : Words) (slots : List Slot) (s : System) (system : IsSystem s) (lis
       let is = is_of f has in
       record { slot = subst IsSlot (sym as_it.slot) is.slot; image = as_it.image; probe = subst IsImage (sym as_it.probe) is.probe }
 
-  module _ (f h : Function) (pair : IsPair f h) (written : IsWritten w s writes f h) where
-    abbrev a : Function
-    a = alone_aside w s f
+  module _ (f h : Function) (pair : IsPair f h) (written : IsWritten w s writes f h) (g : Function) (t : IsTakenAlong w slots (alone_aside w s f) g h) where
+    pub start : IsAs f t.b
+    start = as_through f (alone_aside w s f) t.b (aside_shows f pair.has) t.along.before
 
-    at_start : IsTakenAlong w slots a a h
-    at_start = whole_along w slots a a h (aside_is f pair.has) (moved_itself a (aside_is f pair.has).image) written.stirred written.whole pair.taken
+    abbrev b_image : IsImage t.b.image
+    b_image = t.along.before.image
 
-    start : IsAs f h
-    start = as_through f a h (aside_shows f pair.has) at_start.along.before
+    -- what is known of writes to what it is taken as
+    record AreKnown (k : Function) : Type 0 where
+      fits : AreFitting writes k
+      registers : is_bridge k ≡ false → AreOfDevice writes k
+
+    known : AreKnown (taken_without t.omitted t.b)
+    known = subst AreKnown t.before record { fits = written.fits; registers = written.registers }
+
+    pub fits_b : AreFitting writes t.b
+    fits_b = by t.omitted t.kind known
+      where
+        by : (omitted : Omitted) → HasKindFor omitted t.b → AreKnown (taken_without omitted t.b) → AreFitting writes t.b
+        by Nothing kind are u has here = are.fits u has here
+        by Channels kind are u has here =
+            let stripped = channels_stripped t.b kind b_image in
+            fits_before (channels_out t.b kind) t.b (without_channels t.b) b_image stripped u (are.registers stripped.after u has here) (are.fits u has here)
+        by Socket kind are u has here =
+            let stripped = socket_stripped t.b b_image kind in
+            fits_before socket_out t.b (without_socket t.b) b_image stripped u (are.registers stripped.after u has here) (are.fits u has here)
 
     moved_so : move f ≡ function_after f (map (put_write (command f.image)) writes)
     moved_so = all_listed f listed listing.slot (command f.image) (listing.own f pair.has) writes f refl
 
-    after : AreAfter f h (is_of f pair.has).image start (move f) (show h)
-    after = subst (λ x. AreAfter f h (is_of f pair.has).image start x (show h)) (sym moved_so)
-        (each_step f h (is_of f pair.has).image start f h writes
-        record { shown = start; f_moved = moved_itself f (is_of f pair.has).image; h_moved = moved_itself h start.image } written.fits)
+    after : AreAfter f t.b (is_of f pair.has).image start (move f) (show t.b)
+    after = subst (λ x. AreAfter f t.b (is_of f pair.has).image start x (show t.b)) (sym moved_so)
+        (each_step f t.b (is_of f pair.has).image start f t.b writes
+        record { shown = start; f_moved = moved_itself f (is_of f pair.has).image; h_moved = moved_itself t.b start.image } fits_b)
+
+    -- what is left out of b is left out of what is written
+    stays_without : show h ≡ taken_without t.omitted (show t.b)
+    stays_without = ap show t.before ∙ by t.omitted t.kind known
+      where
+        by : (omitted : Omitted) → HasKindFor omitted t.b → AreKnown (taken_without omitted t.b) → show (taken_without omitted t.b) ≡ taken_without omitted (show t.b)
+        by Nothing kind are = refl
+        by Channels kind are =
+            let stripped = channels_stripped t.b kind b_image in
+            channels_after t.b (show t.b) b_image kind after.h_moved (show (without_channels t.b))
+            (both_after (channels_out t.b kind) t.b (without_channels t.b) b_image stripped writes (λ u has here. (are.registers stripped.after u has here, are.fits u has here)))
+        by Socket kind are =
+            let stripped = socket_stripped t.b b_image kind in
+            socket_after t.b b_image kind (show t.b) (show (without_socket t.b))
+            (both_after socket_out t.b (without_socket t.b) b_image stripped writes (λ u has here. (are.registers stripped.after u has here, are.fits u has here)))
+
+  pub at_start : (f h : Function) → IsPair f h → IsWritten w s writes f h → IsTakenAlong w slots (alone_aside w s f) (alone_aside w s f) h
+  at_start f h pair written =
+      let a = alone_aside w s f in
+      taken_along w slots a a h (aside_is f pair.has) (moved_itself a (aside_is f pair.has).image) written.stirred pair.taken
 
   -- it moves
   pair_moves : (f h : Function) → IsPair f h → IsMoved f (move f)
   pair_moves f h pair = elim pair.either [
     | inl alone ↦ subst (IsMoved f) (sym (none_listed f listed listing.slot writes alone f refl)) (moved_itself f (is_of f pair.has).image)
-    | inr written ↦ (after f h pair written).f_moved
+    | inr written ↦ (after f h pair written (alone_aside w s f) (at_start f h pair written)).f_moved
   ]
 
   module _ (all : (x : Function) → Contains s x → IsImage x.image × IsMoved x (move x)) (f h : Function) (pair : IsPair f h) where
@@ -187,11 +236,11 @@ module _ (w : Words) (slots : List Slot) (s : System) (system : IsSystem s) (lis
 
     changed : IsWritten w s writes f h → IsTakenAs w slots later (show h)
     changed written =
-        let now = after f h pair written in
-        let whole = whole_along w slots (alone_aside w s f) later h (aside_is f pair.has) along.moved written.stirred written.whole pair.taken in
-        let same : show h ≡ whole.k = one_along (move f) h (show h) whole.k whole.along.before.image now.shown
-        (as_through (move f) later whole.k along.after whole.along.after) now.h_moved whole.along.moved in
-        subst (λ x. IsTakenAs w slots later x) (sym same) whole.taken
+        let t = taken_along w slots (alone_aside w s f) later h (aside_is f pair.has) along.moved written.stirred pair.taken in
+        let now = after f h pair written later t in
+        let same : show t.b ≡ t.c = one_along (move f) t.b (show t.b) t.c t.along.before.image now.shown
+        (as_through (move f) later t.c along.after t.along.after) now.h_moved t.along.moved in
+        subst (λ x. IsTakenAs w slots later x) (sym (stays_without f h pair written later t ∙ ap (taken_without t.omitted) same)) t.taken
 
     pub pair_after : IsTakenAs w slots later (show h)
     pair_after = elim pair.either [ inl alone ↦ left_alone alone | inr written ↦ changed written ]

@@ -7,19 +7,22 @@ use Rattle.std.proofs.lemmas.List.Elements.{All-contains, All-take}
 use Rattle.pci_spec.specs.Header.{command, primary_bus}
 use Rattle.pci_spec.specs.Slot.{Slot, same_slot}
 use Rattle.pci_spec.specs.Bus.{secondary, subordinate}
-use Rattle.pci_spec.specs.Machine.{Write}
+use Rattle.pci_spec.specs.Machine.{Write, after_writes, system_after, target_of}
 use Rattle.pci_spec.specs.System.{Function, IsFunction, IsSystem, System, function_of, is_bridge, system_of}
 use Rattle.pci_spec.specs.Text.{Block}
-use Rattle.pci_spec.proofs.BusRanges.{any_from}
-use Rattle.pci_spec.proofs.Members.{in_cons_cases, in_head, in_tail, in_nil}
+use Rattle.pci_spec.proofs.BusRanges.{any_from, any_gives}
+use Rattle.pci_spec.proofs.Members.{in_cons_cases, in_head, in_map_from, in_nil, in_tail}
 use Rattle.pci_spec.proofs.Nesting.{one_function}
 use Rattle.plan_spec.specs.Planning.Fitting.{FitsAt}
+use Rattle.plan_spec.proofs.Planning.Kept.{images_of}
+use Rattle.plan_spec.proofs.Planning.OwnMachine.{own_machine}
 use Rattle.plan_spec.proofs.Planning.Writes.{same_fields, same_number}
 use Rattle.settle_spec.specs.Lists.{Request}
 use Rattle.settle_laws.proofs.Told.Settling.{fixed_is_not_written}
+use Rattle.model_spec.specs.Bytes.{without_registers}
 use Rattle.model_spec.specs.Words.{Words}
 use Rattle.model_spec.specs.Asleep.{AreSlotsWhere}
-use Rattle.model_spec.specs.Taken.{IsAsleepBy, IsTakenAs}
+use Rattle.model_spec.specs.Taken.{AreFunctionsTakenAs, IsAsleepBy, IsTakenAs}
 use Rattle.model_spec.proofs.Kept.{slots_same}
 use Rattle.given_spec.specs.Words.{is_alone, unclaimed_aside}
 use Rattle.pci_spec.specs.Registers.{SECONDARY_BUS_RESET}
@@ -29,12 +32,14 @@ use Rattle.plan_spec.proofs.Planning.SameBytes.{bounds_same}
 use Rattle.std.proofs.lemmas.List.{get_or-set_other}
 use Rattle.pci_model_settle.specs.Unmoved.{has_stuck_window, is_among, is_below, is_bridge_unmoved, is_unmoved, unmoved_among}
 use Rattle.pci_model_settle.specs.Listed.{command_at, listed_write}
-use Rattle.model_settle_laws.specs.WordStops.{AreTakenWhole, IsSettledAsTaken, WordsTakeStops}
-use Rattle.model_settle_laws.proofs.GivenSparing.{sparing_fits}
+use Rattle.pci_model_settle.specs.OffDevices.{function_without, functions_without}
+use Rattle.model_settle_laws.specs.WordStops.{IsSettledAsTaken, MachinesShowStops, WordsTakeStops, printed_after}
+use Rattle.model_settle_laws.proofs.GivenSparing.{sparing_device_write, sparing_fits, sparing_write}
 use Rattle.model_settle_laws.proofs.ListedWrites.{put_write, slot_is}
+use Rattle.model_settle_laws.proofs.PrintedStops.{printed_fit, system_put}
 use Rattle.model_settle_laws.proofs.WordsAfter.{AreFitting, IsLeftAlone, IsListing, IsPair, IsWritten, alone_aside, aside_shows, each_aside, words_after}
 use Rattle.model_settle_laws.proofs.Along.{IsAs}
-use Rattle.plan_spec.proofs.Planning.Fit.{moved_itself}
+use Rattle.plan_spec.proofs.Planning.Fit.{moved_itself, moved_start}
 use Rattle.model_settle_laws.proofs.InterfacesAside.{asleep_aside}
 use Rattle.model_settle_laws.proofs.TakenAlong.{AreWindowsShown, first_along}
 
@@ -116,6 +121,12 @@ aside_windows w s f kind =
     (λ other. refl))
     (λ off. refl)
 
+-- a slot among some is one of them
+pub among_has : (slots : List Slot) (slot : Slot) → is_among slots slot ≡ true → Contains slots slot
+among_has slots slot is =
+    let found = any_gives (same_slot slot) slots is in
+    subst (λ x. Contains slots x) (sym (same_fields slot found.0 found.2)) found.1
+
 -- a member of the first so many is one of all
 in_take : (n : ℕ) (writes : List Write) (u : Write) → Contains (take n writes) u → Contains writes u
 in_take zero writes u has = absurd (in_nil u has)
@@ -125,8 +136,7 @@ in_take (suc n) (x ∷ writes) u has = elim (in_cons_cases x (take n writes) u h
   | inr more ↦ in_tail x writes u (in_take n writes u more)
 ]
 
-module _ (q : Request) (w : Words) (slots : List Slot) (dump probe : List Block) (t : System) (writes : List Write) (n : ℕ) (set_so : IsSettledAsTaken q w slots dump probe t writes)
-    (whole : AreTakenWhole w (system_of dump probe)) where
+module _ (q : Request) (w : Words) (slots : List Slot) (dump probe : List Block) (t : System) (writes : List Write) (n : ℕ) (set_so : IsSettledAsTaken q w slots dump probe t writes) where
   abbrev s : System
   s = system_of dump probe
 
@@ -136,17 +146,31 @@ module _ (q : Request) (w : Words) (slots : List Slot) (dump probe : List Block)
   abbrev firsts : List Write
   firsts = take n writes
 
-  fits : (h : Function) → Contains t h → AreFitting firsts h
-  fits h has u in_u here = All-contains (FitsAt t) firsts u (All-take (FitsAt t) n writes (sparing_fits q t writes set_so.asked set_so.ended)) in_u h has here
+  -- what is settled
+  abbrev rest : System
+  rest = functions_without set_so.left t
+
+  -- one that isn't left out is settled as it is
+  stays_in : (h : Function) → Contains t h → is_among set_so.left h.slot ≡ false → Contains rest h
+  stays_in h has other =
+      subst (λ x. Contains rest x) (ap (λ b. if b then record { slot = h.slot; image = without_registers h.image; probe = without_registers h.probe } else h) other)
+      (in_map_from (function_without set_so.left) t h has)
+
+  fits : (h : Function) → Contains rest h → AreFitting firsts h
+  fits h has u in_u here = All-contains (FitsAt rest) firsts u (All-take (FitsAt rest) n writes (sparing_fits q rest writes set_so.asked set_so.ended)) in_u h has here
 
   -- no write is one of a fixed function
-  left_alone : (f : Function) → Contains q.fixed f.slot → IsLeftAlone firsts f
+  pub left_alone : (f : Function) → Contains q.fixed f.slot → IsLeftAlone firsts f
   left_alone f has u in_u = false_from_ne_true (same_slot f.slot u.slot) (λ here.
       let same = same_fields f.slot u.slot here in
-      both_ways (list_any (same_slot u.slot) q.fixed) (fixed_is_not_written q t writes u set_so.ended (in_take n writes u in_u))
+      both_ways (list_any (same_slot u.slot) q.fixed) (fixed_is_not_written q rest writes u set_so.ended (in_take n writes u in_u))
       (any_from (same_slot u.slot) q.fixed f.slot has (ap (same_slot u.slot) same ∙ slot_itself u.slot)))
 
-  module _ (f h : Function) (in_f : Contains s f) (in_h : Contains t h) (moves : is_unmoved w asleep t f h ≡ false) where
+  -- what is left out is fixed
+  pub left_fixed : (slot : Slot) → is_among set_so.left slot ≡ true → Contains q.fixed slot
+  left_fixed slot is = set_so.fixed slot (set_so.are_left slot (among_has set_so.left slot is))
+
+  module _ (f h : Function) (in_f : Contains s f) (in_h : Contains rest h) (moves : is_unmoved w asleep t f h ≡ false) where
     parts : ((is_among asleep f.slot || is_below asleep t f.slot.bus) ≡ false) × (is_bridge_unmoved w f h ≡ false)
     parts = or_parts (is_among asleep f.slot || is_below asleep t f.slot.bus) (is_bridge_unmoved w f h) moves
 
@@ -207,11 +231,8 @@ module _ (q : Request) (w : Words) (slots : List Slot) (dump probe : List Block)
     written : IsWritten w s firsts f h
     written = record {
       stirred = record { awake = awake; shown = shown; leads = λ bridge. leads (ap (λ n. n == 1) (sym as_it.kind) ∙ bridge); numbers = numbers };
-      whole = record {
-        channels = (λ i. w.ide && (as_it.kind i == 0 && as_it.class i == 0x0101)) ∙ whole.channels f in_f;
-        socket = ap (λ n. w.cardbus && n == 2) as_it.kind ∙ whole.sockets f in_f;
-      };
       fits = fits h in_h;
+      registers = λ device u in_u here. sparing_device_write q rest writes set_so.asked set_so.ended h in_h device u (in_take n writes u in_u) here;
     }
 
   -- each function is fixed or goes along
@@ -229,7 +250,10 @@ module _ (q : Request) (w : Words) (slots : List Slot) (dump probe : List Block)
           slot = first;
           either = elim (cases_Bool (is_unmoved w asleep t f h)) [
             | inl stays ↦ inl (left_alone f (head_fixed q w asleep t q.fixed f h r u fixed stays))
-            | inr moves ↦ inr (written f h (in_s f (in_head f r)) (in_t h (in_head h u)) moves)
+            | inr moves ↦ elim (cases_Bool (is_among set_so.left h.slot)) [
+              | inl left ↦ inl (left_alone f (subst (λ x. Contains q.fixed x) first (left_fixed h.slot left)))
+              | inr other ↦ inr (written f h (in_s f (in_head f r)) (stays_in h (in_t h (in_head h u)) other) moves)
+            ]
           ];
         },
         pairs r u (λ g has. in_s g (in_tail f r g has)) (λ g has. in_t g (in_tail h u g has)) more rest (rest_fixed q w asleep t q.fixed f h r u fixed),
@@ -240,8 +264,27 @@ module _ (q : Request) (w : Words) (slots : List Slot) (dump probe : List Block)
       (subst (λ x. AllZip (IsTakenAs w slots) x t) (each_aside w s) set_so.taken)
       (λ slot has. set_so.fixed slot (subst (λ (ss : List Slot). Contains ss slot) (sym set_so.stay.are) has))
 
--- The law.
+  -- the printed writes fit the dump
+  printed_fits : All (FitsAt s) (map (listed_write dump) firsts)
+  printed_fits = printed_fit w slots s set_so.system (listed_write dump) firsts (listing dump probe set_so.system)
+      (λ u has. sparing_write q rest writes set_so.asked set_so.ended u (in_take n writes u has)) t all_pairs
+
+  -- so what they put in is what functions show after them
+  pub shows : printed_after dump probe firsts ≡ system_after s (map (listed_write dump) firsts)
+  shows = system_put dump probe (map (listed_write dump) firsts) set_so.system printed_fits
+
+  -- and a machine
+  pub machine_shows : after_writes (map target_of s) (map (listed_write dump) firsts) ≡ map target_of (printed_after dump probe firsts)
+  machine_shows =
+      let images = images_of s set_so.system in
+      own_machine s images s (map (listed_write dump) firsts) (moved_start s images) printed_fits ∙ ap (map target_of) (sym shows)
+
+-- The laws.
+pub machines_show_stops : MachinesShowStops
+machines_show_stops q w slots dump probe t writes n set_so = machine_shows q w slots dump probe t writes n set_so
+
 pub words_take_stops : WordsTakeStops
-words_take_stops q w slots dump probe t writes n set_so whole =
-    words_after w slots (system_of dump probe) set_so.system (listed_write dump) (take n writes) (listing dump probe set_so.system) t
-    (all_pairs q w slots dump probe t writes n set_so whole)
+words_take_stops q w slots dump probe t writes n set_so =
+    subst (λ x. AreFunctionsTakenAs w slots x (system_after t (take n writes))) (sym (shows q w slots dump probe t writes n set_so))
+    (words_after w slots (system_of dump probe) set_so.system (listed_write dump) (take n writes) (listing dump probe set_so.system) t
+    (all_pairs q w slots dump probe t writes n set_so))

@@ -2,5 +2,6 @@
 //! What they speak of is in `given_spec`, `settle_spec` and `model_spec`.
 #![tactic(auto)]
 
+pub mod left_out_laws;
 pub mod stop_laws;
 pub mod word_laws;
