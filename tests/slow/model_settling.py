@@ -2,21 +2,30 @@
 
 - `settled_by_words(functions, asked)`: what is answered of an `Asked`, as a `Settled`.
 - `unmoved_slots(functions, names)`: the slots of functions that stay as they are.
-- `told_lines(functions, asked)`: the lines with which it is settled.
+- `left_out_slots(functions, names)`: those of them that are devices and are left out of what is settled.
+- `told_lines(functions, asked, left)`: the lines with which it is settled, each as a `Line` of off_devices.py.
 
 What sleeps, or is behind what sleeps, stays as it is. So does a bridge in reset, one without bus numbers, and one of which
-`windows` takes a window as it is shown. These functions are fixed. Legacy and palette parts of bridges are `held` lines of
-their bridges, whether or not Command enables them. So the functions as the words take them are settled. Of Command bits 0
-and 1 are written alone. At last `faults` judges the result by the same words: what it finds is the answer.
+`windows` takes a window as it is shown. These functions are fixed.
+
+Of a device among them that is off, in the dump too, nothing is looked at but what it shows. That is told as `command`
+lines, but for what is at address 0. Where the lines would be too many, no device is left out.
+
+Legacy and palette parts of bridges are `held` lines of their bridges, whether or not Command enables them. So the functions
+as the words take them are settled. Of Command bits 0 and 1 are written alone. At last `faults` judges the result by the same
+words: what it finds is the answer.
 """
 
+import copy
 from collections import namedtuple
 
 from early import has_window_fault
 from judge import early_faults, faults
-from model import COMMAND, IO, MEM, WINDOWS, bit, put_number
+from model import COMMAND, IO, MEM, WINDOWS, bit, put_number, slot_text
+from off_devices import Line, device_lines, left_out, without_registers
 from planner import Fault, Plan, bridges_above
 from regions import Given, ToldRange, legacy_ranges, palette_ranges
+from settler import named
 from spares import NOTHING, has_hot_plug_slot, settle_sparing
 from told_settling import telling
 from words import legacy_parts, names_of, palette_parts, sleepers, taken
@@ -27,7 +36,7 @@ Asked = namedtuple('Asked', 'request words wanted told', defaults=(NOTHING, ()))
 # what is answered: a plan for the functions as they are or a `Fault`, and the denied spares
 Settled = namedtuple('Settled', 'plan denied')
 
-# more lines than these, those of a text and those of claims, are refused
+# more lines than these, those of a text, of devices and of claims, are refused
 LINES_MAX = 4096
 TOO_MANY = '77 TooManyRanges'
 
@@ -52,23 +61,37 @@ def unmoved_slots(functions, names):
             if is_unmoved(f, now, names, asleep, bridges_above(functions_taken, f.slot[0]))}
 
 
-# ---- claims
+def left_out_slots(functions, names):
+    """The slots of devices that are left out of what is settled."""
+    return left_out(functions, taken(functions, names), unmoved_slots(functions, names))
+
+
+# ---- lines
 
 def claims(functions, names):
-    """The ranges of the legacy and palette parts of bridges, as (slot, space, range)."""
+    """The `held` lines of the legacy and palette parts of bridges."""
     found = []
     for slot, is_wide in legacy_parts(functions, names).items():
         found += [(slot, space, span) for space in (IO, MEM) for span in legacy_ranges(is_wide, space)]
     for slot, is_wide in palette_parts(functions, names).items():
         found += [(slot, IO, span) for span in palette_ranges(is_wide)]
-    return found
+    return [Line(ToldRange(0, slot, space, span, 'held')) for slot, space, span in found]
 
 
-def told_lines(functions, asked):
-    """The lines of the text, and behind them a `held` one for each range of a claim, by slot."""
-    made = [ToldRange(len(asked.told) + n, slot, space, span, 'held')
-            for n, (slot, space, span) in enumerate(claims(functions, names_of(asked.words)), 1)]
-    return sorted(list(asked.told) + made, key=lambda line: (line.slot, line.n))
+def with_number(told, n):
+    """A line of a text as line n."""
+    new = copy.copy(told)
+    new.n = n
+    return new
+
+
+def told_lines(functions, asked, left):
+    """The lines by slot, and numbered so: those of the text, of devices at the slots `left`, and of bridges, in this order."""
+    names = names_of(asked.words)
+    devices = device_lines(taken(functions, names), left)
+    lines = [Line(told, number=told.n) for told in asked.told] + devices + claims(functions, names)
+    ordered = sorted(lines, key=lambda line: line.told.slot)
+    return [line._replace(told=with_number(line.told, n)) for n, line in enumerate(ordered, 1)]
 
 
 # ---- the answer
@@ -105,16 +128,32 @@ def with_slots(functions, wanted):
     return wanted._replace(slots=[f.slot for f in functions if f.is_bridge and has_hot_plug_slot(f.image)])
 
 
+def users_fault(fault, lines):
+    """A fault, as the user is told of it: a line has the number that it has in the text, or is a register of its device."""
+    if not fault.text.startswith('75 '):
+        return fault
+    line = lines[int(fault.text.split('+')[1]) - 1]
+    if line.register is not None:
+        return Fault('74 Fixed ' + named(line.told.slot, line.register), None, '74 for a line')
+    return fault._replace(text='75 Told %s +%d' % (slot_text(line.told.slot), line.number))
+
+
 def settled_taken(functions, asked):
     """What is answered where no fault was found early, before the result is judged."""
     names = names_of(asked.words)
-    functions_taken, lines = taken(functions, names), told_lines(functions, asked)
+    left = left_out_slots(functions, names)
+    lines = told_lines(functions, asked, left)
+    if len(lines) > LINES_MAX:
+        left = set()
+        lines = told_lines(functions, asked, left)
+    functions_taken = without_registers(taken(functions, names), left)
     request = asked.request._replace(fixed=sorted(set(asked.request.fixed) | unmoved_slots(functions, names)))
     if len(lines) > LINES_MAX:
         return Settled(Fault(TOO_MANY, None, '77'), [])
-    sparing = settle_sparing(functions_taken, request, with_slots(functions, asked.wanted), telling(lines))
+    sparing = settle_sparing(functions_taken, request, with_slots(functions, asked.wanted),
+                             telling([line.told for line in lines]))
     if isinstance(sparing.plan, Fault):
-        return Settled(sparing.plan, [])
+        return Settled(users_fault(sparing.plan, lines), [])
     return Settled(plan_as_listed(functions, sparing.plan), sparing.denied)
 
 

@@ -68,8 +68,8 @@ def decorate(rule, functions):
             decorate_bridge(rule, functions, f)
         else:
             decorate_device(rule, f)
-        # what was never placed seldom sleeps: it can't stay as it is
-        if rule.one_in(12 if f.is_bridge else 6) and (f.command & 3 or rule.one_in(6)):
+        # a bridge that was never placed seldom sleeps: it can't stay as it is
+        if rule.one_in(12 if f.is_bridge else 6) and (f.command & 3 or not f.is_bridge or rule.one_in(6)):
             put_to_sleep(f)
 
 

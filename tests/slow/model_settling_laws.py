@@ -2,7 +2,8 @@
 
 Boards are those of model_settling_boards.py. What is settled has to be sound by the slow judge with the same words, at each
 stop from where it is safe on. The machine that takes the writes is the functions as they are. What sleeps, and what a
-sleeping bridge is above, is never written. Nothing is placed on a legacy or palette part.
+sleeping bridge is above, is never written. Nothing is placed on a legacy or palette part. Laws of what is left out of
+settling are in model_settling_waking.py.
 
 - `compare(seed, program, folder)`: what doesn't hold on the board of a seed, or None, and the sorts of boards. A program is
   asked for the same writes, the same dump and denied spares.
@@ -14,9 +15,10 @@ from also import told_text
 from early import has_window_fault
 from growth_rows import told as written
 from judge import early_faults, faults, judging, system_of
-from model import COMMAND, IO, MEM, WINDOWS, bit, capabilities, dump_text, probe_text, slot_text
-from model_settling import settled_by_words, unmoved_slots
+from model import COMMAND, IO, MEM, WINDOWS, bit, dump_text, probe_text, slot_text
+from model_settling import left_out_slots, settled_by_words, unmoved_slots
 from model_settling_boards import worded_board
+from model_settling_waking import beside_fault, kept_off_fault, left_out_devices, reach_fault, waking_fault
 from moving import answer, request_words, roots_words
 from planner import Fault
 from program import put_files, run
@@ -30,8 +32,8 @@ from told_settling_laws import changeable_bits
 from words import isa_bridges, legacy_parts, names_of, palette_parts, sleepers, taken
 
 SORTS = ('settled', 'early', '70', '76', '72', '74', '75', 'judged', 'nothing is written', 'from a sound start',
-         'from an unsound start', 'a sleeper', 'a sleeping bridge', 'in reset', 'unnumbered', 'a stuck window',
-         'a legacy part of 10 bits', 'a legacy part of 16 bits', 'a palette part', 'a cut window',
+         'from an unsound start', 'a sleeper', 'a sleeping bridge', 'left out', 'in reset', 'unnumbered',
+         'a stuck window', 'a legacy part of 10 bits', 'a legacy part of 16 bits', 'a palette part', 'a cut window',
          'takes what nobody claims', 'CardBus', 'all anew', 'something fixed', 'lines', 'spares', 'a spare is denied',
          'refused though sound')
 
@@ -105,8 +107,8 @@ def writes_fault(case):
 
 
 def taken_fault(case):
-    """After each write the words take the functions as what was settled is then, and the same ones are unmoved."""
-    unmoved = unmoved_slots(case.functions, case.names)
+    """After each write the words take the functions as what was settled is then; the same ones are unmoved and left out."""
+    unmoved, left = unmoved_slots(case.functions, case.names), left_out_slots(case.functions, case.names)
     settled = taken(case.functions, case.names)
     for done, made in enumerate(case.plan.writes, 1):
         slot, offset, width, value = made
@@ -120,6 +122,8 @@ def taken_fault(case):
                 return 'after %d writes %s is taken otherwise' % (done, slot_text(f.slot))
         if unmoved_slots(listed, case.names) != unmoved:
             return 'after %d writes others are unmoved' % done
+        if left_out_slots(listed, case.names) != left:
+            return 'after %d writes others are left out' % done
     return None
 
 
@@ -187,36 +191,6 @@ def claims_fault(case):
     return None
 
 
-# ---- waking
-
-def woken(functions, asleep):
-    """The functions once those that sleep are awake."""
-    found = [f.copy() for f in functions]
-    for f in found:
-        for place in capabilities(f.image) if f.slot in asleep else []:
-            if f.image[place] == 1:
-                f.image[place + 4] &= 0xFC
-    return found
-
-
-def waking_fault(case):
-    """Once all wakes nothing clashes with what was written, but what is told and claims."""
-    asleep = sleepers(case.functions, case.names)
-    awake = woken(case.plan.functions, asleep)
-    if not asleep or early_faults(awake, None, case.given, case.words):
-        return None
-    unmoved = unmoved_slots(case.functions, case.names)
-    for fault in judging(system_of(awake, case.given, case.words)):
-        if fault.number not in (61, 62):
-            continue
-        both = fault.region, fault.beside
-        if any(one.kind in ('legacy', 'snoop', 'held', 'told') for one in both):
-            continue
-        if not all(one.slot in unmoved for one in both):
-            return 'once all wakes: ' + fault.line
-    return None
-
-
 # ---- without words
 
 def plain_fault(functions, asked):
@@ -255,6 +229,7 @@ def sorts_of(case):
     asleep = sleepers(case.functions, case.names)
     tests = {
         'a sleeper': asleep,
+        'left out': left_out_devices(case),
         'a sleeping bridge': [b for b in case.bridges() if b.slot in asleep],
         'in reset': [b for b in case.bridges() if bit(b.bridge_control, 6)],
         'unnumbered': [f for f in case.functions if f.is_bridge and not f.secondary],
@@ -272,7 +247,8 @@ def sorts_of(case):
 
 # ---- a board
 
-LAWS = (stops_fault, writes_fault, taken_fault, again_fault, claims_fault, waking_fault)
+LAWS = (stops_fault, writes_fault, taken_fault, again_fault, claims_fault, kept_off_fault, waking_fault, beside_fault,
+        reach_fault)
 
 
 def law_fault(case):
