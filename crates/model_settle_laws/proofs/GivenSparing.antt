@@ -19,7 +19,7 @@ use Rattle.settle_laws.specs.ToldSoundLaws.{CanAskTold, CanSettleTold, IsToldOf}
 use Rattle.settle_laws.proofs.Keeping.Stopping.{writes_fit, writes_settle}
 use Rattle.settle_laws.proofs.Told.Ended.{told_end}
 use Rattle.settle_laws.proofs.Told.Settling.{beside_wishes, placing_admitted, settled_can, sparing_can}
-use Rattle.model_settle_laws.specs.StopLaws.{AreToldTo, SettlingSparingCanStop}
+use Rattle.model_settle_laws.specs.StopLaws.{AreToldTo, HasRange, SettlingSparingCanStop}
 use Rattle.model_settle_laws.proofs.DeviceWrites.{IsDeviceWrite, IsSettledWrite, device_write, settled_write}
 use Rattle.model_settle_laws.proofs.GivenStops.{given_stops}
 
@@ -67,7 +67,7 @@ module _ (q : Request) (s : System) (writes : List Write) (may : CanAskTold q s)
 
   module _ (told : Told) (given : Given) (among : AreToldTo q told) where
     among_placing : AreToldTo p told
-    among_placing r has = subst (λ (t : Told). Contains t.ranges r) (sym same_told) (among r has)
+    among_placing r has = subst (λ (t : Told). HasRange t.ranges r) (sym same_told) (among r has)
 
     stops : (n : ℕ) → IsSound told given q.roots (system_after s writes) → (length (closings p s j s) ≤ n) ⊎ IsSound told given q.roots s → IsSound told given q.roots (system_after s (take n writes))
     stops n end from =

@@ -48,7 +48,7 @@ use Rattle.settle_laws.proofs.Stages.{AreStages, IsHeldBy}
 use Rattle.settle_laws.proofs.Told.Held.{held_by}
 use Rattle.settle_laws.proofs.Told.Lines.{IsAtSlot, at_slot, named_line, told_then}
 use Rattle.settle_laws.proofs.Told.On.{enabled_by, enabled_from, awake, always_left, command_left}
-use Rattle.model_settle_laws.specs.StopLaws.{AreToldTo}
+use Rattle.model_settle_laws.specs.StopLaws.{AreToldTo, HasRange}
 use Rattle.model_settle_laws.proofs.GivenLeft.{IsSafeWith, StillPasses, left_safe, prefetchable_by}
 
 -- a range that settling was told of, as a line tells it
@@ -150,11 +150,14 @@ module _ (q : Request) (s : System) (k : Kept) (all : CanSettleTold q s k) where
           → (is_space_on (closed f) space ≡ true → IsHeldBy b (closed b) (final b) prefetchable space a) → StillPasses h w space prefetchable a b
 
     module _ (passing : ArePassing) (r : ToldRange) (is_told : Contains told.ranges r) (there : IsAtSlot s r.slot) (b : Function) (a : ℕ) (above : Contains (bridges_above s r.slot.bus) b) (in_range : (r.first ≤ a) × (a ≤ r.last)) where
-      line : IsLineOf q.told r
-      line = line_of q.told r (among r is_told)
+      same : HasRange q.told.ranges r
+      same = among r is_told
+
+      line : IsLineOf q.told (record r { name = same.name })
+      line = line_of q.told (record r { name = same.name }) same.has
 
       abbrev x : ToldRegion
-      x = record { register = line.register; told = r }
+      x = record { register = line.register; told = record r { name = same.name } }
 
       at : IsBridgeAbove s r.slot.bus b
       at = above_to s r.slot.bus b above
@@ -174,8 +177,9 @@ module _ (q : Request) (s : System) (k : Kept) (all : CanSettleTold q s k) where
         let named = needs.named in
         let claims = needs.claims in
         let is_told = named_told told region r named in
-        let line = line_of q.told r (among r is_told) in
-        let there = at_slot q s all.told (named_region r.slot line.register) r line.named needs.not_held in
+        let same = among r is_told in
+        let line = line_of q.told (record r { name = same.name }) same.has in
+        let there = at_slot q s all.told (named_region r.slot line.register) (record r { name = same.name }) line.named needs.not_held in
         subst (λ space. StillPasses h w space r.prefetchable at.address b) claims.holds.0
         (by_mark passing r is_told there b at.address (subst (λ (v : Slot). Contains (bridges_above s v.bus) b) (sym named.slot) above) (claims.holds.1, claims.holds.2) r.mark refl needs.not_held claims.on)
 
@@ -246,6 +250,10 @@ module _ (q : Request) (s : System) (k : Kept) (all : CanSettleTold q s k) where
 
     -- ---- what is told of a stop
 
+    -- the range that settling was told of
+    abbrev same_as : (r : ToldRange) → Contains told.ranges r → ToldRange
+    same_as r has = record r { name = (among r has).name }
+
     told_at : (n : ℕ) → IsToldOf q (system_after s (take n (settle_writes q s k)))
     told_at n =
         let p = take n (settle_writes q s k) in
@@ -273,6 +281,6 @@ module _ (q : Request) (s : System) (k : Kept) (all : CanSettleTold q s k) where
           nested = keeps.nested;
           profile = keeps.profile;
           chains = keeps.chains;
-          listed = λ slot none. told_now.listed slot record { r = none.r; is_told = among none.r none.is_told; not_held = none.not_held; of_slot = none.of_slot; not_listed = none.not_listed };
-          led_to = λ slot orphan. told_now.led_to slot record { r = orphan.r; is_told = among orphan.r orphan.is_told; held = orphan.held; of_slot = orphan.of_slot; not_led_to = orphan.not_led_to };
+          listed = λ slot none. told_now.listed slot record { r = same_as none.r none.is_told; is_told = (among none.r none.is_told).has; not_held = none.not_held; of_slot = none.of_slot; not_listed = none.not_listed };
+          led_to = λ slot orphan. told_now.led_to slot record { r = same_as orphan.r orphan.is_told; is_told = (among orphan.r orphan.is_told).has; held = orphan.held; of_slot = orphan.of_slot; not_led_to = orphan.not_led_to };
         }

@@ -17,9 +17,14 @@ use Rattle.settle_spec.specs.Sparing.{settle_sparing}
 use Rattle.settle_laws.specs.SparingLaws.{sparing_closings}
 use Rattle.settle_laws.specs.ToldSoundLaws.{CanSettleTold, CanAskTold}
 
--- Settling was told of each of these ranges. They may stand in other lines, and any functions may be asleep.
+-- Some of these ranges is the same, but for its name.
+pub record HasRange (ranges : List ToldRange) (r : ToldRange) : Type 0 where
+  pub name : List ℕ
+  pub has : Contains ranges (record r { name = name })
+
+-- Settling was told of each of these ranges. They may stand in other lines and with other names, and any functions may be asleep.
 abbrev pub AreToldTo : Request → Told → Type 0
-AreToldTo q told = (r : ToldRange) → Contains told.ranges r → Contains q.told.ranges r
+AreToldTo q told = (r : ToldRange) → Contains told.ranges r → HasRange q.told.ranges r
 
 -- Whatever is given: where the settled system is sound with it, the writes can stop anywhere once the closing ones are made,
 -- and from a start that is sound with it anywhere at all.
