@@ -1,1 +1,1 @@
-mod Spared
+pub mod Spared

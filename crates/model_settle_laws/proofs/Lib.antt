@@ -12,13 +12,13 @@ mod InterfacesAside
 mod KeptRegisters
 mod LeavingOut
 mod LeftOut
-mod LeftOutBlocks
+pub mod LeftOutBlocks
 mod ListedWrites
 mod OwnFaults
 mod PrintedStops
 mod SetAside
 mod SocketsAside
-mod SoundStops
+pub mod SoundStops
 mod Stripped
 mod TakenAlong
 mod TakenOnce

@@ -1,0 +1,3 @@
+mod Done
+mod ToldAmong
+mod Stops
