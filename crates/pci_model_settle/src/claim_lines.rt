@@ -410,6 +410,7 @@ pub fn lines_with_claims<A: Allocator + Copy>(
     requires palette { AreBySlot (map legacy_value palette.now) }
     ensures kept { IfOk result (λ k. k ≡ kept_lines (map line_value lines.now)
         (claim_lines (map legacy_value legacy.now) (map legacy_value palette.now))) }
+    ensures can_be_told { IfOk result (λ k. IsTold k.told) }
     // both ways: lines that are no more are refused for want of memory alone
     ensures fault { (result ≡ Err (Refused.Fault (record {}))) ↔ 4096 < length (lines_with (map line_value lines.now)
         (claim_lines (map legacy_value legacy.now) (map legacy_value palette.now))) }

@@ -1,6 +1,6 @@
 -- What is left in a dump after writes, and what is answered where something is settled by words.
 use Rattle.std.proofs.Common.{◌≡◌, ◌==◌, ◌||◌, ◌+◌, ◌*◌, ◌/◌, ◌%◌, ℕ, zero, suc, List, [], ◌∷◌, ◌++◌, Bool, true, false, Option, None, Some, Result, ◌<◌, length, map, take, drop, get_or, inl, inr, refl, sym, ap, subst, ◌∙◌, arith, eqb-true, if◌then◌else◌, IsTrue}
-use Rattle.std.specs.Prelude.{◌↔◌, ◌≢◌, ◌≤◌, IfSome, is_some}
+use Rattle.std.specs.Prelude.{◌↔◌, ◌≢◌, IfSome, is_some}
 use Rattle.std.proofs.lemmas.Bool.{le-leb, lt-leb}
 use Rattle.std.specs.Result.{IfOk}
 use Rattle.std.specs.List.{All, Contains}
@@ -27,7 +27,7 @@ use Rattle.pci_model_settle.specs.ClaimLines.{AreBySlot, Kept, Line, kept_lines}
 use Rattle.pci_model_settle.specs.Listed.{blocks_after, command_at, listed_write}
 use Rattle.pci_model_settle.specs.OffDevices.{blocks_without, device_lines, left_out}
 use Rattle.pci_model_settle.proofs.HeldLines.{lines_length}
-use Rattle.given_spec.specs.Told.{ToldRange}
+use Rattle.given_spec.specs.Told.{IsTold, ToldRange}
 use Rattle.pci_model_settle.proofs.BridgesBySlot.{legacy_by_slot, palette_by_slot}
 use Rattle.pci_plan.specs.Writes.{is_two_or_four, write_value}
 use Rattle.pci_plan.specs.declared.write.Write.{Write as CodeWrite}
@@ -293,11 +293,11 @@ module _ (w : Words) (r : SettleRequest) (printed : Printed) (fixed left : List 
       (subst (λ (bs : List Block). Comes kept bs (blocks_without some taken_probe) (answer_of reply)) is (subst (λ (bs : List Block). Comes kept after bs (answer_of reply)) is_probe comes)))) told
 
   pub settled_without : {A E : Type 0} (devices : List Line) (kept : Kept) (after after_probe : List Block) (res : Result (Reply A) E) → devices ≡ device_lines left (system_of taken taken_probe)
-      → kept ≡ kept_with w r devices dump → length kept.told ≤ 4096 → after ≡ blocks_without left taken → after_probe ≡ blocks_without left taken_probe
+      → kept ≡ kept_with w r devices dump → IsTold kept.told → after ≡ blocks_without left taken → after_probe ≡ blocks_without left taken_probe
       → IfOk res (λ reply. Comes kept after after_probe (answer_of reply)) → IfOk res (λ reply. IsSettlingOf w r printed fixed left as_taken (answer_of reply))
-  settled_without devices kept after after_probe res shown same few is is_probe told =
+  settled_without devices kept after after_probe res shown same lawful is is_probe told =
       let all : kept ≡ kept_by w r left as_taken = same ∙ ap (λ (ls : List Line). kept_with w r ls dump) shown in
-      let fits : fit ≡ true = sym (ap can_tell all) ∙ le-leb (length kept.told) 4096 few in
+      let fits : fit ≡ true = sym (ap can_tell all) ∙ le-leb (length kept.told) 4096 lawful.room in
       comes_to left kept after after_probe res (all_fit fit left fits) all is is_probe told
 
   -- where none is

@@ -1,11 +1,11 @@
 -- What the program answers where two texts are to be settled as a user's words take their functions.
-use Rattle.std.specs.Prelude.{◌≡◌, ◌≢◌, ◌⊎◌, ◌↔◌, ◌<◌, ◌≤◌, ℕ, nat_le, Bool, if◌then◌else◌, List, [], ◌∷◌, ◌++◌, map, length, codes, Option, None, Some}
+use Rattle.std.specs.Prelude.{◌≡◌, ◌≢◌, ◌⊎◌, ◌↔◌, ◌<◌, ℕ, nat_le, Bool, if◌then◌else◌, List, [], ◌∷◌, ◌++◌, map, length, codes, Option, None, Some}
 use Rattle.pci_spec.specs.Slot.{Slot}
 use Rattle.pci_spec.specs.Text.{Block, slots_of}
 use Rattle.pci_spec.specs.System.{system_of}
 use Rattle.pci_spec.specs.Machine.{Write}
 use Rattle.given_spec.specs.Given.{TakingBridge, nothing_given}
-use Rattle.given_spec.specs.Told.{ToldRange}
+use Rattle.given_spec.specs.Told.{IsTold, ToldRange}
 use Rattle.given_spec.specs.ToldClaims.{Told}
 use Rattle.given_spec.specs.ToldFault.{Fault}
 use Rattle.given_spec.specs.ToldFaultLines.{AreAllFaults}
@@ -173,12 +173,11 @@ abbrev pub IsSettlingKept : SettleRequest → Kept → SettleAsked → TakenText
 IsSettlingKept r kept asked t answer =
     IsSettledTaken r asked t answer ⊎ IsNotSettledTaken kept asked t answer
 
--- The same where a text can tell of so many ranges.
+-- The same where a text can tell of these ranges.
 abbrev pub IsSettlingAdmitted :
     SettleRequest → Kept → SettleAsked → TakenTexts → Answer → Type 0
 IsSettlingAdmitted r kept asked t answer =
-    IsTooMany kept answer
-    ⊎ ((length kept.told ≤ 4096) × IsSettlingKept r kept asked t answer)
+    IsTooMany kept answer ⊎ (IsTold kept.told × IsSettlingKept r kept asked t answer)
 
 -- and of any two
 abbrev pub IsSettlingAny : SettleRequest → Kept → SettleAsked → TakenTexts → Answer → Type 0

@@ -1,5 +1,5 @@
 //! What `settle` answers of a dump and its probe as a user's words take their functions.
-ghost use Rattle.std.specs.Prelude.{◌≡◌, ◌<◌, ◌≤◌, ◌++◌, [], List, length, map, Err, IfOk, IsTrue};
+ghost use Rattle.std.specs.Prelude.{◌≡◌, ◌<◌, ◌++◌, [], List, length, map, Err, IfOk, IsTrue};
 ghost use Rattle.pci_base.specs.declared.memory.Refused.TheVariants as RefusedValue;
 ghost use Rattle.std.specs.List.{All};
 ghost use Rattle.pci_spec.specs.Slot.{Slot as SlotValue};
@@ -266,7 +266,7 @@ fn kept_beside<A: Allocator + Copy>(
     requires devices { AreToldInOrder devices.now }
     ensures kept { IfOk result (λ kept. kept
         ≡ kept_with asked.now.words asked.now.request.now (map line_value devices.now) dump.now) }
-    ensures few { IfOk result (λ kept. length kept.told ≤ 4096) }
+    ensures told { IfOk result (λ kept. IsTold kept.told) }
     ensures many { result ≡ Err (RefusedValue.Fault (record {})) → 4096
         < length (kept_with asked.now.words asked.now.request.now (map line_value devices.now) dump.now).told }
 {
@@ -312,7 +312,7 @@ fn settle_off<A: Allocator + Copy>(
     kept: &KeptLines<A>,
     asked: &Asked<'_>,
 ) -> Result<Reply<A>, OutOfMemory>
-    requires { length kept.now.told ≤ 4096 }
+    requires { IsTold kept.now.told }
     ensures { IfOk result (λ reply. IsSettlingAny asked.now.request.now kept.now
         (asked_with asked.now.fixed.now kept.now.told asked.now.request.now asked.now.printed
         texts.now.dump.now) record {

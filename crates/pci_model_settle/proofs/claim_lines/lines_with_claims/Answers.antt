@@ -3,7 +3,7 @@ use Rattle.std.proofs.lemmas.List.{length-map}
 use Rattle.pci_base.specs.declared.memory.Refused.TheVariants as refusals
 use Rattle.given_spec.specs.Told.{IsTold}
 use Rattle.pci_claims.specs.Values.{legacy_value}
-use Rattle.pci_model_settle.specs.ClaimLines.{claim_lines, lines_with}
+use Rattle.pci_model_settle.specs.ClaimLines.{Kept, claim_lines, lines_with}
 use Rattle.pci_model_settle.specs.LineValues.{line_value}
 use Rattle.pci_model_settle.proofs.HeldLines.{lines_told, memory_is_other, not_refused, not_too_many, too_many}
 use Rattle.pci_model_settle.proofs.MergedLines.{kept_are, ranges_are, ranges_of_lines}
@@ -46,6 +46,17 @@ pub returns-in-Ok-kept-clause-kept : goal.returns-in-Ok-kept-clause-kept
 returns-in-Ok-kept-clause-kept g c =
     c.in-Ok-kept.ensures
     ∙ kept_are (map line_value c.args.lines.now) (claim_lines (map legacy_value c.args.legacy.now) (map legacy_value c.args.palette.now)) c.deref.result.now (ap (map line_value) c.deref.ensures.value ∙ c.in-Ok.ensures)
+
+pub returns-in-Ok-kept-clause-can_be_told : goal.returns-in-Ok-kept-clause-can_be_told
+returns-in-Ok-kept-clause-can_be_told g c =
+    let lines = c.args.lines.now in
+    let legacy = map legacy_value c.args.legacy.now in
+    let palette = map legacy_value c.args.palette.now in
+    let claims = claim_lines legacy palette in
+    let few : length lines ≤ 4096 = let size = length-map lines (λ l. (line_value l).range) in let room = c.requires.told.room in omega (arith, size, room) in
+    subst (λ (k : Kept). IsTold k.told) (sym (c.in-Ok-kept.ensures ∙ kept_are (map line_value lines) claims c.deref.result.now (ap (map line_value) c.deref.ensures.value ∙ c.in-Ok.ensures)))
+    (lines_told (map line_value lines) legacy palette (subst IsTold (ranges_of_lines lines) c.requires.told) c.requires.legacy c.requires.palette
+    (not_too_many (map line_value lines) claims (length lines) c.is_room.result (sym (length-map lines line_value)) few c.is_room.ensures c.if-not-is_room.false))
 
 pub returns-clause-fault : goal.returns-clause-fault
 returns-clause-fault g c =

@@ -1,9 +1,7 @@
 use Rattle.std.proofs.Common.{List, ℕ, map, refl, sym, ◌∙◌, ap, subst}
-use Rattle.pci_spec.specs.Text.{Block}
-use Rattle.pci_spec.specs.System.{system_of}
 use Rattle.pci_tree.specs.Admission.{IsAdmitted}
 use Rattle.pci_model_settle.specs.LineValues.{line_value}
-use Rattle.pci_model_settle.specs.OffDevices.{blocks_without, device_lines}
+use Rattle.pci_model_settle.specs.OffDevices.{blocks_without}
 use Rattle.pciplan_tasks.proofs.ByWords.{no_slots, none_to_fit, settled_whole, settled_without, too_many_fit_none}
 use Rattle.pciplan_tasks.proofs.settling_by_words.settle_without.Goals as goal
 
@@ -35,6 +33,6 @@ returns g c =
     settled_without q.words q.request.now q.printed q.fixed.now q.left.now dump c.args.texts.now.probe.now a.dump a.probe (map line_value c.deref.result.now) c.in-Ok.kept
     c.in_ok-without_registers.field-0 c.in_ok-without_registers-2.field-0 c.settle_off.result
     (ap (map line_value) c.deref.ensures.value ∙ c.in_ok-devices.ensures.lines)
-    c.in-Ok.ensures.kept c.in-Ok.ensures.few
+    c.in-Ok.ensures.kept c.in-Ok.ensures.told
     (c.in_ok-without_registers.ensures ∙ ap (blocks_without q.left.now) c.dump.ensures) (c.in_ok-without_registers-2.ensures ∙ ap (blocks_without q.left.now) c.probe.ensures)
     c.settle_off.ensures
