@@ -1,5 +1,0 @@
-use Rattle.model_settle_laws.proofs.SoundStops.{words_can_stop}
-use Rattle.model_settle_laws.proofs.word_laws.words_take_each_stop_as_sound.Goals as goal
-
-pub returns : goal.returns
-returns c = record { sound = words_can_stop }

@@ -1,3 +1,0 @@
-pub mod StopLaws
-pub mod WordStops
-pub mod LeftOutLaws

@@ -1,0 +1,158 @@
+-- What is settled by words has all that the laws of its stops ask.
+use Rattle.std.proofs.Common.{◌≡◌, ◌⊎◌, ◌≤◌, ℕ, inl, inr, Bool, true, false, List, [], ◌∷◌, length, map, take, refl, sym, ◌∙◌, ap, subst}
+use Rattle.std.specs.Prelude.{if◌then◌else◌}
+use Rattle.std.specs.List.{Contains}
+use Rattle.pci_spec.proofs.Members.{in_nil}
+use Rattle.pci_spec.specs.Machine.{Write}
+use Rattle.pci_spec.specs.Slot.{Slot, same_slot}
+use Rattle.pci_spec.specs.System.{System, system_of}
+use Rattle.pci_spec.specs.Text.{Block, slots_of}
+use Rattle.given_spec.specs.Given.{Given}
+use Rattle.given_spec.specs.ToldClaims.{Told}
+use Rattle.settle_spec.specs.Lists.{Request}
+use Rattle.settle_spec.specs.Sparing.{settle_sparing}
+use Rattle.settle_laws.specs.SparingLaws.{sparing_closings}
+use Rattle.settle_laws.specs.ToldSoundLaws.{CanAskTold}
+use Rattle.model_spec.specs.Taken.{AreFunctionsTakenAs}
+use Rattle.model_spec.specs.Windows.{with_number}
+use Rattle.model_spec.specs.TakenDumps.{AreTakenAs}
+use Rattle.pci_model.specs.declared.words.Words.{Words}
+use Rattle.pci_model.specs.WordsValue.{words_value}
+use Rattle.pci_model_settle.specs.Listed.{block_after, blocks_after, listed_write}
+use Rattle.pci_model_settle.specs.OffDevices.{device_lines, functions_without, left_out}
+use Rattle.pci_place.specs.Above.{system_in}
+use Rattle.pci_tree.specs.Admission.{Admission}
+use Rattle.settle_answer_laws.proofs.Spared.{can_be_asked, spared_is_settled}
+use Rattle.settle_answer_laws.specs.SparedLaws.{IsSettledSo}
+use Rattle.settle_answer_laws.proofs.LeftOutBlocks.{blocks_without_are, left_out_are_off}
+use Rattle.settle_answer_laws.proofs.SoundStops.{words_can_stop}
+use Rattle.settle_answer_laws.specs.LeftOutLaws.{AreOff}
+use Rattle.settle_answer_laws.specs.StopLaws.{AreToldTo}
+use Rattle.settle_answer_laws.specs.WordStops.{IsSettledAsTaken, IsTakenSoundly, printed_after}
+use Rattle.pciplan_tasks.specs.Also.{ranges_told}
+use Rattle.pciplan_tasks.specs.Answers.{Answer}
+use Rattle.pciplan_tasks.specs.TakenAnswers.{AreTakenBy}
+use Rattle.pciplan_tasks.specs.WordsSettling.{can_tell, claims_by, kept_by, left_that_fit}
+use Rattle.pciplan_tasks.specs.declared.task.Printed.{Printed}
+use Rattle.pciplan_tasks.specs.declared.task.SettleRequest.{SettleRequest}
+use Rattle.settle_answer_laws.specs.AnswerLaws.{AnswersCanStop, AreAskedLawfully, AreSettledByWords, admission_of, asked_of, given_then, left_from, texts, told_then}
+use Rattle.settle_answer_laws.proofs.ToldAmong.{in_behind, told_among}
+
+-- ---- writes leave slots as they are
+
+slot_of_either : (t : Bool) (b : Block) (image : List ℕ) → (if t then record b { image = image } else b).slot ≡ b.slot
+slot_of_either true b image = refl
+slot_of_either false b image = refl
+
+slot_stays : (u : Write) (b : Block) → (block_after u b).slot ≡ b.slot
+slot_stays u b = slot_of_either (same_slot b.slot u.slot) b (with_number u.width u.offset u.value b.image)
+
+pub slots_stay : (writes : List Write) (dump : List Block) → slots_of (blocks_after dump writes) ≡ slots_of dump
+slots_stay [] dump = refl
+slots_stay (u ∷ writes) dump = slots_stay writes (map (block_after u) dump) ∙ each dump
+  where
+    each : (blocks : List Block) → slots_of (map (block_after u) blocks) ≡ slots_of blocks
+    each [] = refl
+    each (b ∷ blocks) = let first = slot_stays u b in let more = each blocks in λ i. first i ∷ more i
+
+-- ---- the functions that are left out
+
+module _ (unmoved : List Slot) (t : System) where
+  record AreLeft (left : List Slot) : Type 0 where
+    among : (slot : Slot) → Contains left slot → Contains unmoved slot
+    off : AreOff left t
+
+  where_they_fit : (fit : Bool) (left : List Slot) → AreLeft left → AreLeft (left_that_fit fit left)
+  where_they_fit true left are = are
+  where_they_fit false left are = record { among = λ slot has. absurd (in_nil slot has); off = λ f listed has. absurd (in_nil f.slot has) }
+
+-- ---- the premises
+
+module _ (w : Words) (r : SettleRequest) (printed : Printed) (dump probe : List Block) (answer : Answer) (x : AreSettledByWords w r printed dump probe answer) (lawful : AreAskedLawfully w r printed dump probe x.texts_are) where
+  abbrev q : Request
+  q = (asked_of w r printed dump probe x.texts_are).request
+
+  abbrev a : Admission
+  a = admission_of w r printed dump probe x.texts_are
+
+  abbrev t : System
+  t = system_of x.texts_are.taken x.texts_are.taken_probe
+
+  abbrev left : List Slot
+  left = left_from w r printed dump probe x.texts_are
+
+  abbrev writes : List Write
+  writes = x.settled.writes
+
+  are_left : AreLeft x.texts_are.unmoved t left
+  are_left =
+      let both = left_out_are_off x.texts_are.unmoved dump x.texts_are.taken x.texts_are.taken_probe (sym x.texts_are.are.slots) x.texts_are.admitted.system in
+      where_they_fit x.texts_are.unmoved t (can_tell (kept_by w r (left_out x.texts_are.unmoved dump x.texts_are.taken x.texts_are.taken_probe) (texts w r printed dump probe x.texts_are)))
+      (left_out x.texts_are.unmoved dump x.texts_are.taken x.texts_are.taken_probe) record { among = both.0; off = both.1 }
+
+  without : system_in a ≡ functions_without left t
+  without = blocks_without_are left x.texts_are.taken x.texts_are.taken_probe x.texts_are.admitted.slots
+
+  can : CanAskTold q (system_in a)
+  can = can_be_asked q a record { admitted = x.admitted; roots_are = refl; high = lawful.high; lawful = lawful.told; awake = refl; lines = lawful.lines }
+
+  so : IsSettledSo q a writes x.settled.is.closings
+  so = elim (spared_is_settled q a x.settled.after writes x.settled.is.closings x.settled.denied x.settled.is.is) [
+    | inl large ↦ absurd (lawful.small large)
+    | inr is ↦ is
+  ]
+
+  pub settled_as_taken : IsSettledAsTaken q (words_value w) (slots_of dump) dump probe t writes
+  settled_as_taken = record {
+    system = lawful.system;
+    taken = x.texts_are.are.each lawful.slots;
+    unmoved = x.texts_are.unmoved;
+    stay = x.texts_are.stay;
+    fixed = λ slot has. in_behind r.fixed.items x.texts_are.unmoved slot has;
+    left = left;
+    are_left = are_left.among;
+    asked = subst (CanAskTold q) without can;
+    ended = ap (settle_sparing q) (sym without) ∙ so.ended;
+  }
+
+  -- ---- the dump after all writes
+
+  abbrev after : List Block
+  after = blocks_after dump (map (listed_write dump) writes)
+
+  abbrev told : Told
+  told = told_then w r printed dump probe answer x
+
+  abbrev given : Given
+  given = given_then w r printed dump probe answer x
+
+  among : AreToldTo q told
+  among range has =
+      told_among (ranges_told r.also) (device_lines left t) (claims_by w dump) range
+      (subst (λ ranges. Contains ranges range) x.settled.ended.judged.beside_them.ranges has)
+
+  after_slots : slots_of after ≡ slots_of dump
+  after_slots = slots_stay (map (listed_write dump) writes) dump
+
+  end_soundly : IsTakenSoundly (words_value w) (slots_of dump) told given q.roots (printed_after dump probe writes)
+  end_soundly =
+      let judged = x.settled.ended.judged in
+      let are : AreTakenAs (words_value w) after probe judged.taken judged.taken_probe = subst (λ ws. AreTakenBy ws after probe judged.taken judged.taken_probe) lawful.words judged.are in
+      record {
+        t = system_of judged.taken judged.taken_probe;
+        taken = subst (λ slots. AreFunctionsTakenAs (words_value w) slots (system_of after probe) (system_of judged.taken judged.taken_probe)) after_slots (are.each (after_slots ∙ lawful.slots));
+        sound = (judged.none.0 x.faultless).sound;
+      }
+
+  pub stop : (n : ℕ) → (x.settled.is.closings ≤ n) ⊎ IsTakenSoundly (words_value w) (slots_of dump) told given q.roots (system_of dump probe)
+      → IsTakenSoundly (words_value w) (slots_of dump) told given q.roots (printed_after dump probe (take n writes))
+  unfolding settled_as_taken
+  stop n from =
+      words_can_stop q (words_value w) (slots_of dump) dump probe t writes told given n settled_as_taken are_left.off among end_soundly
+      (elim from [
+        | inl past ↦ inl (subst (λ s. length (sparing_closings q s) ≤ n) without (subst (λ k. k ≤ n) so.closing past))
+        | inr start ↦ inr start
+      ])
+
+pub answers_can_stop : AnswersCanStop
+answers_can_stop w r printed dump probe answer n x lawful from = stop w r printed dump probe answer x lawful n from

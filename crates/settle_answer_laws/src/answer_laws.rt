@@ -1,0 +1,13 @@
+//! Laws of settling by words, as it is answered. These functions do nothing: each contract is a law.
+
+ghost use Rattle.settle_answer_laws.specs.AnswerLaws.{AnswersCanStop, DoneIsSettled};
+
+/// An answer that says that settling is done is one of a settling.
+pub fn settled_answers_are_done()
+    ensures settled { DoneIsSettled }
+{}
+
+/// The words take each dump between the printed writes as sound, once all that close are made.
+pub fn answers_can_stop()
+    ensures stops { AnswersCanStop }
+{}

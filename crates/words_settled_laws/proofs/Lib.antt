@@ -1,3 +1,0 @@
-mod Done
-mod ToldAmong
-mod Stops
