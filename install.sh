@@ -103,7 +103,7 @@ look() {
     source_of "$1"
     if [ "$3" != link ] && ! [ -f "$source" ]; then
         [ "$1" != "$program" ] ||
-            refuse 1 "$1 isn't built: (cd crates/pciplan && rt run -- check data/dump.txt data/probe.txt)"
+            refuse 1 "$1 isn't built: (cd crates/pciplan && rt all check --jobs 4 && rt run -- check data/dump.txt data/probe.txt)"
         refuse 1 "$1 is missing"
     fi
     ! [ -d "$below/$2" ] || refuse 1 "$below/$2 is a folder"

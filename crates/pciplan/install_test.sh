@@ -247,7 +247,7 @@ refused 'a page that is missing' 1 'docs/pciplan.1 is missing' "$room/new"
 mv kept tree/docs/pciplan.1
 mv tree/crates/pciplan/out kept
 refused 'a program that is not built' 1 "crates/pciplan/out/pciplan isn't built: \
-(cd crates/pciplan && rt run -- check data/dump.txt data/probe.txt)" "$room/new"
+(cd crates/pciplan && rt all check --jobs 4 && rt run -- check data/dump.txt data/probe.txt)" "$room/new"
 DESTDIR=$room/package
 export DESTDIR
 removed 'uninstalled from DESTDIR, and nothing is built' "$room/package$room/elsewhere" "$room/elsewhere"
