@@ -1,11 +1,14 @@
 -- An answer of status 0 is one of a settling.
 use Rattle.std.proofs.Common.{◌≡◌, ◌⊎◌, ℕ, inl, inr, List, [], ◌∷◌, arith, refl, sym, ◌∙◌, ap}
 use Rattle.pci_spec.specs.Text.{Block}
+use Rattle.given_spec.specs.Told.{IsTold}
 use Rattle.given_spec.specs.ToldFault.{Fault}
 use Rattle.pci_model.specs.declared.words.Words.{Words}
 use Rattle.pci_tree.specs.Admission.{IsAdmitted}
+use Rattle.pci_tree.specs.Roots.{buses_of}
 use Rattle.pciplan_tasks.specs.Answers.{Answer, refused}
 use Rattle.pciplan_tasks.specs.MapAnswers.{IsFirstLine}
+use Rattle.pciplan_tasks.specs.SettleAnswers.{IsReadyAsTold, demand_said}
 use Rattle.pciplan_tasks.specs.WordsSettling.{IsEndLine, IsNotSettledTaken, IsSettledTaken, IsSettlingAny}
 use Rattle.pciplan_tasks.specs.declared.task.Printed.{Printed}
 use Rattle.pciplan_tasks.specs.declared.task.SettleRequest.{SettleRequest}
@@ -30,17 +33,28 @@ module _ (w : Words) (r : SettleRequest) (printed : Printed) (dump probe : List 
   abbrev NotSettled : AreTextsTaken w r dump probe → Type 0
   NotSettled x = IsNotSettledTaken (kept_in w r printed dump probe x) (asked_of w r printed dump probe x) (settled_texts w r printed dump probe x) answer
 
-  of_kept : (x : AreTextsTaken w r dump probe) → IsAdmitted (admission_of w r printed dump probe x) → Settled x ⊎ NotSettled x → AreSettledByWords w r printed dump probe answer
-  of_kept x admitted (inl settled) = record { texts_are = x; admitted = admitted; settled = settled; faultless = none_left settled.ended.faults _ _ answer settled.ended.line done }
-  of_kept x admitted (inr other) = absurd (not_refused answer _ other.line done)
+  abbrev IsReady : AreTextsTaken w r dump probe → Type 0
+  IsReady x = IsReadyAsTold (demand_said r dump).told (buses_of r.roots) x.taken x.taken_probe
 
-  of_any : (x : AreTextsTaken w r dump probe) → IsSettlingAny r (kept_in w r printed dump probe x) (asked_of w r printed dump probe x) (settled_texts w r printed dump probe x) answer
+  of_kept : (x : AreTextsTaken w r dump probe) → IsAdmitted (admission_of w r printed dump probe x) → IsReady x → IsTold (kept_in w r printed dump probe x).told → Settled x ⊎ NotSettled x
       → AreSettledByWords w r printed dump probe answer
-  of_any x any = elim any [
+  of_kept x admitted ready told (inl settled) = record {
+    texts_are = x;
+    admitted = admitted;
+    ready = ready;
+    told = told;
+    settled = settled;
+    faultless = none_left settled.ended.faults _ _ answer settled.ended.line done;
+  }
+  of_kept x admitted ready told (inr other) = absurd (not_refused answer _ other.line done)
+
+  of_any : (x : AreTextsTaken w r dump probe) → IsReady x → IsSettlingAny r (kept_in w r printed dump probe x) (asked_of w r printed dump probe x) (settled_texts w r printed dump probe x) answer
+      → AreSettledByWords w r printed dump probe answer
+  of_any x ready any = elim any [
     | inr other ↦ absurd (not_refused answer _ other.line done)
     | inl two ↦ elim two.1 [
       | inl many ↦ absurd (not_refused answer _ many.line done)
-      | inr fits ↦ of_kept x two.0 fits.1
+      | inr fits ↦ of_kept x two.0 ready fits.0 fits.1
     ]
   ]
 
@@ -50,6 +64,6 @@ done_is_settled w r printed dump probe answer by done = elim by.is [
   | inl ready ↦ elim ready.is [
     | inr other ↦ absurd (not_refused answer _ other.line done)
     | inl two ↦ of_any w r printed dump probe answer done
-        record { taken = by.taken; taken_probe = by.taken_probe; are = by.are; unmoved = by.unmoved; stay = by.stay; admitted = two.0 } two.1
+        record { taken = by.taken; taken_probe = by.taken_probe; are = by.are; unmoved = by.unmoved; stay = by.stay; admitted = two.0 } ready.ready two.1
   ]
 ]

@@ -64,7 +64,7 @@ module _ (left : List Slot) (f : Function) where
   pub elsewhere : is_among left f.slot ≡ false → function_without left f ≡ f
   elsewhere is = ap (λ b. if b then without f else f) is
 
-pairs_without : (left : List Slot) (s : System) → AreOff left s → AllZip IsSameOrBare s (functions_without left s)
+pub pairs_without : (left : List Slot) (s : System) → AreOff left s → AllZip IsSameOrBare s (functions_without left s)
 pairs_without left [] off = tt
 pairs_without left (f ∷ s) off = (
   elim (cases_Bool (is_among left f.slot)) [

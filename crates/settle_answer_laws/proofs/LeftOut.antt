@@ -113,7 +113,7 @@ any_same p each (f ∷ s) (g ∷ t) (first, rest) =
     let here : p g ≡ p f = elim first [ inl same ↦ ap p (sym same) | inr bare ↦ each f g bare ] in
     ap (λ b. b || list_any p t) here ∙ ap (λ b. p f || b) (any_same p each s t rest)
 
-slots_are : (s t : System) → AllZip IsSameOrBare s t → map (λ (f : Function). f.slot) t ≡ map (λ (f : Function). f.slot) s
+pub slots_are : (s t : System) → AllZip IsSameOrBare s t → map (λ (f : Function). f.slot) t ≡ map (λ (f : Function). f.slot) s
 slots_are [] [] pairs = refl
 slots_are [] (g ∷ t) pairs = absurd pairs
 slots_are (f ∷ s) [] pairs = absurd pairs
@@ -158,7 +158,7 @@ module _ (s t : System) (pairs : AllZip IsSameOrBare s t) where
   leader_was : (b : Function) (bus : ℕ) → LeadsTo t b bus → LeadsTo s b bus
   leader_was b bus (has, bridge, at) = (bridge_was b has bridge, bridge, at)
 
-  led_same : (roots : List ℕ) (bus : ℕ) → is_led_to roots t bus ≡ is_led_to roots s bus
+  pub led_same : (roots : List ℕ) (bus : ℕ) → is_led_to roots t bus ≡ is_led_to roots s bus
   led_same roots bus =
       ap (λ b. is_root roots bus || b)
       (any_same (λ c. is_bridge c && secondary c == bus) (λ f g bare. and_left _ _ (no_bridge g bare.after) ∙ sym (and_left _ _ (no_bridge f bare.before))) s t pairs)

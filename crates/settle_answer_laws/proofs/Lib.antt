@@ -4,6 +4,7 @@ mod ChannelsAside
 mod DeviceFields
 mod DeviceWrites
 mod Done
+mod GivenBeside
 mod GivenLeft
 mod GivenMore
 mod GivenSparing
@@ -13,11 +14,14 @@ mod InterfacesAside
 mod KeptRegisters
 mod LeavingOut
 mod LeftOut
+mod KeptLines
+mod LineSources
 mod LeftOutBlocks
 mod ListedWrites
 mod OwnFaults
 mod PrintedStops
 mod SetAside
+mod SlotsStay
 mod SocketsAside
 mod SoundStops
 mod Spared

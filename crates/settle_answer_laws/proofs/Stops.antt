@@ -1,10 +1,9 @@
 -- What is settled by words has all that the laws of its stops ask.
-use Rattle.std.proofs.Common.{◌≡◌, ◌⊎◌, ◌≤◌, ℕ, inl, inr, Bool, true, false, List, [], ◌∷◌, length, map, take, refl, sym, ◌∙◌, ap, subst}
-use Rattle.std.specs.Prelude.{if◌then◌else◌}
+use Rattle.std.proofs.Common.{◌≡◌, ◌⊎◌, ◌≤◌, ℕ, inl, inr, Bool, true, false, List, length, map, take, refl, sym, ◌∙◌, ap, subst}
 use Rattle.std.specs.List.{Contains}
 use Rattle.pci_spec.proofs.Members.{in_nil}
 use Rattle.pci_spec.specs.Machine.{Write}
-use Rattle.pci_spec.specs.Slot.{Slot, same_slot}
+use Rattle.pci_spec.specs.Slot.{Slot}
 use Rattle.pci_spec.specs.System.{System, system_of}
 use Rattle.pci_spec.specs.Text.{Block, slots_of}
 use Rattle.given_spec.specs.Given.{Given}
@@ -14,13 +13,13 @@ use Rattle.settle_spec.specs.Sparing.{settle_sparing}
 use Rattle.settle_laws.specs.SparingLaws.{sparing_closings}
 use Rattle.settle_laws.specs.ToldSoundLaws.{CanAskTold}
 use Rattle.model_spec.specs.Taken.{AreFunctionsTakenAs}
-use Rattle.model_spec.specs.Windows.{with_number}
 use Rattle.model_spec.specs.TakenDumps.{AreTakenAs}
 use Rattle.pci_model.specs.declared.words.Words.{Words}
 use Rattle.pci_model.specs.WordsValue.{words_value}
-use Rattle.pci_model_settle.specs.Listed.{block_after, blocks_after, listed_write}
+use Rattle.pci_model_settle.specs.Listed.{blocks_after, listed_write}
 use Rattle.pci_model_settle.specs.OffDevices.{device_lines, functions_without, left_out}
 use Rattle.pci_place.specs.Above.{system_in}
+use Rattle.pci_settle_writes.specs.AsTold.{HasLines}
 use Rattle.pci_tree.specs.Admission.{Admission}
 use Rattle.settle_answer_laws.proofs.Spared.{can_be_asked, spared_is_settled}
 use Rattle.settle_answer_laws.specs.SparedLaws.{IsSettledSo}
@@ -32,28 +31,15 @@ use Rattle.settle_answer_laws.specs.WordStops.{IsSettledAsTaken, IsTakenSoundly,
 use Rattle.pciplan_tasks.specs.Also.{ranges_told}
 use Rattle.pciplan_tasks.specs.Answers.{Answer}
 use Rattle.pciplan_tasks.specs.TakenAnswers.{AreTakenBy}
-use Rattle.pciplan_tasks.specs.WordsSettling.{can_tell, claims_by, kept_by, left_that_fit}
+use Rattle.pciplan_tasks.specs.FaultsAnswers.{given_of}
+use Rattle.pciplan_tasks.specs.WordsSettling.{all_is_sent, can_tell, claims_by, kept_by, left_that_fit}
 use Rattle.pciplan_tasks.specs.declared.task.Printed.{Printed}
 use Rattle.pciplan_tasks.specs.declared.task.SettleRequest.{SettleRequest}
-use Rattle.settle_answer_laws.specs.AnswerLaws.{AnswersCanStop, AreAskedLawfully, AreSettledByWords, admission_of, asked_of, given_then, left_from, texts, told_then}
+use Rattle.settle_answer_laws.specs.AnswerLaws.{AnswersCanStop, AreAskedLawfully, AreSettledByWords, GivenStays, admission_of, asked_of, given_then, left_from, texts, told_then}
+use Rattle.settle_answer_laws.proofs.GivenBeside.{given_stays as given_beside_stays}
+use Rattle.settle_answer_laws.proofs.KeptLines.{all_led_to, all_listed}
+use Rattle.settle_answer_laws.proofs.SlotsStay.{slots_stay}
 use Rattle.settle_answer_laws.proofs.ToldAmong.{in_behind, told_among}
-
--- ---- writes leave slots as they are
-
-slot_of_either : (t : Bool) (b : Block) (image : List ℕ) → (if t then record b { image = image } else b).slot ≡ b.slot
-slot_of_either true b image = refl
-slot_of_either false b image = refl
-
-slot_stays : (u : Write) (b : Block) → (block_after u b).slot ≡ b.slot
-slot_stays u b = slot_of_either (same_slot b.slot u.slot) b (with_number u.width u.offset u.value b.image)
-
-pub slots_stay : (writes : List Write) (dump : List Block) → slots_of (blocks_after dump writes) ≡ slots_of dump
-slots_stay [] dump = refl
-slots_stay (u ∷ writes) dump = slots_stay writes (map (block_after u) dump) ∙ each dump
-  where
-    each : (blocks : List Block) → slots_of (map (block_after u) blocks) ≡ slots_of blocks
-    each [] = refl
-    each (b ∷ blocks) = let first = slot_stays u b in let more = each blocks in λ i. first i ∷ more i
 
 -- ---- the functions that are left out
 
@@ -93,8 +79,15 @@ module _ (w : Words) (r : SettleRequest) (printed : Printed) (dump probe : List 
   without : system_in a ≡ functions_without left t
   without = blocks_without_are left x.texts_are.taken x.texts_are.taken_probe x.texts_are.admitted.slots
 
+  -- no range that is kept off is of a slot that isn't listed, or is a held one to whose bus nobody leads
+  lines : HasLines q (system_in a)
+  lines = subst (HasLines q) (sym without) record {
+    listed = all_listed (ranges_told r.also) q.roots w dump x.texts_are.taken x.texts_are.taken_probe left x.ready (sym x.texts_are.are.slots) x.texts_are.admitted are_left.off;
+    led_to = all_led_to (ranges_told r.also) q.roots w dump x.texts_are.taken x.texts_are.taken_probe left x.ready (sym x.texts_are.are.slots) x.texts_are.admitted are_left.off;
+  }
+
   can : CanAskTold q (system_in a)
-  can = can_be_asked q a record { admitted = x.admitted; roots_are = refl; high = lawful.high; lawful = lawful.told; awake = refl; lines = lawful.lines }
+  can = can_be_asked q a record { admitted = x.admitted; roots_are = refl; high = lawful.high; lawful = x.told; awake = refl; lines = lines }
 
   so : IsSettledSo q a writes x.settled.is.closings
   so = elim (spared_is_settled q a x.settled.after writes x.settled.is.closings x.settled.denied x.settled.is.is) [
@@ -153,6 +146,15 @@ module _ (w : Words) (r : SettleRequest) (printed : Printed) (dump probe : List 
         | inl past ↦ inl (subst (λ s. length (sparing_closings q s) ≤ n) without (subst (λ k. k ≤ n) so.closing past))
         | inr start ↦ inr start
       ])
+
+  pub given_so : (n : ℕ) → given_of all_is_sent r.words (blocks_after dump (map (listed_write dump) (take n writes))) ≡ given_of all_is_sent r.words dump
+  unfolding settled_as_taken
+  given_so n =
+      subst (λ ws. given_of all_is_sent ws (blocks_after dump (map (listed_write dump) (take n writes))) ≡ given_of all_is_sent ws dump) (sym lawful.words)
+      (given_beside_stays q w (slots_of dump) dump probe t writes n settled_as_taken lawful.slots)
+
+pub given_stays : GivenStays
+given_stays w r printed dump probe answer n x lawful = given_so w r printed dump probe answer x lawful n
 
 pub answers_can_stop : AnswersCanStop
 answers_can_stop w r printed dump probe answer n x lawful from = stop w r printed dump probe answer x lawful n from

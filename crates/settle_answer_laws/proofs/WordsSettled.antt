@@ -265,7 +265,7 @@ module _ (q : Request) (w : Words) (slots : List Slot) (dump probe : List Block)
       (λ slot has. set_so.fixed slot (subst (λ (ss : List Slot). Contains ss slot) (sym set_so.stay.are) has))
 
   -- the printed writes fit the dump
-  printed_fits : All (FitsAt s) (map (listed_write dump) firsts)
+  pub printed_fits : All (FitsAt s) (map (listed_write dump) firsts)
   printed_fits = printed_fit w slots s set_so.system (listed_write dump) firsts (listing dump probe set_so.system)
       (λ u has. sparing_write q rest writes set_so.asked set_so.ended u (in_take n writes u has)) t all_pairs
 

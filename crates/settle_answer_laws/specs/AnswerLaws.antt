@@ -16,14 +16,12 @@ use Rattle.pci_model_settle.specs.ClaimLines.{Kept}
 use Rattle.pci_model_settle.specs.Listed.{blocks_after, listed_write}
 use Rattle.pci_model_settle.specs.OffDevices.{left_out}
 use Rattle.pci_model_settle.specs.Unmoved.{AreUnmoved}
-use Rattle.pci_place.specs.Above.{system_in}
-use Rattle.pci_settle_writes.specs.AsTold.{HasLines}
 use Rattle.pci_settle_writes.specs.Endings.{HasLarge}
 use Rattle.pci_tree.specs.Admission.{Admission, IsAdmitted}
 use Rattle.pci_tree.specs.Roots.{buses_of}
 use Rattle.pciplan_tasks.specs.Answers.{Answer}
 use Rattle.pciplan_tasks.specs.FaultsAnswers.{given_of}
-use Rattle.pciplan_tasks.specs.SettleAnswers.{SettleAsked, lists_said, settle_admission}
+use Rattle.pciplan_tasks.specs.SettleAnswers.{IsReadyAsTold, SettleAsked, demand_said, lists_said, settle_admission}
 use Rattle.pciplan_tasks.specs.WordsSettling.{IsSettledTaken, IsSettlingByWords, TakenTexts, all_is_sent, asked_with, can_tell, kept_by, left_that_fit, texts_without}
 use Rattle.pciplan_tasks.specs.declared.task.Printed.{Printed}
 use Rattle.pciplan_tasks.specs.declared.task.SettleRequest.{SettleRequest}
@@ -63,11 +61,14 @@ module _ (w : Words) (r : SettleRequest) (printed : Printed) (dump probe : List 
   abbrev pub admission_of : Admission
   admission_of = settle_admission asked_of settled_texts.taken settled_texts.taken_probe
 
--- They are settled so, and the dump after all writes has no fault.
+-- They are settled so, off ranges that can be told. With what the user tells none of the faults that are looked for before
+-- judging is there, and the dump after all writes has no fault.
 pub record AreSettledByWords (w : Words) (r : SettleRequest) (printed : Printed) (dump probe : List Block)
     (answer : Answer) : Type 0 where
   pub texts_are : AreTextsTaken w r dump probe
   pub admitted : IsAdmitted (admission_of w r printed dump probe texts_are)
+  pub ready : IsReadyAsTold (demand_said r dump).told (buses_of r.roots) texts_are.taken texts_are.taken_probe
+  pub told : IsTold (kept_in w r printed dump probe texts_are).told
   pub settled : IsSettledTaken r (asked_of w r printed dump probe texts_are)
       (settled_texts w r printed dump probe texts_are) answer
   pub faultless : settled.ended.faults ≡ []
@@ -79,16 +80,14 @@ DoneIsSettled =
     → IsSettlingByWords w r printed dump probe answer → answer.status ≡ 0
     → AreSettledByWords w r printed dump probe answer
 
--- What is asked is lawful: two texts of the same functions, lists of 64 bits, and ranges that can be told, of which none is an
--- orphan. With no room behind a slot a new window has 2^64 addresses.
+-- What is asked is lawful, as the program's own types have it: two texts of the same functions, and lists of 64 bits. One thing
+-- more is asked: no new window has 2^64 addresses or more with its spare.
 pub record AreAskedLawfully (w : Words) (r : SettleRequest) (printed : Printed) (dump probe : List Block)
     (x : AreTextsTaken w r dump probe) : Type 0 where
   pub words : r.words ≡ Some w
   pub system : IsSystem (system_of dump probe)
   pub slots : slots_of dump ≡ slots_of probe
   pub high : (one : RootRange) → Contains (lists_said r.lists).prefetch one → one.range.last < 2 ^ 64
-  pub told : IsTold (kept_in w r printed dump probe x).told
-  pub lines : HasLines (asked_of w r printed dump probe x).request (system_in (admission_of w r printed dump probe x))
   pub small : HasLarge (admission_of w r printed dump probe x) (asked_of w r printed dump probe x).request → ⊥
 
 module _ (w : Words) (r : SettleRequest) (printed : Printed) (dump probe : List Block) (answer : Answer) (x : AreSettledByWords w r printed dump probe answer) where
@@ -110,3 +109,12 @@ AnswersCanStop =
     (given_then w r printed dump probe answer x) (buses_of r.roots) (system_of dump probe)
     → IsTakenSoundly (words_value w) (slots_of dump) (told_then w r printed dump probe answer x)
     (given_then w r printed dump probe answer x) (buses_of r.roots) (printed_after dump probe (take n x.settled.writes))
+
+-- What is given beside each such dump is what is given beside the dump itself: legacy parts, ISA Enable and palette parts of
+-- bridges. What bridges take as nobody claims it is apart.
+abbrev pub GivenStays : Type 0
+GivenStays =
+    (w : Words) (r : SettleRequest) (printed : Printed) (dump probe : List Block) (answer : Answer) (n : ℕ)
+    (x : AreSettledByWords w r printed dump probe answer) → AreAskedLawfully w r printed dump probe x.texts_are
+    → given_of all_is_sent r.words (blocks_after dump (map (listed_write dump) (take n x.settled.writes)))
+    ≡ given_of all_is_sent r.words dump
