@@ -1,20 +1,21 @@
 -- What is added to a canvas, one element behind the other.
-use Rattle.std.proofs.Common.{◌≡◌, ℕ, Bool, List, [], ◌∷◌, ◌++◌, refl, sym, ap, subst, ◌∙◌, Result, Ok, Err, IfOk}
+use Rattle.std.proofs.Common.{◌≡◌, ◌≤◌, arith, ℕ, Bool, List, [], ◌∷◌, ◌++◌, refl, sym, ap, subst, ◌∙◌, Result, Ok, Err, IfOk}
 use Rattle.std.proofs.lemmas.List.{append_assoc, append-nil}
 use Rattle.std.proofs.lemmas.List.Concat.{flat_map-append}
 use Rattle.std.specs.List.{flat_map}
 use Rattle.std.specs.String.{string_bytes}
 use Rattle.pci_picture.specs.Elements.{box_text, words_text, axis_text, tick_text, gap_text}
-use Rattle.pci_picture.specs.Boxes.{HasTitles, no_element, a_box, a_line, at_axis, a_tick, a_gap, titled_line, HasLines, AreDrawn, IsDrawnOf}
+use Rattle.pci_picture.specs.Boxes.{HasTitles, no_element, a_box, a_line, at_axis, a_tick, a_gap, Titled, titled, titled_spot, HasSpots, AreDrawn, IsDrawnOf}
+use Rattle.pci_picture.specs.Spots.{Spot}
 use Rattle.pci_picture.specs.Whole.{picture_text}
-use Rattle.pci_picture.specs.Canvases.{HasDrawn, Adds}
+use Rattle.pci_picture.specs.Canvases.{HasDrawn, Adds, AddsSome}
 use Rattle.pci_picture.specs.declared.canvas.Canvas.{Canvas}
 
 -- boxes behind boxes
-pub titles_append : (s t : List (List ℕ)) (a b : List ℕ) → HasTitles s a → HasTitles t b → HasTitles (s ++ t) (a ++ b)
+pub titles_append : (s t : List Titled) (a b : List ℕ) → HasTitles s a → HasTitles t b → HasTitles (s ++ t) (a ++ b)
 titles_append _ t _ b no_element h = h
 titles_append _ t _ b (a_box x y width height class anchor title rest titles r) h =
-    subst (HasTitles (title ∷ (titles ++ t))) (sym (append_assoc (box_text x y width height class anchor title) rest b))
+    subst (HasTitles (titled y height title ∷ (titles ++ t))) (sym (append_assoc (box_text x y width height class anchor title) rest b))
     (a_box x y width height class anchor title (rest ++ b) (titles ++ t) (titles_append titles t rest b r h))
 titles_append _ t _ b (a_line x y class line rest titles r) h =
     subst (HasTitles (titles ++ t)) (sym (append_assoc (words_text x y class line) rest b))
@@ -31,9 +32,9 @@ titles_append _ t _ b (a_gap x y to rest titles r) h =
 
 -- ---- one element alone
 
-pub box_titles : (x y width height : ℕ) (class anchor title : List ℕ) → HasTitles (title ∷ []) (box_text x y width height class anchor title)
+pub box_titles : (x y width height : ℕ) (class anchor title : List ℕ) → HasTitles (titled y height title ∷ []) (box_text x y width height class anchor title)
 box_titles x y width height class anchor title =
-    subst (HasTitles (title ∷ [])) (append-nil (box_text x y width height class anchor title))
+    subst (HasTitles (titled y height title ∷ [])) (append-nil (box_text x y width height class anchor title))
     (a_box x y width height class anchor title [] [] no_element)
 
 pub words_titles : (x y : ℕ) (class line : List ℕ) → HasTitles [] (words_text x y class line)
@@ -50,23 +51,23 @@ tick_titles x y = subst (HasTitles []) (append-nil (tick_text x y)) (a_tick x y 
 pub gap_titles : (x y to : ℕ) → HasTitles [] (gap_text x y to)
 gap_titles x y to = subst (HasTitles []) (append-nil (gap_text x y to)) (a_gap x y to [] [] no_element)
 
--- ---- lines of boxes
+-- ---- regions of boxes
 
-pub lines_append : (s t : List (List ℕ)) (a b : List ℕ) → HasLines s a → HasLines t b → HasLines (s ++ t) (a ++ b)
-lines_append s t a b h k = record {
-  titles = h.titles ++ k.titles;
-  has = titles_append h.titles k.titles a b h.has k.has;
-  first = flat_map-append titled_line h.titles k.titles ∙ ap (λ l. l ++ flat_map titled_line k.titles) h.first ∙ ap (λ l. s ++ l) k.first;
+pub spots_append : (s t : List Spot) (a b : List ℕ) → HasSpots s a → HasSpots t b → HasSpots (s ++ t) (a ++ b)
+spots_append s t a b h k = record {
+  boxes = h.boxes ++ k.boxes;
+  has = titles_append h.boxes k.boxes a b h.has k.has;
+  first = flat_map-append titled_spot h.boxes k.boxes ∙ ap (λ l. l ++ flat_map titled_spot k.boxes) h.first ∙ ap (λ l. s ++ l) k.first;
 }
 
-bare_lines : (a : List ℕ) → HasTitles [] a → HasLines [] a
-bare_lines a h = record { titles = []; has = h; first = refl }
+bare_spots : (a : List ℕ) → HasTitles [] a → HasSpots [] a
+bare_spots a h = record { boxes = []; has = h; first = refl }
 
-box_lines : (x y width height : ℕ) (class anchor title : List ℕ) → HasLines (titled_line title) (box_text x y width height class anchor title)
-box_lines x y width height class anchor title = record {
-  titles = title ∷ [];
+box_spots : (x y width height : ℕ) (class anchor title : List ℕ) → HasSpots (titled_spot (titled y height title)) (box_text x y width height class anchor title)
+box_spots x y width height class anchor title = record {
+  boxes = titled y height title ∷ [];
   has = box_titles x y width height class anchor title;
-  first = append-nil (titled_line title);
+  first = append-nil (titled_spot (titled y height title));
 }
 
 -- ---- canvases
@@ -74,13 +75,13 @@ box_lines x y width height class anchor title = record {
 pub added_box : {A : Type 0} (x y width height : ℕ) (class anchor title : List ℕ) (before after : Canvas A) (empty element : List ℕ)
     → empty ≡ [] → element ≡ empty ++ box_text x y width height class anchor title
     → string_bytes after.boxes ≡ string_bytes before.boxes ++ element → string_bytes after.words ≡ string_bytes before.words
-    → Adds (titled_line title) before after
+    → Adds (titled_spot (titled y height title)) before after
 added_box x y width height class anchor title before after empty element none made boxes words = record {
-  behind = λ lines drawn.
+  behind = λ spots drawn.
       let e : element ≡ box_text x y width height class anchor title = made ∙ ap (λ l. l ++ box_text x y width height class anchor title) none in
       record {
-        in_boxes = subst (HasLines (lines ++ titled_line title)) (sym (boxes ∙ ap (λ l. string_bytes before.boxes ++ l) e))
-            (lines_append lines (titled_line title) (string_bytes before.boxes) _ drawn.in_boxes (box_lines x y width height class anchor title));
+        in_boxes = subst (HasSpots (spots ++ titled_spot (titled y height title))) (sym (boxes ∙ ap (λ l. string_bytes before.boxes ++ l) e))
+            (spots_append spots (titled_spot (titled y height title)) (string_bytes before.boxes) _ drawn.in_boxes (box_spots x y width height class anchor title));
         in_words = subst (HasTitles []) (sym words) drawn.in_words;
       };
 }
@@ -91,11 +92,11 @@ pub added_bare : {A : Type 0} (made : List ℕ) → HasTitles [] made → (befor
     → string_bytes after.boxes ≡ string_bytes before.boxes ++ element → string_bytes after.words ≡ string_bytes before.words
     → Adds [] before after
 added_bare made bare before after empty element none is boxes words = record {
-  behind = λ lines drawn.
+  behind = λ spots drawn.
       let e : element ≡ made = is ∙ ap (λ l. l ++ made) none in
       record {
-        in_boxes = subst (HasLines (lines ++ [])) (sym (boxes ∙ ap (λ l. string_bytes before.boxes ++ l) e))
-            (lines_append lines [] (string_bytes before.boxes) made drawn.in_boxes (bare_lines made bare));
+        in_boxes = subst (HasSpots (spots ++ [])) (sym (boxes ∙ ap (λ l. string_bytes before.boxes ++ l) e))
+            (spots_append spots [] (string_bytes before.boxes) made drawn.in_boxes (bare_spots made bare));
         in_words = subst (HasTitles []) (sym words) drawn.in_words;
       };
 }
@@ -106,10 +107,10 @@ pub added_words : {A : Type 0} (made : List ℕ) → HasTitles [] made → (befo
     → string_bytes after.boxes ≡ string_bytes before.boxes → string_bytes after.words ≡ string_bytes before.words ++ element
     → Adds [] before after
 added_words made bare before after empty element none is boxes words = record {
-  behind = λ lines drawn.
+  behind = λ spots drawn.
       let e : element ≡ made = is ∙ ap (λ l. l ++ made) none in
       record {
-        in_boxes = subst (HasLines (lines ++ [])) (sym boxes) (subst (λ l. HasLines l (string_bytes before.boxes)) (sym (append-nil lines)) drawn.in_boxes);
+        in_boxes = subst (HasSpots (spots ++ [])) (sym boxes) (subst (λ l. HasSpots l (string_bytes before.boxes)) (sym (append-nil spots)) drawn.in_boxes);
         in_words = subst (HasTitles []) (sym (words ∙ ap (λ l. string_bytes before.words ++ l) e))
             (titles_append [] [] (string_bytes before.words) made drawn.in_words bare);
       };
@@ -118,65 +119,85 @@ added_words made bare before after empty element none is boxes words = record {
 -- nothing is added
 pub unchanged : {A : Type 0} (canvas : Canvas A) → Adds [] canvas canvas
 unchanged canvas = record {
-  behind = λ lines drawn. subst (λ l. HasDrawn l canvas) (sym (append-nil lines)) drawn;
+  behind = λ spots drawn. subst (λ l. HasDrawn l canvas) (sym (append-nil spots)) drawn;
 }
 
 -- one after the other
-pub then_adds : {A : Type 0} (first second : List (List ℕ)) (before between after : Canvas A)
+pub then_adds : {A : Type 0} (first second : List Spot) (before between after : Canvas A)
     → Adds first before between → Adds second between after → Adds (first ++ second) before after
 then_adds first second before between after one other = record {
-  behind = λ lines drawn.
-      subst (λ l. HasDrawn l after) (append_assoc lines first second) (other.behind (lines ++ first) (one.behind lines drawn));
+  behind = λ spots drawn.
+      subst (λ l. HasDrawn l after) (append_assoc spots first second) (other.behind (spots ++ first) (one.behind spots drawn));
 }
 
--- nothing, and then some lines; some lines, and then nothing
-pub then_draws : {A : Type 0} (lines : List (List ℕ)) (before between after : Canvas A)
-    → Adds [] before between → Adds lines between after → Adds lines before after
-then_draws lines before between after one other = then_adds [] lines before between after one other
+-- nothing, and then some; some, and then nothing
+pub then_draws : {A : Type 0} (spots : List Spot) (before between after : Canvas A)
+    → Adds [] before between → Adds spots between after → Adds spots before after
+then_draws spots before between after one other = then_adds [] spots before between after one other
 
-pub then_keeps : {A : Type 0} (lines : List (List ℕ)) (before between after : Canvas A)
-    → Adds lines before between → Adds [] between after → Adds lines before after
-then_keeps lines before between after one other =
-    subst (λ l. Adds l before after) (append-nil lines) (then_adds lines [] before between after one other)
+pub then_keeps : {A : Type 0} (spots : List Spot) (before between after : Canvas A)
+    → Adds spots before between → Adds [] between after → Adds spots before after
+then_keeps spots before between after one other =
+    subst (λ l. Adds l before after) (append-nil spots) (then_adds spots [] before between after one other)
+
+-- the same of some of which something holds
+pub then_some : {A : Type 0} (Hold : List Spot → Type 0) (before between after : Canvas A)
+    → Adds [] before between → AddsSome Hold between after → AddsSome Hold before after
+then_some Hold before between after one other = record {
+  spots = other.spots;
+  hold = other.hold;
+  adds = then_draws other.spots before between after one other.adds;
+}
+
+pub keeps_some : {A : Type 0} (Hold : List Spot → Type 0) (before between after : Canvas A)
+    → AddsSome Hold before between → Adds [] between after → AddsSome Hold before after
+keeps_some Hold before between after one other = record {
+  spots = one.spots;
+  hold = one.hold;
+  adds = then_keeps one.spots before between after one.adds other;
+}
 
 -- nothing is drawn
-pub none_lines : (text : List ℕ) → text ≡ [] → HasLines [] text
-none_lines text none = subst (HasLines []) (sym none) (record { titles = []; has = no_element; first = refl })
+pub none_spots : (text : List ℕ) → text ≡ [] → HasSpots [] text
+none_spots text none = subst (HasSpots []) (sym none) (record { boxes = []; has = no_element; first = refl })
 
 pub none_titles : (text : List ℕ) → text ≡ [] → HasTitles [] text
 none_titles text none = subst (HasTitles []) (sym none) no_element
 
 -- the picture of what is drawn
 pub drawn_of : {T E : Type 0} (result : Result T E) (bytes : T → List ℕ) (is_told : Bool) (boxes words : List ℕ) (width height : ℕ)
-    (lines : List (List ℕ)) → AreDrawn lines boxes words
-    → IfOk result (λ t. bytes t ≡ picture_text is_told boxes words width height) → IfOk result (λ t. IsDrawnOf lines (bytes t))
-drawn_of (Err e) bytes is_told boxes words width height lines drawn is = tt
-drawn_of (Ok t) bytes is_told boxes words width height lines drawn is = record {
+    (spots : List Spot) → AreDrawn spots boxes words
+    → IfOk result (λ t. bytes t ≡ picture_text is_told boxes words width height) → IfOk result (λ t. IsDrawnOf spots height (bytes t))
+drawn_of (Err e) bytes is_told boxes words width height spots drawn is = tt
+drawn_of (Ok t) bytes is_told boxes words width height spots drawn is = record {
   is_told = is_told;
   boxes = boxes;
   words = words;
   width = width;
-  height = height;
-  drawn = subst (λ l. HasLines l (boxes ++ words)) (append-nil lines) (lines_append lines [] boxes words drawn.in_boxes (bare_lines words drawn.in_words));
+  drawn = subst (λ l. HasSpots l (boxes ++ words)) (append-nil spots) (spots_append spots [] boxes words drawn.in_boxes (bare_spots words drawn.in_words));
   says = is;
 }
 
 -- ---- at the end of a function: its last step is a call, which may fail
 
-pub then_ok : {A T E : Type 0} (result : Result T E) (lines : List (List ℕ)) (before between after : Canvas A)
-    → Adds [] before between → IfOk result (λ _. Adds lines between after) → IfOk result (λ _. Adds lines before after)
-then_ok (Err e) lines before between after one other = tt
-then_ok (Ok t) lines before between after one other = then_draws lines before between after one other
+pub then_ok : {A T E : Type 0} (result : Result T E) (spots : List Spot) (before between after : Canvas A)
+    → Adds [] before between → IfOk result (λ _. Adds spots between after) → IfOk result (λ _. Adds spots before after)
+then_ok (Err e) spots before between after one other = tt
+then_ok (Ok t) spots before between after one other = then_draws spots before between after one other
 
-pub keep_ok : {A T E : Type 0} (result : Result T E) (lines : List (List ℕ)) (before between after : Canvas A)
-    → Adds lines before between → IfOk result (λ _. Adds [] between after) → IfOk result (λ _. Adds lines before after)
-keep_ok (Err e) lines before between after one other = tt
-keep_ok (Ok t) lines before between after one other = then_keeps lines before between after one other
+pub keep_ok : {A T E : Type 0} (result : Result T E) (spots : List Spot) (before between after : Canvas A)
+    → Adds spots before between → IfOk result (λ _. Adds [] between after) → IfOk result (λ _. Adds spots before after)
+keep_ok (Err e) spots before between after one other = tt
+keep_ok (Ok t) spots before between after one other = then_keeps spots before between after one other
 
 -- a box whose title has these lines
-pub box_ok : {A T E : Type 0} (result : Result T E) (lines more : List (List ℕ)) (before after : Canvas A)
-    → more ≡ lines → IfOk result (λ _. Adds more before after) → IfOk result (λ _. Adds lines before after)
-box_ok result lines more before after is adds = subst (λ l. IfOk result (λ _. Adds l before after)) is adds
+pub box_ok : {A T E : Type 0} (result : Result T E) (spots more : List Spot) (before after : Canvas A)
+    → more ≡ spots → IfOk result (λ _. Adds more before after) → IfOk result (λ _. Adds spots before after)
+box_ok result spots more before after is adds = subst (λ l. IfOk result (λ _. Adds l before after)) is adds
 
-pub adds_same : {A : Type 0} (lines more : List (List ℕ)) (before after : Canvas A) → more ≡ lines → Adds more before after → Adds lines before after
-adds_same lines more before after is adds = subst (λ l. Adds l before after) is adds
+pub adds_same : {A : Type 0} (spots more : List Spot) (before after : Canvas A) → more ≡ spots → Adds more before after → Adds spots before after
+adds_same spots more before after is adds = subst (λ l. Adds l before after) is adds
+
+-- no height falls
+pub up_to : (a b c : ℕ) → a ≤ b → b ≤ c → a ≤ c
+up_to a b c low high = omega (arith, low, high)

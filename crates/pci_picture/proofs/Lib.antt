@@ -6,6 +6,10 @@ pub mod Head
 pub mod Kept
 pub mod Stacked
 pub mod Boxes
+pub mod Anys
+pub mod Marked
+pub mod Framed
+pub mod Apart
 pub mod Positions
 pub mod Titles
 pub mod Taken

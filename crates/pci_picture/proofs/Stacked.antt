@@ -1,5 +1,5 @@
 -- Runs that stand one behind the other rise with their addresses.
-use Rattle.std.proofs.Common.{arith, ◌≡◌, ◌⊎◌, ◌<◌, ◌≤◌, ◌+◌, ◌*◌, ◌^◌, max, ℕ, zero, suc, Bool, true, false, nat_lt, ltb, if◌then◌else◌, List, [], ◌∷◌, ◌++◌, length, refl, ap, sym, subst, ◌∙◌, inl, inr}
+use Rattle.std.proofs.Common.{arith, ◌≡◌, ◌⊎◌, ◌<◌, ◌≤◌, ◌+◌, ◌*◌, max, ℕ, zero, suc, Bool, true, false, nat_lt, ltb, if◌then◌else◌, List, [], ◌∷◌, ◌++◌, length, refl, ap, sym, subst, ◌∙◌, inl, inr}
 use Rattle.std.proofs.lemmas.Bool.{cases_lt, ltb-true, ltb-false}
 use Rattle.std.proofs.lemmas.Bool.Decides.{nat_tests}
 use Rattle.std.proofs.lemmas.List.{get_or_default}
@@ -169,17 +169,16 @@ more_same cuts index from top begin bottom runs cut up inside is at =
 -- one more cut
 pub more : (cuts : List Cut) (index from top begin bottom next below : ℕ) (runs new : List Run) (d : Cut)
     → IsUpTo cuts index from top begin bottom runs → IsNonDecreasingBy (λ (c : Cut). c.at) cuts → index < length cuts
-    → top + 142 * length cuts < 2 ^ 64 → next ≡ max begin (slice_index_or cuts index d).at
+    → next ≡ max begin (slice_index_or cuts index d).at
     → ((slice_index_or cuts index d).at ≤ begin → (new ≡ runs) × (below ≡ bottom))
-    → (begin < (slice_index_or cuts index d).at → bottom + 142 < 2 ^ 64
-    → IsAdded runs begin bottom (slice_index_or cuts index d).at new below)
+    → (begin < (slice_index_or cuts index d).at → IsAdded runs begin bottom (slice_index_or cuts index d).at new below)
     → IsUpTo cuts (index + 1) from top next below new
-more cuts index from top begin bottom next below runs new d up sorted inside fits is same added =
+more cuts index from top begin bottom next below runs new d up sorted inside is same added =
     let cut : Cut = slice_index_or cuts index d in
     let any : (e : Cut) → slice_index_or cuts index e ≡ cut = λ e. get_or_default cuts index e d inside in
     elim (cases_lt begin cut.at) [
       | inl less ↦ subst (λ (n : ℕ). IsUpTo cuts (index + 1) from top n below new) (omega (arith, is, less))
-          (more_added cuts index from top begin bottom below runs new cut up sorted any (added less (omega (arith, up.is_low, fits, inside))))
+          (more_added cuts index from top begin bottom below runs new cut up sorted any (added less))
       | inr not_less ↦ subst (λ (n : ℕ). IsUpTo cuts (index + 1) from top n below new) (omega (arith, is, not_less))
           (subst (λ (b : ℕ). IsUpTo cuts (index + 1) from top begin b new) (sym (same not_less).1)
           (subst (λ (r : List Run). IsUpTo cuts (index + 1) from top begin bottom r) (sym (same not_less).0)
@@ -188,13 +187,13 @@ more cuts index from top begin bottom next below runs new d up sorted inside fit
 
 -- before the first cut
 pub none_yet : (cuts : List Cut) (begin top : ℕ) → ((k : ℕ) (d : Cut) → k < length cuts → begin ≤ (slice_index_or cuts k d).at)
-    → IsUpTo cuts 0 begin top begin top []
-none_yet cuts begin top ahead = record {
+    → (runs : List Run) → runs ≡ [] → IsUpTo cuts 0 begin top begin top runs
+none_yet cuts begin top ahead runs none = subst (λ (r : List Run). IsUpTo cuts 0 begin top begin top r) (sym none) (record {
   stacked = (refl, refl);
   is_low = omega arith;
   ahead = λ k d le lt. ahead k d lt;
   placed = λ k d lt. absurd (omega arith);
-}
+})
 
 rising : (from top end bottom low high : ℕ) (runs : List Run) → AreStacked from top runs end bottom
     → Begins runs low ⊎ (low ≡ end) → Begins runs high ⊎ (high ≡ end) → low < high

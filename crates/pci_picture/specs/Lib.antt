@@ -3,7 +3,9 @@ pub mod Elements
 pub mod Whole
 pub mod Stacked
 pub mod Lines
+pub mod Spots
 pub mod Boxes
 pub mod Canvases
 pub mod Maps
 pub mod Drawings
+pub mod Cuts

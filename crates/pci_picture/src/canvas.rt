@@ -1,9 +1,10 @@
 //! The elements of a picture that were drawn so far.
 ghost use Rattle.std.specs.String.{string_bytes};
-ghost use Rattle.std.specs.Prelude.{◌≡◌, ◌++◌, ℕ, List, [], IfOk, OnOk};
+ghost use Rattle.std.specs.Prelude.{◌≡◌, ◌++◌, List, [], IfOk, OnOk};
 ghost use Rattle.pci_picture.specs.Xml.{IsContent};
 ghost use Rattle.pci_picture.specs.Whole.{IsPictureText, picture_text};
-ghost use Rattle.pci_picture.specs.Boxes.{titled_line, IsDrawnOf};
+ghost use Rattle.pci_picture.specs.Boxes.{titled, titled_spot, IsDrawnOf};
+ghost use Rattle.pci_picture.specs.Spots.{Spot};
 
 use super::elements::{Frame, push_axis, push_box, push_gap, push_tick, push_words};
 use super::memory::OutOfMemory;
@@ -78,7 +79,7 @@ impl<A: Allocator + Copy> Canvas<A> {
 
     /// Draws a box with its title.
     pub fn add_box(&mut self, shape: Shape<'_>, title: &[u8]) -> Result<(), OutOfMemory>
-        ensures { OnOk result (Adds (titled_line title.now) self.old self.new) }
+        ensures { OnOk result (Adds (titled_spot (titled shape.entry.at.y shape.entry.at.height title.now)) self.old self.new) }
     {
         self.element.clear();
         push_box(
@@ -188,8 +189,8 @@ impl<A: Allocator + Copy> Canvas<A> {
         height: u64,
     ) -> Result<String<A>, OutOfMemory>
         ensures closed { IfOk result (λ text. IsPictureText (string_bytes text)) }
-        ensures drawn { (lines : List (List ℕ)) → HasDrawn lines self.now
-            → IfOk result (λ text. IsDrawnOf lines (string_bytes text)) }
+        ensures drawn { (spots : List Spot) → HasDrawn spots self.now
+            → IfOk result (λ text. IsDrawnOf spots height (string_bytes text)) }
     {
         self.text(alloc, is_told, width, height)
     }

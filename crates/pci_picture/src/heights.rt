@@ -1,6 +1,6 @@
 //! Heights of a section: where each address stands.
 
-ghost use Rattle.std.specs.Prelude.{◌≡◌, ◌<◌, ◌≤◌, ◌+◌, ◌*◌, ◌^◌, ℕ, IfOk, length, max};
+ghost use Rattle.std.specs.Prelude.{◌≡◌, ◌<◌, ◌≤◌, ◌+◌, ◌-◌, ◌*◌, ◌^◌, ℕ, IfOk, length, max};
 ghost use Rattle.std.specs.List.{slice_index_or};
 ghost use Rattle.std.specs.List.Sorted.{IsNonDecreasingBy};
 ghost use Rattle.pci_picture.specs.declared.heights.Cut.{Cut};
@@ -73,6 +73,9 @@ impl<A: Allocator + Copy> Heights<A> {
             × (self.new.bottom ≡ self.old.bottom)) }
         ensures added { begin < cut → self.old.bottom + 142 < 2 ^ 64 → IfOk result (λ _.
             IsAdded self.old.runs.items begin self.old.bottom cut self.new.runs.items self.new.bottom) }
+        ensures uncut { begin < cut → IfOk result (λ _. self.new.bottom < 2 ^ 64 - 1 →
+            IsAdded self.old.runs.items begin self.old.bottom cut self.new.runs.items self.new.bottom) }
+        ensures down { IfOk result (λ _. self.old.bottom ≤ self.new.bottom) }
     {
         if cut <= begin {
             return Ok(begin);
@@ -97,8 +100,12 @@ impl<A: Allocator + Copy> Heights<A> {
     pub fn of(alloc: A, cuts: &[Cut], base: u32, top: u64) -> Result<Heights<A>, OutOfMemory>
         requires { base ≤ 12 }
         // `top` and 142 units for each cut have to fit in 64 bits
-        ensures { IsNonDecreasingBy (λ cut. cut.at) cuts.now → top + 142 * length cuts.now < 2 ^ 64
+        ensures fits { IsNonDecreasingBy (λ cut. cut.at) cuts.now → top + 142 * length cuts.now < 2 ^ 64
             → IfOk result (λ heights. AreHeights cuts.now heights.runs.items heights.bottom) }
+        // or the bottom was not cut off at 64 bits
+        ensures uncut { IsNonDecreasingBy (λ cut. cut.at) cuts.now → IfOk result (λ heights.
+            heights.bottom < 2 ^ 64 - 1 → AreHeights cuts.now heights.runs.items heights.bottom) }
+        ensures down { IfOk result (λ heights. top ≤ heights.bottom) }
     {
         let mut heights = Heights {
             runs: Vec::new(alloc),

@@ -12,6 +12,7 @@ pub mod faults;
 pub mod function;
 pub mod heights;
 pub mod lanes;
+pub mod laws;
 pub mod legend;
 pub mod map;
 pub mod memory;

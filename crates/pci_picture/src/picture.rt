@@ -1,11 +1,12 @@
 //! The picture of a board.
-ghost use Rattle.std.specs.Prelude.{◌<◌, ◌≤◌, [], ◌∷◌, length, IfOk, OnOk};
+ghost use Rattle.std.specs.Prelude.{◌≡◌, ◌<◌, ◌≤◌, [], ◌∷◌, length, IfOk, OnOk};
 ghost use Rattle.std.specs.List.Sorted.{IsPermutation};
 ghost use Rattle.std.specs.String.{string_bytes};
 ghost use Rattle.pci_picture.specs.Boxes.{IsPictureOf};
-ghost use Rattle.pci_picture.specs.Canvases.{Adds};
-ghost use Rattle.pci_picture.specs.Drawings.{AddsSome};
+ghost use Rattle.pci_picture.specs.Canvases.{Adds, AddsSome};
+ghost use Rattle.pci_picture.specs.Drawings.{AreOfSections};
 ghost use Rattle.pci_picture.specs.Maps.{lines_of, regions_under, regions_of};
+ghost use Rattle.pci_picture.specs.Spots.{lines_drawn, spot_at};
 ghost use Rattle.pci_picture.specs.Whole.{IsPictureText};
 
 use super::board::{Board, Texts};
@@ -180,8 +181,9 @@ fn draw_sections<A: Allocator + Copy>(
     board: &Board<'_, A>,
     first: &Site,
 ) -> Result<u64, OutOfMemory>
-    ensures { IfOk result (λ _. AddsSome
-        (lines_of (regions_under board.entry.now.map.lines.items)) canvas.old canvas.new) }
+    ensures drawn { IfOk result (λ end. AddsSome
+        (AreOfSections (lines_of (regions_under board.entry.now.map.lines.items)) end) canvas.old canvas.new) }
+    ensures down { IfOk result (λ end. first.now.y ≤ end) }
 {
     let sorted = members(alloc, board)?;
     let members = sorted.as_slice();
@@ -207,7 +209,9 @@ fn draw_off<A: Allocator + Copy>(
     board: &Board<'_, A>,
     site: &Site,
 ) -> Result<u64, OutOfMemory>
-    ensures { IfOk result (λ _. Adds (lines_of board.entry.now.map.off.items) canvas.old canvas.new) }
+    ensures drawn { IfOk result (λ _. AddsSome
+        (λ spots. lines_drawn spots ≡ lines_of board.entry.now.map.off.items) canvas.old canvas.new) }
+    ensures down { IfOk result (λ end. site.now.y ≤ end) }
 {
     let mut y = site.y;
     let off = board.map.off.as_slice();
@@ -236,7 +240,7 @@ fn draw_off_row<A: Allocator + Copy>(
     region: &Region<'_>,
     site: &Site,
 ) -> Result<(), OutOfMemory>
-    ensures { OnOk result (Adds (region.entry.now.line.now ∷ []) canvas.old canvas.new) }
+    ensures { OnOk result (Adds (spot_at site.now.y 13 region.entry.now.line.now ∷ []) canvas.old canvas.new) }
 {
     let x = site.x.saturating_add(AXIS);
     let at = Frame {
@@ -266,6 +270,13 @@ fn draw_off_row<A: Allocator + Copy>(
     canvas.add_cut(label, &mut words, site.width)
 }
 
+/// The height of a picture whose lists and whose tree end so.
+fn bottom_of(end: u64, tree_end: u64) -> u64
+    ensures { end ≤ result }
+{
+    end.max(tree_end).saturating_add(MARGIN)
+}
+
 /// The picture of a board as SVG, of the texts that `show`, `map` and `faults --why` print of it. Lines that
 /// none of these commands prints are left out.
 pub fn picture_of<A: Allocator + Copy>(
@@ -274,7 +285,8 @@ pub fn picture_of<A: Allocator + Copy>(
 ) -> Result<String<A>, OutOfMemory>
     // no byte of a title or of another text becomes markup
     ensures closed { IfOk result (λ text. IsPictureText (string_bytes text)) }
-    // each line of the map that is a region is the first line of the title of exactly one box
+    // each line of the map that is a region is the first line of the title of exactly one box, which stands where the
+    // heights of its section have its addresses
     ensures drawn { IfOk result (λ text. IsPictureOf texts.entry.now.map.now (string_bytes text)) }
 {
     let board = Board::read(alloc, texts)?;
@@ -306,6 +318,6 @@ pub fn picture_of<A: Allocator + Copy>(
     let right = (x + AXIS + MARGIN)
         .saturating_add(width)
         .max(legend.saturating_add(140));
-    let bottom = end.max(tree_end).saturating_add(MARGIN);
+    let bottom = bottom_of(end, tree_end);
     canvas.finish(alloc, is_told, right, bottom)
 }

@@ -1,15 +1,18 @@
 //! Where each part of a section stands: its heights, the widths of its lines, and the ranges that its faults tell.
 
-ghost use Rattle.std.specs.Prelude.{◌≡◌, ◌++◌, IfOk, OnOk};
+ghost use Rattle.std.specs.Prelude.{◌≡◌, ◌<◌, ◌≤◌, ◌-◌, ◌^◌, ◌++◌, IfOk, OnOk, true, false};
+ghost use Rattle.std.specs.List.{All};
 ghost use Rattle.std.specs.List.Sorted.{IsNonDecreasingBy};
-ghost use Rattle.pci_picture.specs.Maps.{regions_of, regions_at};
+ghost use Rattle.pci_picture.specs.Cuts.{AddsEnds, IsCut, KeepsCuts};
+ghost use Rattle.pci_picture.specs.Drawings.{ArePlanned};
+ghost use Rattle.pci_picture.specs.Maps.{lines_of, regions_of, regions_at};
 
 use super::faults::Faults;
 use super::heights::{Cut, Heights};
 use super::lanes::{Width, widths};
 use super::memory::OutOfMemory;
 use super::reading::{extent_of, word};
-use super::region::{Part, Region};
+use super::region::Region;
 use std::alloc::Allocator;
 
 /// The width of the axis.
@@ -199,7 +202,9 @@ fn tellings_of<A: Allocator + Copy>(
 fn push_cuts<A: Allocator + Copy>(
     cuts: &mut Vec<Cut, A>,
     ranges: &[Told],
-) -> Result<(), OutOfMemory> {
+) -> Result<(), OutOfMemory>
+    ensures { OnOk result (KeepsCuts cuts.old.items cuts.new.items) }
+{
     for range in ranges {
         let first = u128::from(range.first);
         let end = u128::from(range.last) + 1;
@@ -217,9 +222,11 @@ fn push_ends<A: Allocator + Copy>(
     cuts: &mut Vec<Cut, A>,
     regions: &[Region<'_>],
     of_windows: bool,
-) -> Result<(), OutOfMemory> {
+) -> Result<(), OutOfMemory>
+    ensures { OnOk result (AddsEnds of_windows regions.entry.now cuts.old.items cuts.new.items) }
+{
     for region in regions {
-        if (region.part == Part::Window) == of_windows {
+        if region.is_window() == of_windows {
             let end = u128::from(region.last) + 1;
             cuts.push(Cut { at: end, end })?;
         }
@@ -233,7 +240,8 @@ fn cuts_of<A: Allocator + Copy>(
     regions: &[Region<'_>],
     tellings: &Tellings<A>,
 ) -> Result<Vec<Cut, A>, OutOfMemory>
-    ensures { IfOk result (λ cuts. IsNonDecreasingBy (λ cut. cut.at) cuts.items) }
+    ensures sorted { IfOk result (λ cuts. IsNonDecreasingBy (λ cut. cut.at) cuts.items) }
+    ensures ends { IfOk result (λ cuts. All (IsCut cuts.items) regions.entry.now) }
 {
     let mut cuts = Vec::new(alloc);
     for region in regions {
@@ -269,7 +277,10 @@ impl<'a, A: Allocator + Copy> Plan<'a, A> {
         site: &Site,
         members: &[Member<'a>],
     ) -> Result<Plan<'a, A>, OutOfMemory>
-        ensures { IfOk result (λ plan. regions_at plan.placed.items ≡ regions_of members.entry.now) }
+        ensures placed { IfOk result (λ plan. regions_at plan.placed.items ≡ regions_of members.entry.now) }
+        ensures planned { IfOk result (λ plan. plan.heights.bottom < 2 ^ 64 - 1
+            → ArePlanned (lines_of (regions_of members.entry.now)) plan.heights.runs.items plan.heights.bottom) }
+        ensures down { IfOk result (λ plan. site.now.y ≤ plan.heights.bottom) }
     {
         let regions = regions_of(alloc, members)?;
         let every = regions.as_slice();

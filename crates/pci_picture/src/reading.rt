@@ -1,5 +1,6 @@
 //! Words, numbers and slots of a line.
 ghost use Rattle.std.specs.Prelude.{◌≡◌, ◌≤◌, ◌<◌, length, is_some, IfSome};
+ghost use Rattle.pci_picture.specs.Spots.{IsExtent};
 ghost use Rattle.pci_picture.specs.Lines.{indent_of, content_of, words_of, nth_word, digit_of, number_of, decimal_digit_of, decimal_number, is_register, is_slot, is_range, is_told_number};
 
 use std::simd::prelude::*;
@@ -216,7 +217,8 @@ pub struct Extent {
 /// The range of a word `F-L`.
 #[tactic(auto, unfolding(crate::specs::Lines::is_range))]
 pub fn extent_of(text: &[u8]) -> Option<Extent>
-    ensures { is_some result ≡ is_range text.now }
+    ensures some { is_some result ≡ is_range text.now }
+    ensures ends { IfSome result (λ extent. IsExtent text.now extent.first extent.last) }
 {
     let dash = text.iter().position(|byte| *byte == b'-')?;
     let first = hex_number(&text[..dash])?;

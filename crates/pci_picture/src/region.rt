@@ -1,6 +1,7 @@
 //! Lines of a map.
 ghost use Rattle.std.specs.Prelude.{◌≡◌, ◌&&◌, [], ◌∷◌, IsTrue, MatchOption, is_some, codes, if◌then◌else◌};
 ghost use Rattle.pci_picture.specs.Lines.{is_one_line, is_part, is_region_line, is_register, is_slot, is_told_number, names_told, nth_word, region_line, says, words_of};
+ghost use Rattle.pci_picture.specs.Spots.{IsExtent};
 
 use super::reading::{Place, extent_of, hex_byte, region_key, slot_number, told_number, word};
 
@@ -40,9 +41,19 @@ pub struct Region<'a> {
     pub depth: usize,
     ghost is_one_line: { IsTrue (is_one_line line.now) },
     ghost is_told: { IsTrue (is_region_line line.now) },
+    ghost ends: { IsExtent (nth_word (words_of line.now) 0) first last },
 }
 
 impl Region<'_> {
+    ghost use Rattle.pci_picture.specs.Cuts.{is_window};
+
+    /// Whether it is a window of a bridge.
+    pub fn is_window(&self) -> bool
+        ensures { result ≡ is_window self.entry.now.part }
+    {
+        matches!(self.part, Part::Window)
+    }
+
     /// Whether it is told beside the registers.
     pub fn is_told_range(&self) -> bool {
         self.part == Part::Told || self.part == Part::Held

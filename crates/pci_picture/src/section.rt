@@ -1,7 +1,11 @@
 //! A section of a map: its axis, its boxes, and the ranges that its faults tell.
-ghost use Rattle.std.specs.Prelude.{[], ◌∷◌, IfOk, OnOk};
-ghost use Rattle.pci_picture.specs.Canvases.{Adds};
+ghost use Rattle.std.specs.Prelude.{◌≤◌, [], ◌∷◌, IfOk, OnOk};
+ghost use Rattle.std.specs.List.Sorted.{IsNonDecreasingBy};
+ghost use Rattle.pci_picture.specs.Canvases.{Adds, AddsSome};
+ghost use Rattle.pci_picture.specs.Drawings.{AreFramed, AreOfSection, IsFramed};
 ghost use Rattle.pci_picture.specs.Maps.{lines_of, regions_of, regions_at};
+ghost use Rattle.pci_picture.specs.Spots.{spot_at};
+ghost use Rattle.pci_picture.specs.Stacked.{height_at};
 
 use super::board::Board;
 use super::canvas::{Canvas, Label, Shape};
@@ -163,7 +167,7 @@ fn draw_box<A: Allocator + Copy>(
     placed: &Placed<'_>,
     at: Frame,
 ) -> Result<(), OutOfMemory>
-    ensures { OnOk result (Adds (placed.entry.now.region.line.now ∷ []) canvas.old canvas.new) }
+    ensures { OnOk result (Adds (spot_at at.y at.height placed.entry.now.region.line.now ∷ []) canvas.old canvas.new) }
 {
     let region = &placed.region;
     let class = class_of(&board.faults, region, placed.is_lost);
@@ -260,7 +264,11 @@ fn write_buses<A: Allocator + Copy>(
 }
 
 /// Where the box of a region stands.
-fn frame_of<A: Allocator + Copy>(heights: &Heights<A>, placed: &Placed<'_>) -> Frame {
+fn frame_of<A: Allocator + Copy>(heights: &Heights<A>, placed: &Placed<'_>) -> Frame
+    ensures { IsNonDecreasingBy (λ run. run.begin) heights.now.runs.items
+        → IsFramed (height_at heights.now.runs.items heights.now.bottom)
+        placed.entry.now.region.first placed.entry.now.region.last result.y result.height }
+{
     let y = heights.y(u128::from(placed.region.first));
     let end = heights.y(u128::from(placed.region.last) + 1);
     let width = placed
@@ -421,7 +429,8 @@ fn draw_regions<A: Allocator + Copy>(
     board: &Board<'_, A>,
     plan: &Plan<'_, A>,
 ) -> Result<(), OutOfMemory>
-    ensures { OnOk result (Adds (lines_of (regions_at plan.entry.now.placed.items)) canvas.old canvas.new) }
+    ensures { OnOk result (AddsSome (AreFramed (lines_of (regions_at plan.entry.now.placed.items))
+        plan.entry.now.heights.runs.items plan.entry.now.heights.bottom) canvas.old canvas.new) }
 {
     for placed in &plan.placed {
         let at = frame_of(&plan.heights, placed);
@@ -468,6 +477,13 @@ fn write_heading<A: Allocator + Copy>(
     canvas.add_heading(label, heading.bytes.as_slice())
 }
 
+/// Where a section ends whose last address stands at a height.
+fn end_of(bottom: u64) -> u64
+    ensures { bottom ≤ result }
+{
+    bottom.saturating_add(30)
+}
+
 /// Draws a section. Its answer is where it ends.
 pub fn draw_section<A: Allocator + Copy>(
     alloc: A,
@@ -476,7 +492,9 @@ pub fn draw_section<A: Allocator + Copy>(
     site: &Site,
     members: &[Member<'_>],
 ) -> Result<u64, OutOfMemory>
-    ensures { IfOk result (λ _. Adds (lines_of (regions_of members.entry.now)) canvas.old canvas.new) }
+    ensures drawn { IfOk result (λ end. AddsSome (AreOfSection (lines_of (regions_of members.entry.now)) end)
+        canvas.old canvas.new) }
+    ensures down { IfOk result (λ end. site.now.y ≤ end) }
 {
     write_heading(alloc, canvas, site)?;
     let plan = Plan::of(alloc, &board.faults, site, members)?;
@@ -487,5 +505,5 @@ pub fn draw_section<A: Allocator + Copy>(
     draw_axis(alloc, canvas, site, every.as_slice(), &plan.heights)?;
     draw_regions(alloc, canvas, board, &plan)?;
     draw_tellings(alloc, canvas, board, &plan)?;
-    Ok(plan.heights.bottom.saturating_add(30))
+    Ok(end_of(plan.heights.bottom))
 }

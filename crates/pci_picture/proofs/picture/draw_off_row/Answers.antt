@@ -1,9 +1,12 @@
-use Rattle.std.proofs.Common.{ap, ◌∙◌}
+use Rattle.std.proofs.Common.{ap, ◌∙◌, map}
 use Rattle.pci_picture.specs.Boxes.{titled_line}
+use Rattle.pci_picture.specs.Spots.{spot_at}
 use Rattle.pci_picture.proofs.Boxes.{keep_ok, adds_same}
 use Rattle.pci_picture.proofs.picture.draw_off_row.Goals as goal
 
 pub returns : goal.returns
 returns g c =
     keep_ok c.add_cut.result _ _ _ _
-    (adds_same _ _ _ _ (ap titled_line c.as_slice-lines.ensures.value ∙ c.in_ok-title.ensures) c.in_ok-add_box.ensures) c.add_cut.ensures
+    (adds_same _ _ _ _
+    (ap (λ t. map (spot_at c.args.site.now.y 13) (titled_line t)) c.as_slice-lines.ensures.value
+    ∙ ap (map (spot_at c.args.site.now.y 13)) c.in_ok-title.ensures) c.in_ok-add_box.ensures) c.add_cut.ensures

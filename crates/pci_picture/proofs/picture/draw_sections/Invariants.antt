@@ -1,12 +1,14 @@
 use Rattle.std.proofs.Common.{◌≤◌, ◌-◌, length, take}
-use Rattle.pci_picture.specs.Canvases.{Adds}
+use Rattle.pci_picture.specs.Canvases.{AddsSome}
+use Rattle.pci_picture.specs.Drawings.{AreOfSections}
 use Rattle.pci_picture.specs.Maps.{lines_of, regions_of}
 use Rattle.pci_picture.proofs.picture.draw_sections.Given as goal
 
 abbrev pub invariant-loop-begin : goal.invariant-loop-begin
 invariant-loop-begin g l = record {
   within : l.begin ≤ length l.members;
-  adds : Adds (lines_of (regions_of (take l.begin l.members))) l.initial.canvas l.canvas;
+  down : l.first.y ≤ l.y;
+  adds : AddsSome (AreOfSections (lines_of (regions_of (take l.begin l.members))) l.y) l.initial.canvas l.canvas;
 }
 
 abbrev pub decreases-loop-begin : goal.decreases-loop-begin

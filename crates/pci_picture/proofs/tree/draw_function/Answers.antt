@@ -1,7 +1,10 @@
-use Rattle.std.proofs.Common.{[]}
+use Rattle.std.proofs.Common.{[], ap, map}
+use Rattle.pci_picture.specs.Spots.{spot_at}
 use Rattle.pci_picture.proofs.Boxes.{box_ok}
 use Rattle.pci_picture.proofs.Titles.{slot_title}
 use Rattle.pci_picture.proofs.tree.draw_function.Goals as goal
 
 pub returns : goal.returns
-returns g c = box_ok c.add_box.result [] _ _ _ (slot_title c.args.function.now.slot.now c.args.function.now.is_slot) c.add_box.ensures
+returns g c =
+    box_ok c.add_box.result [] _ _ _
+    (ap (map (spot_at c.args.y 9)) (slot_title c.args.function.now.slot.now c.args.function.now.is_slot)) c.add_box.ensures

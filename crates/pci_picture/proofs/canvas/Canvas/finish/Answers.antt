@@ -8,6 +8,6 @@ pub returns : goal.returns
 returns g c = record {
   closed = finished c.text.result (λ text. string_bytes text) c.args.is_told (string_bytes c.args.self.now.boxes) (string_bytes c.args.self.now.words) c.args.width c.args.height
       (omega arith) (omega arith) c.args.self.now.boxes_closed c.args.self.now.words_closed c.text.ensures;
-  drawn = λ lines drawn. drawn_of c.text.result (λ text. string_bytes text) c.args.is_told (string_bytes c.args.self.now.boxes) (string_bytes c.args.self.now.words) c.args.width c.args.height
-      lines drawn c.text.ensures;
+  drawn = λ spots drawn. drawn_of c.text.result (λ text. string_bytes text) c.args.is_told (string_bytes c.args.self.now.boxes) (string_bytes c.args.self.now.words) c.args.width c.args.height
+      spots drawn c.text.ensures;
 }

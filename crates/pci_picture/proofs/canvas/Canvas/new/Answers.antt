@@ -1,5 +1,5 @@
 use Rattle.std.specs.String.{string_bytes}
-use Rattle.pci_picture.proofs.Boxes.{none_lines, none_titles}
+use Rattle.pci_picture.proofs.Boxes.{none_spots, none_titles}
 use Rattle.pci_picture.proofs.Kept.{none_drawn}
 use Rattle.pci_picture.proofs.canvas.Canvas.new.Goals as goal
 
@@ -11,6 +11,6 @@ invariant_of-result g c = record {
 
 pub returns : goal.returns
 returns g c = record {
-  in_boxes = none_lines (string_bytes c.new.result) c.new.ensures.bytes;
+  in_boxes = none_spots (string_bytes c.new.result) c.new.ensures.bytes;
   in_words = none_titles (string_bytes c.new-2.result) c.new-2.ensures.bytes;
 }

@@ -1,0 +1,34 @@
+-- Which addresses are cuts.
+use Rattle.std.specs.Prelude.{◌≡◌, ◌+◌, ℕ, Bool, true, false, List}
+use Rattle.std.specs.List.{All, Any}
+use Rattle.pci_picture.specs.declared.heights.Cut.{Cut}
+use Rattle.pci_picture.specs.declared.region.Part.{Part}
+use Rattle.pci_picture.specs.declared.region.Part.TheVariants.{Bar, Prefetchable, Rom, Window, Told, Held, Free}
+use Rattle.pci_picture.specs.declared.region.Region.{Region}
+
+-- an address is a cut
+abbrev pub HasCut : List Cut → ℕ → Type 0
+HasCut cuts address = Any (λ cut. cut.at ≡ address) cuts
+
+-- what is a cut stays one
+abbrev pub KeepsCuts : List Cut → List Cut → Type 0
+KeepsCuts old new = (address : ℕ) → HasCut old address → HasCut new address
+
+-- the first address of a region and the one past its last are cuts
+pub record IsCut (cuts : List Cut) (region : Region) : Type 0 where
+  pub begins : HasCut cuts region.first
+  pub ends : HasCut cuts (region.last + 1)
+
+abbrev pub is_window : Part → Bool
+is_window Bar = false
+is_window Prefetchable = false
+is_window Rom = false
+is_window Window = true
+is_window Told = false
+is_window Held = false
+is_window Free = false
+
+-- the addresses past the last ones of windows, or of all others, became cuts
+pub record AddsEnds (of_windows : Bool) (regions : List Region) (old new : List Cut) : Type 0 where
+  pub kept : KeepsCuts old new
+  pub ends : All (λ region. is_window region.part ≡ of_windows → HasCut new (region.last + 1)) regions
