@@ -270,7 +270,7 @@ fn draw_off_row<A: Allocator + Copy>(
     canvas.add_cut(label, &mut words, site.width)
 }
 
-/// The height of a picture whose lists and whose tree end so.
+/// The height of a picture, of where its sections and lists end and where its tree ends.
 fn bottom_of(end: u64, tree_end: u64) -> u64
     ensures { end ≤ result }
 {
@@ -285,8 +285,8 @@ pub fn picture_of<A: Allocator + Copy>(
 ) -> Result<String<A>, OutOfMemory>
     // no byte of a title or of another text becomes markup
     ensures closed { IfOk result (λ text. IsPictureText (string_bytes text)) }
-    // each line of the map that is a region is the first line of the title of exactly one box, which stands where the
-    // heights of its section have its addresses
+    // each line of the map that is a region is the first line of the title of exactly one box, and in each section the
+    // boxes stand at the heights of their addresses
     ensures drawn { IfOk result (λ text. IsPictureOf texts.entry.now.map.now (string_bytes text)) }
 {
     let board = Board::read(alloc, texts)?;

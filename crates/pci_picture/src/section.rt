@@ -477,7 +477,7 @@ fn write_heading<A: Allocator + Copy>(
     canvas.add_heading(label, heading.bytes.as_slice())
 }
 
-/// Where a section ends whose last address stands at a height.
+/// Where a section ends, of the height below its last address.
 fn end_of(bottom: u64) -> u64
     ensures { bottom ≤ result }
 {
