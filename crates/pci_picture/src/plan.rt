@@ -4,9 +4,11 @@ ghost use Rattle.std.specs.Prelude.{◌≡◌, ◌<◌, ◌≤◌, ◌-◌, ◌^
 ghost use Rattle.std.specs.List.{All};
 ghost use Rattle.std.specs.List.Sorted.{IsNonDecreasingBy};
 ghost use Rattle.pci_picture.specs.Cuts.{AddsEnds, IsCut, KeepsCuts};
-ghost use Rattle.pci_picture.specs.Drawings.{ArePlanned};
+ghost use Rattle.pci_picture.specs.Drawings.{ArePlanned, IsFramed};
 ghost use Rattle.pci_picture.specs.Maps.{lines_of, regions_of, regions_at};
+ghost use Rattle.pci_picture.specs.Stacked.{height_at};
 
+use super::elements::Frame;
 use super::faults::Faults;
 use super::heights::{Cut, Heights};
 use super::lanes::{Width, widths};
@@ -377,4 +379,25 @@ fn place<'a, A: Allocator + Copy>(
         })?;
     }
     Ok(())
+}
+
+/// Where the box of a region stands.
+pub fn frame_of<A: Allocator + Copy>(heights: &Heights<A>, placed: &Placed<'_>) -> Frame
+    ensures { IsNonDecreasingBy (λ run. run.begin) heights.now.runs.items
+        → IsFramed (height_at heights.now.runs.items heights.now.bottom)
+        placed.entry.now.region.first placed.entry.now.region.last result.y result.height }
+{
+    let y = heights.y(u128::from(placed.region.first));
+    let end = heights.y(u128::from(placed.region.last) + 1);
+    let width = placed
+        .width
+        .right
+        .saturating_sub(placed.width.left)
+        .saturating_sub(2);
+    Frame {
+        x: placed.width.left,
+        y,
+        width: width.max(1),
+        height: end.saturating_sub(y).saturating_sub(1),
+    }
 }

@@ -1,11 +1,9 @@
 //! A section of a map: its axis, its boxes, and the ranges that its faults tell.
 ghost use Rattle.std.specs.Prelude.{◌≤◌, [], ◌∷◌, IfOk, OnOk};
-ghost use Rattle.std.specs.List.Sorted.{IsNonDecreasingBy};
 ghost use Rattle.pci_picture.specs.Canvases.{Adds, AddsSome};
-ghost use Rattle.pci_picture.specs.Drawings.{AreFramed, AreOfSection, IsFramed};
+ghost use Rattle.pci_picture.specs.Drawings.{AreFramed, AreOfSection};
 ghost use Rattle.pci_picture.specs.Maps.{lines_of, regions_of, regions_at};
 ghost use Rattle.pci_picture.specs.Spots.{spot_at};
-ghost use Rattle.pci_picture.specs.Stacked.{height_at};
 
 use super::board::Board;
 use super::canvas::{Canvas, Label, Shape};
@@ -14,7 +12,7 @@ use super::faults::{Fault, Faults};
 use super::heights::{Heights, LINE, Run};
 use super::lanes::Width;
 use super::memory::OutOfMemory;
-use super::plan::{AXIS, Member, Placed, Plan, Site, Told, with_key};
+use super::plan::{AXIS, Member, Placed, Plan, Site, Told, frame_of, with_key};
 use super::region::{Part, Region};
 use super::words::{Words, hex_digits};
 use std::alloc::Allocator;
@@ -261,27 +259,6 @@ fn write_buses<A: Allocator + Copy>(
         class: b"quiet",
     };
     canvas.add_cut(label, &mut words, room)
-}
-
-/// Where the box of a region stands.
-fn frame_of<A: Allocator + Copy>(heights: &Heights<A>, placed: &Placed<'_>) -> Frame
-    ensures { IsNonDecreasingBy (λ run. run.begin) heights.now.runs.items
-        → IsFramed (height_at heights.now.runs.items heights.now.bottom)
-        placed.entry.now.region.first placed.entry.now.region.last result.y result.height }
-{
-    let y = heights.y(u128::from(placed.region.first));
-    let end = heights.y(u128::from(placed.region.last) + 1);
-    let width = placed
-        .width
-        .right
-        .saturating_sub(placed.width.left)
-        .saturating_sub(2);
-    Frame {
-        x: placed.width.left,
-        y,
-        width: width.max(1),
-        height: end.saturating_sub(y).saturating_sub(1),
-    }
 }
 
 /// Draws a box that is about a fault, with the lines of the fault as its title.
