@@ -13,7 +13,8 @@ use pci_model::words::VgaWord;
 use pci_tree::admit::admit_with;
 use pci_tree::roots::Roots;
 use std::alloc::Global;
-use test_support::board::{Function, Texts, texts_of};
+use test_support::board::Texts;
+use test_support::row::{Row, texts_of_rows};
 
 /// What a test gives beside a board.
 #[derive(Clone, Copy)]
@@ -90,14 +91,8 @@ fn lines_of(alloc: Global, texts: &Texts, roots: Roots, said: Said<'_>) -> Optio
 }
 
 /// Whether all faults of judging of a board, with what is said, have these lines.
-pub fn has_lines(
-    alloc: Global,
-    board: &[Function],
-    roots: &[u8],
-    said: Said<'_>,
-    wanted: &str,
-) -> bool {
-    match (texts_of(alloc, board), Roots::of(roots)) {
+pub fn has_lines(alloc: Global, board: &[Row], roots: &[u8], said: Said<'_>, wanted: &str) -> bool {
+    match (texts_of_rows(alloc, board), Roots::of(roots)) {
         (Ok(texts), Some(roots)) => match lines_of(alloc, &texts, roots, said) {
             Some(lines) => lines.as_str() == wanted,
             None => false,
