@@ -8,8 +8,8 @@ use Rattle.pci_spec.specs.Text.{hex_byte, slot_text}
 use Rattle.pci_spec.specs.System.{Space, Io, Memory}
 use Rattle.pci_spec.specs.Line.{field, address_text, fault_text}
 use Rattle.pci_spec.specs.Fault.{Fault, NoVendor, HeaderKind, BarType, BarMask, BarPair, RomMask, WindowMask, CapRange, CapLoop, CapCut, SlotsDiffer, StrayProbe, LoneFunction, PaletteSnoop, VgaEnable, IsaEnable, Subtractive, InReset, PowerState, BusRange, Orphan, Unreached, Clash, Split}
-use Rattle.given_spec.specs.Fault as given
-use Rattle.given_spec.specs.Line as given_line
+use Rattle.judge_spec.specs.Fault as given
+use Rattle.judge_spec.specs.Line as given_line
 use Rattle.pci_json.specs.Lines.{parts_of, put_front, lines_of, content_of, is_inner, behind}
 use Rattle.pci_json.specs.Members.{object_of}
 use Rattle.pci_json.specs.Faults.{fault_members}

@@ -8,8 +8,8 @@ use Rattle.pci_spec.specs.Text.{hex_byte, slot_text}
 use Rattle.pci_spec.specs.System.{Space, Io, Memory}
 use Rattle.pci_spec.specs.Line.{space_text, address_text, fault_name, fault_text}
 use Rattle.pci_spec.specs.Fault.{Fault, fault_number, NoVendor, HeaderKind, BarType, BarMask, BarPair, RomMask, WindowMask, CapRange, CapLoop, CapCut, SlotsDiffer, StrayProbe, LoneFunction, PaletteSnoop, VgaEnable, IsaEnable, Subtractive, InReset, PowerState, BusRange, Orphan, Unreached, Clash, Split}
-use Rattle.given_spec.specs.Fault as given
-use Rattle.given_spec.specs.Line as given_line
+use Rattle.judge_spec.specs.Fault as given
+use Rattle.judge_spec.specs.Line as given_line
 use Rattle.pci_json.specs.Lines.{behind, word}
 use Rattle.pci_json.specs.Members.{hex, count, object_of, array_of, line_number, register_or_line}
 use Rattle.pci_json.specs.Faults.{slot_members, unreached_members, clash_members, split_members, outside_members}

@@ -12,7 +12,7 @@ use Rattle.pci_spec.specs.Slot.{Slot}
 use Rattle.pci_spec.specs.Text.{hex_digit, hex_byte, slot_text}
 use Rattle.pci_spec.specs.System.{Space, Io, Memory}
 use Rattle.pci_spec.specs.Line.{field, hex_number, space_text, address_text}
-use Rattle.given_spec.specs.ToldLine.{register_text}
+use Rattle.judge_spec.specs.ToldLine.{register_text}
 use Rattle.pci_json.specs.Lines.{is_blank, behind, word, digit_value, next_value, value_of}
 use Rattle.pci_json.specs.Members.{is_line}
 

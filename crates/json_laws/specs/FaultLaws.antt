@@ -3,10 +3,10 @@ use Rattle.std.specs.Prelude.{◌≡◌, ◌≤◌, ◌+◌, ℕ, ⊤, List, map
 use Rattle.std.specs.List.{All}
 use Rattle.pci_spec.specs.Fault.{Fault, Unreached, Clash, Split}
 use Rattle.pci_spec.specs.Line.{fault_text}
-use Rattle.given_spec.specs.Fault as given
-use Rattle.given_spec.specs.Line as given_line
-use Rattle.given_spec.specs.ToldFault as told
-use Rattle.given_spec.specs.ToldLine as told_line
+use Rattle.judge_spec.specs.Fault as given
+use Rattle.judge_spec.specs.Line as given_line
+use Rattle.judge_spec.specs.ToldFault as told
+use Rattle.judge_spec.specs.ToldLine as told_line
 use Rattle.pci_json.specs.Lines.{lines_of}
 use Rattle.pci_json.specs.Members.{object_of}
 use Rattle.pci_json.specs.Faults.{fault_members}

@@ -6,10 +6,10 @@ use Rattle.pci_spec.specs.Text.{hex_byte, slot_text}
 use Rattle.pci_spec.specs.System.{Space}
 use Rattle.pci_spec.specs.Line.{space_text, address_text, fault_name, fault_text}
 use Rattle.pci_spec.specs.Fault.{Fault, fault_number, NoVendor, HeaderKind, BarType, BarMask, BarPair, RomMask, WindowMask, CapRange, CapLoop, CapCut, SlotsDiffer, StrayProbe, LoneFunction, PaletteSnoop, VgaEnable, IsaEnable, Subtractive, InReset, PowerState, BusRange, Orphan, Unreached, Clash, Split}
-use Rattle.given_spec.specs.Fault as given
-use Rattle.given_spec.specs.Line as given_line
-use Rattle.given_spec.specs.ToldFault as told
-use Rattle.given_spec.specs.ToldLine as told_line
+use Rattle.judge_spec.specs.Fault as given
+use Rattle.judge_spec.specs.Line as given_line
+use Rattle.judge_spec.specs.ToldFault as told
+use Rattle.judge_spec.specs.ToldLine as told_line
 use Rattle.pci_json.specs.Members.{hex, count, object_of, array_of}
 
 abbrev pub slot_value : List ℕ → Slot → List (List ℕ × Json)

@@ -21,13 +21,13 @@ use Rattle.pci_base.specs.declared.range.Range.{Range}
 use Rattle.pci_tree.specs.Ranges.{Covers}
 use Rattle.pci_tree.specs.Outline.{Tree}
 use Rattle.pci_tree.specs.Trees.{HasTree}
-use Rattle.given_spec.specs.Given.{Given, starts}
-use Rattle.given_spec.specs.Claims.{Gets}
-use Rattle.given_spec.specs.Claims as untold
-use Rattle.given_spec.specs.Told.{ToldRange, IsTold, IsToldRange}
-use Rattle.given_spec.specs.ToldClaims.{Told, ClaimsOnBus, RangeClaimsOnBus, is_held, is_held_from, is_marked_held, is_range_on, may_share}
-use Rattle.given_spec.proofs.Naming.{named_register}
-use Rattle.given_spec.proofs.ToldAdds.{low_not_held, told_claim_addresses}
+use Rattle.judge_spec.specs.Given.{Given, starts}
+use Rattle.judge_spec.specs.Claims.{Gets}
+use Rattle.judge_spec.specs.Claims as untold
+use Rattle.judge_spec.specs.Told.{ToldRange, IsTold, IsToldRange}
+use Rattle.judge_spec.specs.ToldClaims.{Told, ClaimsOnBus, RangeClaimsOnBus, is_held, is_held_from, is_marked_held, is_range_on, may_share}
+use Rattle.judge_spec.proofs.Naming.{named_register}
+use Rattle.judge_spec.proofs.ToldAdds.{low_not_held, told_claim_addresses}
 use Rattle.pci_claims.specs.declared.all_claims.Stretch.{Stretch}
 use Rattle.pci_claims.specs.Claim.{Claimed, may_both_claim}
 use Rattle.pci_claims.specs.BusClaims.{claim_number, AreRegisterClaimsOn, AreMoreClaims}

@@ -18,9 +18,9 @@ use Rattle.pci_tree.specs.Ways.{slots_of}
 use Rattle.pci_tree.specs.Outline.{Tree}
 use Rattle.pci_tree.specs.Trees.{HasTree}
 use Rattle.pci_tree.proofs.Lifting.{Has, record_for, function_for, same_slot_of}
-use Rattle.given_spec.specs.Told.{ToldRange, IsTold}
-use Rattle.given_spec.specs.ToldClaims.{Told, is_asleep, is_enabled_at, is_on_by, is_range_on}
-use Rattle.given_spec.proofs.Judging.{slots_same}
+use Rattle.judge_spec.specs.Told.{ToldRange, IsTold}
+use Rattle.judge_spec.specs.ToldClaims.{Told, is_asleep, is_enabled_at, is_on_by, is_range_on}
+use Rattle.judge_spec.proofs.Judging.{slots_same}
 use Rattle.pci_claims.specs.declared.all_claims.Stretch.{Stretch}
 use Rattle.pci_claims.specs.AllClaims.{IsStretchOf}
 use Rattle.pci_claims.specs.ToldOn.{AreOnIn}

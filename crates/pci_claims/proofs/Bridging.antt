@@ -16,7 +16,7 @@ use Rattle.pci_base.specs.Ranges.{decoded_range_of}
 use Rattle.pci_base.specs.Space.{is_on, kind_in}
 use Rattle.pci_function.specs.declared.record.Record.{Record}
 use Rattle.pci_tree.specs.Ranges.{Holds, Covers, IsCanonical}
-use Rattle.given_spec.specs.Given.{Given, ranges_of}
+use Rattle.judge_spec.specs.Given.{Given, ranges_of}
 use Rattle.pci_claims.specs.declared.given.LegacyBridge.{LegacyBridge}
 use Rattle.pci_claims.specs.declared.given.TakingBridge.{TakingBridge}
 use Rattle.pci_claims.specs.declared.legacy.FixedPart.{FixedPart}

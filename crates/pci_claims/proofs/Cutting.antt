@@ -14,7 +14,7 @@ use Rattle.pci_tree.specs.declared.region.Region.{Region}
 use Rattle.pci_tree.specs.Regions.{is_of_window}
 use Rattle.pci_tree.proofs.Passing.{covers_push, canonical_push}
 use Rattle.pci_tree.proofs.RangeLists.{found_at}
-use Rattle.given_spec.specs.Given.{Given, is_isa_port, is_cut}
+use Rattle.judge_spec.specs.Given.{Given, is_isa_port, is_cut}
 use Rattle.pci_claims.specs.Gathered.{IsCommon}
 use Rattle.pci_claims.specs.Isa.{cuts, is_cut_region, ArePortBlocks, ArePortsKept, AreKept}
 use Rattle.pci_claims.specs.Passed.{window_passes, ArePassedByWindows}

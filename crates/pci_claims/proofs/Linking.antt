@@ -19,8 +19,8 @@ use Rattle.pci_tree.specs.Ranges.{Covers}
 use Rattle.pci_tree.proofs.Recorded.{passes-record}
 use Rattle.pci_tree.proofs.Regions.{on_same}
 use Rattle.pci_tree.proofs.Lifting.{same_bridge, same_slot_of}
-use Rattle.given_spec.specs.Given.{Given, legacy_claims, palette_claims, takes, is_cut}
-use Rattle.given_spec.specs.Claims.{passes, passes_else, forwards}
+use Rattle.judge_spec.specs.Given.{Given, legacy_claims, palette_claims, takes, is_cut}
+use Rattle.judge_spec.specs.Claims.{passes, passes_else, forwards}
 use Rattle.pci_claims.specs.declared.legacy.FixedPart.{FixedPart}
 use Rattle.pci_claims.specs.declared.legacy.FixedPart.TheVariants.{Legacy, Palette}
 use Rattle.pci_claims.specs.declared.passed.Through.{Through}

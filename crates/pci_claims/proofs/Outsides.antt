@@ -5,7 +5,7 @@ use Rattle.pci_spec.specs.Slot.{Slot}
 use Rattle.pci_spec.specs.System.{System, Function, Space, Leads}
 use Rattle.pci_base.specs.declared.range.Range.{Range}
 use Rattle.pci_tree.specs.Ranges.{Holds, Covers, IsLeastOutside}
-use Rattle.given_spec.specs.Given.{Given}
+use Rattle.judge_spec.specs.Given.{Given}
 use Rattle.pci_claims.specs.Sent.{IsSentTo}
 use Rattle.pci_claims.specs.Outside.{IsSent, IsLeastUnsent, IsRootOfPath}
 

@@ -10,8 +10,8 @@ use Rattle.pci_base.specs.declared.range.Range.{Range}
 use Rattle.pci_function.specs.declared.record.Record.{Record}
 use Rattle.pci_tree.specs.Ranges.{Covers}
 use Rattle.pci_tree.proofs.Lifting.{same_slot_of}
-use Rattle.given_spec.specs.Given.{Given}
-use Rattle.given_spec.specs.Claims.{Own, Legacy, Palette, LegacyClaims, PaletteClaims, Claims, ClaimsOnBus, register_of}
+use Rattle.judge_spec.specs.Given.{Given}
+use Rattle.judge_spec.specs.Claims.{Own, Legacy, Palette, LegacyClaims, PaletteClaims, Claims, ClaimsOnBus, register_of}
 use Rattle.pci_claims.specs.declared.legacy.FixedPart.{FixedPart}
 use Rattle.pci_claims.specs.declared.legacy.FixedPart.TheVariants as fixed
 use Rattle.pci_claims.specs.Gathered.{IsCommon}

@@ -12,7 +12,7 @@ use Rattle.pci_base.specs.declared.range.Range.{Range}
 use Rattle.pci_tree.specs.Ranges.{Holds, Covers}
 use Rattle.pci_tree.specs.Reaches.{IsWhole}
 use Rattle.pci_tree.proofs.Passing.{covers_push}
-use Rattle.given_spec.specs.Given.{Given, starts_in, starts, sends, is_for, ranges_said, HostRange as SpecRange}
+use Rattle.judge_spec.specs.Given.{Given, starts_in, starts, sends, is_for, ranges_said, HostRange as SpecRange}
 use Rattle.pci_base.specs.declared.range.RootRange.{RootRange}
 use Rattle.pci_claims.specs.Values.{host_value}
 use Rattle.pci_claims.specs.Gathered.{IsGathered}

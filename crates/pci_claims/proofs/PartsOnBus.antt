@@ -17,9 +17,9 @@ use Rattle.pci_tree.specs.Ranges.{Covers}
 use Rattle.pci_tree.specs.Outline.{Tree}
 use Rattle.pci_tree.proofs.Lifting.{Has, record_for, function_for, same_slot_of}
 use Rattle.pci_tree.specs.Trees.{HasTree}
-use Rattle.given_spec.specs.Given.{Given, LegacyBridge}
-use Rattle.given_spec.specs.Claims.{Claims, ClaimsOnBus}
-use Rattle.given_spec.specs.Claims as spec
+use Rattle.judge_spec.specs.Given.{Given, LegacyBridge}
+use Rattle.judge_spec.specs.Claims.{Claims, ClaimsOnBus}
+use Rattle.judge_spec.specs.Claims as spec
 use Rattle.pci_claims.specs.declared.legacy.FixedPart.{FixedPart}
 use Rattle.pci_claims.specs.declared.legacy.FixedPart.TheVariants.{Legacy, Palette}
 use Rattle.pci_claims.specs.Legacy.{part_holds, part_of, bridges_with, register_of_part}

@@ -8,7 +8,7 @@ use Rattle.pci_spec.specs.System.{Space, Io, Memory}
 use Rattle.pci_base.specs.declared.range.Range.{Range}
 use Rattle.pci_tree.specs.Ranges.{Holds, Covers}
 use Rattle.pci_tree.proofs.Passing.{covers_push, canonical_push}
-use Rattle.given_spec.specs.Given.{decoded_port, is_vga_port, is_palette_port, legacy_holds, palette_holds}
+use Rattle.judge_spec.specs.Given.{decoded_port, is_vga_port, is_palette_port, legacy_holds, palette_holds}
 use Rattle.pci_claims.specs.declared.legacy.FixedPart.TheVariants.{Legacy, Palette}
 use Rattle.pci_claims.specs.Legacy.{blocks_of, vga_low, vga_high, palette_low, palette_high, ArePorts, ArePieces, ArePalettePieces, ArePartPieces}
 use Rattle.pci_claims.proofs.Gathering.{none_covered, nil_canonical}

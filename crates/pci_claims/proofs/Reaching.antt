@@ -13,7 +13,7 @@ use Rattle.pci_tree.specs.Outline.{RiseBySlot, IsPathTo}
 use Rattle.pci_tree.specs.Ranges.{Covers}
 use Rattle.pci_tree.specs.Ways.{slots_of}
 use Rattle.pci_tree.proofs.Lifting.{Has, one_by_number}
-use Rattle.given_spec.specs.Given.{Given, starts}
+use Rattle.judge_spec.specs.Given.{Given, starts}
 use Rattle.pci_claims.specs.declared.passed.Through.{Through}
 use Rattle.pci_claims.specs.Passed.{through_space, lets, IsLetOn}
 use Rattle.pci_claims.specs.Sent.{IsSentTo}

@@ -14,8 +14,8 @@ use Rattle.pci_tree.specs.declared.region.Region.{Region}
 use Rattle.pci_tree.specs.Ranges.{Covers}
 use Rattle.pci_tree.specs.Regions.{IsRegionOn, AreRegionsOf, is_of_window}
 use Rattle.pci_tree.proofs.RegionParts.{window_named}
-use Rattle.given_spec.specs.Given.{Given, is_cut}
-use Rattle.given_spec.specs.Claims.{Own, Legacy, Palette, OwnClaims, is_cut_of, ClaimsOnBus}
+use Rattle.judge_spec.specs.Given.{Given, is_cut}
+use Rattle.judge_spec.specs.Claims.{Own, Legacy, Palette, OwnClaims, is_cut_of, ClaimsOnBus}
 use Rattle.pci_claims.specs.declared.legacy.FixedPart.{FixedPart}
 use Rattle.pci_claims.specs.declared.legacy.FixedPart.TheVariants as fixed
 use Rattle.pci_claims.specs.Legacy.{register_of_part}

@@ -13,9 +13,9 @@ use Rattle.pci_spec.proofs.Firsts.{slot_of}
 use Rattle.pci_tree.specs.Ranges.{Covers}
 use Rattle.pci_tree.specs.Outline.{Tree}
 use Rattle.pci_tree.specs.Trees.{HasTree}
-use Rattle.given_spec.specs.Given.{Given, starts}
-use Rattle.given_spec.specs.Told.{IsTold, IsToldRange}
-use Rattle.given_spec.specs.ToldClaims.{Told, ClaimsOnBus}
+use Rattle.judge_spec.specs.Given.{Given, starts}
+use Rattle.judge_spec.specs.Told.{IsTold, IsToldRange}
+use Rattle.judge_spec.specs.ToldClaims.{Told, ClaimsOnBus}
 use Rattle.pci_claims.specs.Claim.{Claimed}
 use Rattle.pci_claims.specs.BusClaims.{claim_number}
 use Rattle.pci_claims.specs.AllClaims.{IsPlacedOn, AreClaimsOn, AreClaimsInEach}

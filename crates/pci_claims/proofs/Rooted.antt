@@ -7,8 +7,8 @@ use Rattle.pci_spec.specs.System.{System, Function, Space, Leads}
 use Rattle.pci_spec.specs.Bus.{is_root, IsNested}
 use Rattle.pci_spec.proofs.BusRanges.{behind_is_no_root, root_means}
 use Rattle.pci_spec.proofs.Ways.{behind_each}
-use Rattle.given_spec.specs.Given.{Given, starts}
-use Rattle.given_spec.specs.Claims.{Gets}
+use Rattle.judge_spec.specs.Given.{Given, starts}
+use Rattle.judge_spec.specs.Claims.{Gets}
 
 -- a way to a root has no bridge
 way_to_root : (roots : List ℕ) (s : System) → IsNested roots s → (bus : ℕ) → Contains roots bus → (from : ℕ) (bridges : List Function) → Leads s from bridges bus → from ≡ bus

@@ -19,8 +19,8 @@ use Rattle.pci_tree.specs.Ranges.{Covers, IsCanonical}
 use Rattle.pci_tree.specs.Ways.{IsBridgeIn, bus_behind}
 use Rattle.pci_tree.specs.Outline.{RiseBySlot}
 use Rattle.pci_tree.proofs.Lifting.{Has, record_for, function_for, functions_rise, same_bridge, same_secondary, same_slot_of, one_by_number}
-use Rattle.given_spec.specs.Given.{Given}
-use Rattle.given_spec.specs.Claims.{forwards, Gets}
+use Rattle.judge_spec.specs.Given.{Given}
+use Rattle.judge_spec.specs.Claims.{forwards, Gets}
 use Rattle.pci_claims.specs.Passed.{forwards_with}
 use Rattle.pci_claims.specs.Reached.{IsAccessReach}
 use Rattle.pci_claims.specs.Sent.{IsSentTo}

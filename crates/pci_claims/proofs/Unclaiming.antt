@@ -13,13 +13,13 @@ use Rattle.pci_tree.specs.Outline.{Tree}
 use Rattle.pci_tree.specs.Ranges.{Covers, IsCanonical}
 use Rattle.pci_tree.specs.Reaches.{IsWhole}
 use Rattle.pci_tree.specs.Trees.{HasTree}
-use Rattle.given_spec.specs.Given.{Given}
-use Rattle.given_spec.specs.Given as spec
-use Rattle.given_spec.specs.Claims as untold
-use Rattle.given_spec.specs.Told.{IsTold}
-use Rattle.given_spec.specs.ToldClaims.{Told, ClaimsOnBus, RangeClaimsOnBus}
-use Rattle.given_spec.specs.Unclaimed.{IsUnclaimedOn, IsTakingBridge, AreTaking}
-use Rattle.given_spec.proofs.ToldAdds.{told_claim_addresses}
+use Rattle.judge_spec.specs.Given.{Given}
+use Rattle.judge_spec.specs.Given as spec
+use Rattle.judge_spec.specs.Claims as untold
+use Rattle.judge_spec.specs.Told.{IsTold}
+use Rattle.judge_spec.specs.ToldClaims.{Told, ClaimsOnBus, RangeClaimsOnBus}
+use Rattle.judge_spec.specs.Unclaimed.{IsUnclaimedOn, IsTakingBridge, AreTaking}
+use Rattle.judge_spec.proofs.ToldAdds.{told_claim_addresses}
 use Rattle.pci_claims.specs.declared.all_claims.Stretch.{Stretch}
 use Rattle.pci_claims.specs.declared.given.TakingBridge.{TakingBridge}
 use Rattle.pci_claims.specs.Values.{taking_value}

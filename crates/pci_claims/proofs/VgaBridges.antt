@@ -7,9 +7,9 @@ use Rattle.pci_spec.specs.Slot.{Slot}
 use Rattle.pci_spec.specs.Text.{Block, slots_of}
 use Rattle.pci_spec.specs.System.{Function, function_of, system_of}
 use Rattle.pci_spec.proofs.Pairing.{same_length}
-use Rattle.given_spec.specs.Words as words
-use Rattle.given_spec.specs.Words.{has_isa_enable, has_legacy, has_palette, isa_bridges, legacy_bridge, legacy_bridges, palette_bridges, palette_word}
-use Rattle.given_spec.specs.Given as spec
+use Rattle.judge_spec.specs.Words as words
+use Rattle.judge_spec.specs.Words.{has_isa_enable, has_legacy, has_palette, isa_bridges, legacy_bridge, legacy_bridges, palette_bridges, palette_word}
+use Rattle.judge_spec.specs.Given as spec
 use Rattle.pci_claims.specs.Vga.{function_without_probe, isa_bridges_shown, legacy_bridges_shown, palette_bridges_shown}
 
 map_cond : {X Y : Type 0} (f : X → Y) (t : Bool) (x : X) → map f (cond t (x ∷ []) []) ≡ cond t (f x ∷ []) []

@@ -15,8 +15,8 @@ use Rattle.pci_function.specs.declared.record.Record.{Record}
 use Rattle.pci_function.specs.Values.{record_value}
 use Rattle.pci_tree.specs.Outline.{RiseBySlot}
 use Rattle.pci_tree.proofs.Lifting.{Has, StandsFor, record_for, same_slot_of, one_by_number}
-use Rattle.given_spec.specs.Given.{Given}
-use Rattle.given_spec.specs.Claims.{passes}
+use Rattle.judge_spec.specs.Given.{Given}
+use Rattle.judge_spec.specs.Claims.{passes}
 use Rattle.pci_claims.specs.declared.passed.Through.{Through}
 use Rattle.pci_claims.specs.Passed.{passes_with, lets}
 use Rattle.pci_claims.specs.Reached.{PassesAt, LetsAt, lets_by}

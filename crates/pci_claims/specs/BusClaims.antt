@@ -14,9 +14,9 @@ use Rattle.pci_tree.specs.Ranges.{Covers}
 use Rattle.pci_tree.specs.Regions.{AreRegionsOf}
 use Rattle.pci_tree.specs.Outline.{Tree}
 use Rattle.pci_tree.specs.Trees.{HasTree}
-use Rattle.given_spec.specs.Given.{Given, starts}
-use Rattle.given_spec.specs.Claims.{Claims, ClaimsOnBus}
-use Rattle.given_spec.specs.ToldAllFaults.{region_number}
+use Rattle.judge_spec.specs.Given.{Given, starts}
+use Rattle.judge_spec.specs.Claims.{Claims, ClaimsOnBus}
+use Rattle.judge_spec.specs.ToldAllFaults.{region_number}
 use Rattle.pci_claims.specs.declared.legacy.FixedPart.{FixedPart}
 use Rattle.pci_claims.specs.Legacy.{bridges_with, part_of, register_of_part}
 use Rattle.pci_claims.specs.Claim.{Claimed, IsClaimOn, IsClaimAmong, IsClaimOfRegion, IsClaimOfPart}

@@ -11,8 +11,8 @@ use Rattle.pci_function.specs.Values.{record_value}
 use Rattle.pci_tree.specs.declared.region.Region.{Region}
 use Rattle.pci_tree.specs.Ranges.{Covers, IsCanonical}
 use Rattle.pci_tree.specs.Regions.{IsRegionOn, is_of_window}
-use Rattle.given_spec.specs.Given.{Given, is_cut}
-use Rattle.given_spec.specs.Claims.{Gets, ClaimsOnBus, may_share}
+use Rattle.judge_spec.specs.Given.{Given, is_cut}
+use Rattle.judge_spec.specs.Claims.{Gets, ClaimsOnBus, may_share}
 use Rattle.pci_claims.specs.declared.legacy.FixedPart.{FixedPart}
 use Rattle.pci_claims.specs.Legacy.{register_of_part}
 use Rattle.pci_claims.specs.Passed.{legacy_passes, palette_claims_of}

@@ -6,7 +6,7 @@ use Rattle.pci_base.specs.declared.range.Range.{Range}
 use Rattle.pci_tree.specs.declared.region.Region.{Region}
 use Rattle.pci_tree.specs.Ranges.{Covers, IsCanonical}
 use Rattle.pci_tree.specs.Regions.{is_of_window}
-use Rattle.given_spec.specs.Given.{Given, has_isa, is_isa_port}
+use Rattle.judge_spec.specs.Given.{Given, has_isa, is_isa_port}
 
 -- whether it takes addresses of a space from the windows of the bridge at a slot
 abbrev pub cuts : Given → Space → Slot → Bool

@@ -4,8 +4,8 @@ use Rattle.pci_base.specs.declared.range.Range.{Range}
 use Rattle.pci_spec.specs.Registers.{BRIDGE_CONTROL, COMMAND}
 use Rattle.pci_spec.specs.System.{Space, Io}
 use Rattle.pci_tree.specs.Ranges.{Holds, Covers, IsCanonical}
-use Rattle.given_spec.specs.Given.{Given, LegacyBridge, legacy_holds, palette_holds}
-use Rattle.given_spec.specs.Claims as spec
+use Rattle.judge_spec.specs.Given.{Given, LegacyBridge, legacy_holds, palette_holds}
+use Rattle.judge_spec.specs.Claims as spec
 use Rattle.pci_claims.specs.declared.legacy.FixedPart.{FixedPart}
 use Rattle.pci_claims.specs.declared.legacy.FixedPart.TheVariants.{Legacy, Palette}
 

@@ -5,7 +5,7 @@ use Rattle.pci_spec.specs.Slot.{Slot}
 use Rattle.pci_spec.specs.System.{Space, IsAddress}
 use Rattle.pci_base.specs.declared.range.Range.{Range}
 use Rattle.pci_tree.specs.Ranges.{Holds}
-use Rattle.given_spec.specs.Given.{Given, starts}
+use Rattle.judge_spec.specs.Given.{Given, starts}
 
 -- an address of the space to which accesses start on the root bus
 abbrev pub IsSent : Given → Space → ℕ → ℕ → Type 0

@@ -13,9 +13,9 @@ use Rattle.pci_function.specs.declared.record.Record.{Record}
 use Rattle.pci_function.specs.Values.{record_value}
 use Rattle.pci_tree.specs.Passes.{record_passes}
 use Rattle.pci_tree.specs.Ranges.{Covers, IsCanonical}
-use Rattle.given_spec.specs.Given.{Given, legacy_holds, ranges_of, is_cut}
-use Rattle.given_spec.specs.Given as spec
-use Rattle.given_spec.specs.Claims.{passes}
+use Rattle.judge_spec.specs.Given.{Given, legacy_holds, ranges_of, is_cut}
+use Rattle.judge_spec.specs.Given as spec
+use Rattle.judge_spec.specs.Claims.{passes}
 use Rattle.pci_claims.specs.declared.given.LegacyBridge.{LegacyBridge}
 use Rattle.pci_claims.specs.declared.given.TakingBridge.{TakingBridge}
 use Rattle.pci_claims.specs.declared.legacy.FixedPart.{FixedPart}

@@ -12,8 +12,8 @@ use Rattle.pci_base.specs.WindowKinds.{kind_value}
 use Rattle.pci_function.specs.declared.record.Record.{Record}
 use Rattle.pci_tree.specs.Outline.{Tree}
 use Rattle.pci_tree.specs.Ranges.{Covers, IsCanonical}
-use Rattle.given_spec.specs.Given.{Given, starts}
-use Rattle.given_spec.specs.Claims.{IsPassedTo, Gets, forwards, passes}
+use Rattle.judge_spec.specs.Given.{Given, starts}
+use Rattle.judge_spec.specs.Claims.{IsPassedTo, Gets, forwards, passes}
 use Rattle.pci_claims.specs.declared.passed.Through.{Through}
 use Rattle.pci_claims.specs.declared.passed.Through.TheVariants.{Regions, Accesses}
 use Rattle.pci_claims.specs.Passed.{passes_with, through_space, lets}

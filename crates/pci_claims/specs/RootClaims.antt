@@ -7,8 +7,8 @@ use Rattle.pci_spec.specs.Fault.{address_in, named_region}
 use Rattle.pci_tree.specs.Ranges.{Covers}
 use Rattle.pci_tree.specs.Outline.{Tree}
 use Rattle.pci_tree.specs.Trees.{HasTree}
-use Rattle.given_spec.specs.Given.{Given, starts}
-use Rattle.given_spec.specs.ToldClaims.{Told, ClaimsOnBus, is_held}
+use Rattle.judge_spec.specs.Given.{Given, starts}
+use Rattle.judge_spec.specs.ToldClaims.{Told, ClaimsOnBus, is_held}
 use Rattle.pci_claims.specs.Claim.{Claimed}
 use Rattle.pci_claims.specs.BusClaims.{claim_number}
 use Rattle.pci_claims.specs.AllClaims.{IsPlacedOn}

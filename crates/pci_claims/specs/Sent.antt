@@ -4,7 +4,7 @@ use Rattle.std.specs.List.{All, list_any}
 use Rattle.pci_base.specs.declared.range.Range.{Range}
 use Rattle.pci_spec.specs.System.{Space, IsAddress}
 use Rattle.pci_tree.specs.Ranges.{Covers, IsCanonical}
-use Rattle.given_spec.specs.Given.{Given, starts, sends}
+use Rattle.judge_spec.specs.Given.{Given, starts, sends}
 use Rattle.pci_base.specs.declared.range.RootRange.{RootRange}
 use Rattle.pci_claims.specs.Values.{host_value}
 

@@ -8,10 +8,10 @@ use Rattle.pci_base.specs.declared.range.Range.{Range}
 use Rattle.pci_base.specs.Ranges.{decoded_range_of}
 use Rattle.pci_tree.specs.declared.region.Region.{Region}
 use Rattle.pci_tree.specs.Ranges.{Covers}
-use Rattle.given_spec.specs.Given.{Given}
-use Rattle.given_spec.specs.Claims.{Claims}
-use Rattle.given_spec.specs.ToldClaims.{Told, ClaimsOnBus, RangeClaimsOnBus}
-use Rattle.given_spec.specs.Unclaimed.{IsUnclaimedOn}
+use Rattle.judge_spec.specs.Given.{Given}
+use Rattle.judge_spec.specs.Claims.{Claims}
+use Rattle.judge_spec.specs.ToldClaims.{Told, ClaimsOnBus, RangeClaimsOnBus}
+use Rattle.judge_spec.specs.Unclaimed.{IsUnclaimedOn}
 use Rattle.pci_claims.specs.declared.legacy.FixedPart.{FixedPart}
 use Rattle.pci_claims.specs.Legacy.{part_of}
 use Rattle.pci_claims.specs.Claim.{Claimed, is_cut_from}

@@ -1,8 +1,8 @@
 -- What is given, as the definitions have it.
 use Rattle.std.specs.Prelude.{map}
 use Rattle.std.specs.Option.{option_map}
-use Rattle.given_spec.specs.Given as spec
-use Rattle.given_spec.specs.ToldClaims as told_spec
+use Rattle.judge_spec.specs.Given as spec
+use Rattle.judge_spec.specs.ToldClaims as told_spec
 use Rattle.pci_base.specs.Ranges.{decoded_range_of}
 use Rattle.pci_base.specs.declared.range.RootRange.{RootRange}
 use Rattle.pci_claims.specs.declared.given.LegacyBridge.{LegacyBridge}

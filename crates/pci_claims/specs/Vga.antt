@@ -4,9 +4,9 @@ use Rattle.std.specs.List.{filter}
 use Rattle.pci_spec.specs.Slot.{Slot}
 use Rattle.pci_spec.specs.Text.{Block}
 use Rattle.pci_spec.specs.System.{Function}
-use Rattle.given_spec.specs.Given as spec
-use Rattle.given_spec.specs.Words as words
-use Rattle.given_spec.specs.Words.{has_isa_enable, has_legacy, has_palette, legacy_bridge}
+use Rattle.judge_spec.specs.Given as spec
+use Rattle.judge_spec.specs.Words as words
+use Rattle.judge_spec.specs.Words.{has_isa_enable, has_legacy, has_palette, legacy_bridge}
 
 -- a function whose registers read back nothing: no read back says what its legacy part is
 abbrev pub function_without_probe : Block → Function

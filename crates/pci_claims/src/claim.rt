@@ -2,8 +2,8 @@
 ghost use Rattle.std.specs.Prelude.{◌≡◌, ◌≤◌, ◌↔◌, ℕ, IsTrue, MatchOption, IfOk};
 ghost use Rattle.pci_base.specs.Space.{space_of};
 ghost use Rattle.pci_tree.specs.Ranges.{Covers, IsCanonical};
-ghost use Rattle.given_spec.specs.Claims.{is_window_register, is_fixed_register, are_together, may_share};
-ghost use Rattle.given_spec.specs.ToldAllFaults.{region_number};
+ghost use Rattle.judge_spec.specs.Claims.{is_window_register, is_fixed_register, are_together, may_share};
+ghost use Rattle.judge_spec.specs.ToldAllFaults.{region_number};
 ghost use Rattle.pci_claims.specs.Values.{given_value};
 ghost use Rattle.pci_claims.specs.BusClaims.{claim_number};
 ghost use Rattle.pci_claims.specs.AllClaims.{IsClaimOfRange};

@@ -1,6 +1,6 @@
 //! What is given.
 ghost use Rattle.std.specs.Prelude.{◌≡◌, map};
-ghost use Rattle.given_spec.specs.Given.{ranges_of};
+ghost use Rattle.judge_spec.specs.Given.{ranges_of};
 ghost use Rattle.pci_base.specs.Ranges.{decoded_range_of};
 ghost use Rattle.pci_base.specs.Space.{space_of};
 ghost use Rattle.pci_claims.specs.Values.{taking_value};

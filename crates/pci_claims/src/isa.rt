@@ -2,7 +2,7 @@
 ghost use Rattle.std.specs.Prelude.{◌≡◌, ◌≤◌, IfOk};
 ghost use Rattle.pci_base.specs.Space.{space_of};
 ghost use Rattle.pci_tree.specs.Ranges.{IsCanonical};
-ghost use Rattle.given_spec.specs.Given.{has_isa, is_isa_port};
+ghost use Rattle.judge_spec.specs.Given.{has_isa, is_isa_port};
 ghost use Rattle.pci_claims.specs.Values.{given_value};
 ghost use Rattle.pci_claims.specs.Isa.{cuts, is_cut_region, ArePortBlocks, ArePortsKept, AreKept};
 

@@ -3,7 +3,7 @@ ghost use Rattle.std.specs.Prelude.{◌≡◌, ◌≤◌, ◌↔◌, ℕ, map, M
 ghost use Rattle.std.specs.Option.{option_map};
 ghost use Rattle.pci_tree.specs.Ranges.{Holds};
 ghost use Rattle.pci_base.specs.Space.{space_of};
-ghost use Rattle.given_spec.specs.Given.{is_for, ranges_said};
+ghost use Rattle.judge_spec.specs.Given.{is_for, ranges_said};
 ghost use Rattle.pci_tree.specs.Reaches.{IsWhole};
 ghost use Rattle.pci_claims.specs.Values.{host_value, given_value};
 ghost use Rattle.pci_claims.specs.Sent.{IsSentTo, IsPartAt, ArePartsOf};

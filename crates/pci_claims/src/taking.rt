@@ -4,7 +4,7 @@ ghost use Rattle.std.specs.List.{All};
 ghost use Rattle.pci_spec.specs.System.{System};
 ghost use Rattle.pci_base.specs.Space.{space_of};
 ghost use Rattle.pci_tree.specs.Trees.{HasTree};
-ghost use Rattle.given_spec.specs.Unclaimed.{IsTakingBridge, AreTaking};
+ghost use Rattle.judge_spec.specs.Unclaimed.{IsTakingBridge, AreTaking};
 ghost use Rattle.pci_claims.specs.Values.{given_value, taking_value, told_value};
 ghost use Rattle.pci_claims.specs.AllClaims.{IsBoard};
 ghost use Rattle.pci_claims.specs.Taking.{OneHas, IsLeft, IsAnswered, AreMorePieces, AreOtherClaimsOn, AreClaimedOn, AreUnclaimedRuns};
@@ -38,7 +38,7 @@ pub struct Taking<A: Allocator = Global> {
 impl<A: Allocator> Model for Taking<A> {
     ghost use Rattle.std.specs.Prelude.{map};
     ghost use Rattle.pci_base.specs.Ranges.{decoded_range_of};
-    ghost use Rattle.given_spec.specs.Given.{TakingBridge as BridgeValue};
+    ghost use Rattle.judge_spec.specs.Given.{TakingBridge as BridgeValue};
 
     ghost Value = { BridgeValue };
 

@@ -8,7 +8,7 @@ ghost use Rattle.pci_spec.specs.Decoded.{HasRecords};
 ghost use Rattle.pci_base.specs.Space.{space_of};
 ghost use Rattle.pci_function.specs.Values.{record_value};
 ghost use Rattle.pci_tree.specs.Outline.{RiseBySlot};
-ghost use Rattle.given_spec.specs.ToldClaims.{Told as ToldValue, is_on_by, is_enabled_at, is_range_on};
+ghost use Rattle.judge_spec.specs.ToldClaims.{Told as ToldValue, is_on_by, is_enabled_at, is_range_on};
 ghost use Rattle.pci_told.specs.Marks.{mark_of};
 ghost use Rattle.pci_claims.specs.Values.{told_value};
 ghost use Rattle.pci_claims.specs.ToldOn.{AreOnIn};

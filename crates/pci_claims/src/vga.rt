@@ -6,7 +6,7 @@ ghost use Rattle.pci_spec.specs.Number.{has_bit};
 ghost use Rattle.pci_spec.specs.Header.{bridge_control};
 ghost use Rattle.pci_spec.specs.Text.{Block as BlockValue, slots_of};
 ghost use Rattle.pci_spec.specs.System.{system_of};
-ghost use Rattle.given_spec.specs.Words.{is_wide_by, has_isa_enable, has_legacy, has_palette, isa_bridges, legacy_bridge, legacy_bridges, palette_bridges, palette_word};
+ghost use Rattle.judge_spec.specs.Words.{is_wide_by, has_isa_enable, has_legacy, has_palette, isa_bridges, legacy_bridge, legacy_bridges, palette_bridges, palette_word};
 ghost use Rattle.pci_model.specs.WordsValue.{vga_value};
 ghost use Rattle.pci_claims.specs.Values.{legacy_value};
 ghost use Rattle.pci_claims.specs.Vga.{function_without_probe};

@@ -13,14 +13,14 @@ use Rattle.pci_spec.proofs.Firsts.{slot_of, space_key-same}
 use Rattle.pci_check.proofs.Clashing.{io_is_not_memory}
 use Rattle.pci_base.specs.Space.{space_of}
 use Rattle.pci_tree.specs.Outline.{Tree}
-use Rattle.given_spec.specs.Given.{Given}
-use Rattle.given_spec.specs.Claims.{Own, Legacy, Palette}
-use Rattle.given_spec.specs.Fault.{Known, fault_number}
-use Rattle.given_spec.specs.Told.{ToldRange, IsTold, IsToldRange}
-use Rattle.given_spec.specs.ToldClaims.{Told, ClaimsOnBus}
-use Rattle.given_spec.specs.ToldAllFaults.{IsNamed}
-use Rattle.given_spec.proofs.Naming.{named_register}
-use Rattle.given_spec.proofs.ToldAdds.{told_claim_addresses}
+use Rattle.judge_spec.specs.Given.{Given}
+use Rattle.judge_spec.specs.Claims.{Own, Legacy, Palette}
+use Rattle.judge_spec.specs.Fault.{Known, fault_number}
+use Rattle.judge_spec.specs.Told.{ToldRange, IsTold, IsToldRange}
+use Rattle.judge_spec.specs.ToldClaims.{Told, ClaimsOnBus}
+use Rattle.judge_spec.specs.ToldAllFaults.{IsNamed}
+use Rattle.judge_spec.proofs.Naming.{named_register}
+use Rattle.judge_spec.proofs.ToldAdds.{told_claim_addresses}
 use Rattle.pci_given.specs.declared.named.Clash as named
 use Rattle.pci_given.specs.Lines.{AreJustLines}
 use Rattle.pci_given.specs.Order.{clash_place}

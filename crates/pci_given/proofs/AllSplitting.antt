@@ -9,11 +9,11 @@ use Rattle.pci_spec.proofs.Firsts.{space_key-same}
 use Rattle.pci_base.specs.Space.{space_of}
 use Rattle.pci_check.proofs.Clashing.{io_is_not_memory}
 use Rattle.pci_tree.specs.Outline.{Tree}
-use Rattle.given_spec.specs.Given.{Given}
-use Rattle.given_spec.specs.Fault.{Known, fault_number}
-use Rattle.given_spec.specs.Told.{IsTold}
-use Rattle.given_spec.specs.ToldClaims.{Told}
-use Rattle.given_spec.specs.ToldAllFaults.{IsNamed}
+use Rattle.judge_spec.specs.Given.{Given}
+use Rattle.judge_spec.specs.Fault.{Known, fault_number}
+use Rattle.judge_spec.specs.Told.{IsTold}
+use Rattle.judge_spec.specs.ToldClaims.{Told}
+use Rattle.judge_spec.specs.ToldAllFaults.{IsNamed}
 use Rattle.pci_given.specs.declared.named.Split as named
 use Rattle.pci_given.specs.Lines.{AreJustLines}
 use Rattle.pci_given.specs.Order.{split_place}

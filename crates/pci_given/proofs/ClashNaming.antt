@@ -13,11 +13,11 @@ use Rattle.pci_tree.specs.Ranges.{Covers}
 use Rattle.pci_tree.specs.Outline.{Tree}
 use Rattle.pci_faults.specs.declared.shares.Among.TheVariants.{Bus}
 use Rattle.pci_faults.specs.declared.shares.Share.{Share}
-use Rattle.given_spec.specs.Given.{Given}
-use Rattle.given_spec.specs.Claims.{Gets}
-use Rattle.given_spec.specs.ToldClaims.{Told, ClaimsOnBus, may_share}
-use Rattle.given_spec.specs.ToldFault.{IsClash}
-use Rattle.given_spec.specs.ToldAllFaults.{region_number}
+use Rattle.judge_spec.specs.Given.{Given}
+use Rattle.judge_spec.specs.Claims.{Gets}
+use Rattle.judge_spec.specs.ToldClaims.{Told, ClaimsOnBus, may_share}
+use Rattle.judge_spec.specs.ToldFault.{IsClash}
+use Rattle.judge_spec.specs.ToldAllFaults.{region_number}
 use Rattle.pci_claims.specs.Claim.{Claimed, may_both_claim}
 use Rattle.pci_claims.specs.AllClaims.{AreClaimsOn, AreClaimsInEach}
 use Rattle.pci_claims.proofs.AllClaiming.{share_by_marks}

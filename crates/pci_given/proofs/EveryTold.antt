@@ -17,15 +17,15 @@ use Rattle.pci_tree.specs.Admission.{IsOutlineFor}
 use Rattle.pci_tree.specs.Outline.{Tree}
 use Rattle.pci_early.specs.Lists.{BeginsWith}
 use Rattle.pci_check.proofs.FirstOfAll.{none_early}
-use Rattle.given_spec.specs.Given.{Given, TakingBridge}
-use Rattle.given_spec.specs.Fault as untold
-use Rattle.given_spec.specs.Told.{IsTold}
-use Rattle.given_spec.specs.ToldClaims.{Told}
-use Rattle.given_spec.specs.ToldFault.{Fault, Known, NotListed}
-use Rattle.given_spec.specs.ToldAllFaults.{AreAllOfJudging}
-use Rattle.given_spec.specs.ToldFaultLines.{IsEarlyThere, AreJudged, AreAllFaults}
-use Rattle.given_spec.specs.UnclaimedLaws.{with_taking}
-use Rattle.given_spec.proofs.ToldEmpty.{told_empty_where_none_fails}
+use Rattle.judge_spec.specs.Given.{Given, TakingBridge}
+use Rattle.judge_spec.specs.Fault as untold
+use Rattle.judge_spec.specs.Told.{IsTold}
+use Rattle.judge_spec.specs.ToldClaims.{Told}
+use Rattle.judge_spec.specs.ToldFault.{Fault, Known, NotListed}
+use Rattle.judge_spec.specs.ToldAllFaults.{AreAllOfJudging}
+use Rattle.judge_spec.specs.ToldFaultLines.{IsEarlyThere, AreJudged, AreAllFaults}
+use Rattle.judge_spec.specs.UnclaimedLaws.{with_taking}
+use Rattle.judge_spec.proofs.ToldEmpty.{told_empty_where_none_fails}
 use Rattle.pci_given.specs.declared.any_fault.AnyFault.{AnyFault}
 use Rattle.pci_given.specs.AllLines as lines
 use Rattle.pci_given.specs.AllLines.{AreAllLines}

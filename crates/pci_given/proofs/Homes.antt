@@ -13,10 +13,10 @@ use Rattle.pci_tree.specs.Outline.{Tree}
 use Rattle.pci_check.specs.Judgement.{AreHome}
 use Rattle.pci_tree.specs.Trees.{HasTree}
 use Rattle.pci_check.specs.Stops.{Reaches, AreReachesOf, AlwaysNested}
-use Rattle.given_spec.specs.Given.{Given, is_cut}
-use Rattle.given_spec.specs.Claims.{passes, passes_else}
-use Rattle.given_spec.specs.ToldClaims.{Told}
-use Rattle.given_spec.specs.ToldFault.{IsUnreached}
+use Rattle.judge_spec.specs.Given.{Given, is_cut}
+use Rattle.judge_spec.specs.Claims.{passes, passes_else}
+use Rattle.judge_spec.specs.ToldClaims.{Told}
+use Rattle.judge_spec.specs.ToldFault.{IsUnreached}
 use Rattle.pci_given.specs.declared.needed.Needed.{Needed}
 use Rattle.pci_given.specs.Needed.{IsOfRange}
 use Rattle.pci_given.specs.Stopped.{IsNeverUnreached, IsLeftWhole, IsWholeAt, NeverCut}

@@ -2,11 +2,11 @@
 use Rattle.std.proofs.Common.{◌≡◌, List, [], ◌∷◌, ◌++◌, map, refl, sym, ◌∙◌, ap}
 use Rattle.std.proofs.lemmas.List.{map-append}
 use Rattle.pci_tree.specs.Outline.{Tree}
-use Rattle.given_spec.specs.Given.{Given}
-use Rattle.given_spec.specs.Fault as untold
-use Rattle.given_spec.specs.ToldClaims.{Told}
-use Rattle.given_spec.specs.ToldFault as spec
-use Rattle.given_spec.proofs.Numbers.{told_all_of_four}
+use Rattle.judge_spec.specs.Given.{Given}
+use Rattle.judge_spec.specs.Fault as untold
+use Rattle.judge_spec.specs.ToldClaims.{Told}
+use Rattle.judge_spec.specs.ToldFault as spec
+use Rattle.judge_spec.proofs.Numbers.{told_all_of_four}
 use Rattle.pci_given.specs.declared.any_fault.AnyFault.{AnyFault}
 use Rattle.pci_given.specs.declared.any_fault.AnyFault.TheVariants as codes
 use Rattle.pci_given.specs.declared.named.Unreached.{Unreached}

@@ -3,7 +3,7 @@ use Rattle.std.proofs.Common.{◌≡◌, ℕ, ◌<◌, inl, inr, List, ◌∷◌
 use Rattle.std.proofs.lemmas.Bool.{cases_order}
 use Rattle.pci_spec.specs.Slot.{Slot, IsSlot}
 use Rattle.pci_spec.specs.Order.{precedes, slot_key}
-use Rattle.given_spec.specs.ToldAllFaults.{region_number}
+use Rattle.judge_spec.specs.ToldAllFaults.{region_number}
 use Rattle.pci_spec.proofs.FirstLines.{less_precedes, same_precedes}
 
 -- a lesser region in front

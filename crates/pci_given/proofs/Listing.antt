@@ -19,7 +19,7 @@ use Rattle.pci_tree.specs.Ranges.{Holds}
 use Rattle.pci_tree.specs.Regions.{IsRegionOn, AreRegionsOf, is_of_window}
 use Rattle.pci_tree.specs.Trees.{HasTree}
 use Rattle.pci_tree.proofs.RegionParts.{window_named}
-use Rattle.given_spec.specs.ToldClaims.{Told}
+use Rattle.judge_spec.specs.ToldClaims.{Told}
 use Rattle.pci_given.specs.declared.needed.Needed.{Needed}
 use Rattle.pci_given.specs.Clashes.{IsOnBusIn}
 use Rattle.pci_given.specs.Needed.{IsOfBar, IsOfRange, Which, IsNeeded, IsOfBarAt, needed_place, IsOneOf, HasName, AreJust, Differ, AreAdded, AreBarsAdded, AreAllNeeded, AreToldNeeded, needed_of, needed_among}

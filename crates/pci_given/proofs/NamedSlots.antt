@@ -9,7 +9,7 @@ use Rattle.std.proofs.lemmas.Option.{slice_get-get_or, slice_get_within, get_or_
 use Rattle.pci_spec.specs.Slot.{Slot, IsSlot, slot_number}
 use Rattle.pci_spec.proofs.Members.{in_nil, pairs_nil}
 use Rattle.pci_spec.proofs.Regions.{slot_number-same}
-use Rattle.given_spec.specs.Told.{ToldRange, IsToldRange, IsTold}
+use Rattle.judge_spec.specs.Told.{ToldRange, IsToldRange, IsTold}
 use Rattle.pci_given.specs.Before.{IsOfSome, AreSlotsOf, IsLast, IsSlotAdded}
 
 abbrev number_of : ToldRange → ℕ

@@ -12,13 +12,13 @@ use Rattle.pci_spec.specs.Order.{precedes}
 use Rattle.pci_spec.specs.Order as order
 use Rattle.pci_spec.proofs.Members.{in_map_to, in_map_from, pairs_map}
 use Rattle.pci_spec.proofs.FirstLines.{same_precedes}
-use Rattle.given_spec.specs.Given.{Given}
-use Rattle.given_spec.specs.Fault.{Known, Outside, fault_number}
-use Rattle.given_spec.specs.Fault as spec
-use Rattle.given_spec.specs.AllFaults.{judging_key}
-use Rattle.given_spec.specs.ToldClaims.{Told}
-use Rattle.given_spec.specs.ToldAllFaults.{IsNamed}
-use Rattle.given_spec.specs.ToldNumbered.{AreAllNumbered}
+use Rattle.judge_spec.specs.Given.{Given}
+use Rattle.judge_spec.specs.Fault.{Known, Outside, fault_number}
+use Rattle.judge_spec.specs.Fault as spec
+use Rattle.judge_spec.specs.AllFaults.{judging_key}
+use Rattle.judge_spec.specs.ToldClaims.{Told}
+use Rattle.judge_spec.specs.ToldAllFaults.{IsNamed}
+use Rattle.judge_spec.specs.ToldNumbered.{AreAllNumbered}
 use Rattle.pci_claims.proofs.Making.{rise_in_order}
 use Rattle.pci_given.specs.Lines.{AreJustLines}
 

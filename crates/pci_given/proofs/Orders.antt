@@ -7,7 +7,7 @@ use Rattle.pci_spec.specs.Order.{precedes, slot_key, space_key}
 use Rattle.pci_spec.proofs.Regions.{slot_number-same}
 use Rattle.pci_spec.proofs.FirstLines.{less_precedes, same_precedes}
 use Rattle.pci_faults.specs.Order.{place_in}
-use Rattle.given_spec.specs.ToldAllFaults.{region_number}
+use Rattle.judge_spec.specs.ToldAllFaults.{region_number}
 use Rattle.pci_given.specs.Order.{number_on_bus}
 
 -- ---- keys of regions

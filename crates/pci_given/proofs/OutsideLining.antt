@@ -13,13 +13,13 @@ use Rattle.pci_spec.proofs.Members.{in_map_to, in_map_from, pairs_map}
 use Rattle.pci_base.specs.Space.{space_of}
 use Rattle.pci_tree.specs.Outline.{Tree}
 use Rattle.pci_tree.specs.Trees.{HasTree}
-use Rattle.given_spec.specs.Given.{Given}
-use Rattle.given_spec.specs.Fault.{Known, fault_number}
-use Rattle.given_spec.specs.Fault as spec
-use Rattle.given_spec.specs.AllFaults.{judging_key}
-use Rattle.given_spec.specs.ToldClaims.{Told}
-use Rattle.given_spec.specs.ToldAllFaults.{region_number, IsOutsideOf, IsNamed}
-use Rattle.given_spec.specs.ToldNumbered.{AreListedIn, AreAllNumbered}
+use Rattle.judge_spec.specs.Given.{Given}
+use Rattle.judge_spec.specs.Fault.{Known, fault_number}
+use Rattle.judge_spec.specs.Fault as spec
+use Rattle.judge_spec.specs.AllFaults.{judging_key}
+use Rattle.judge_spec.specs.ToldClaims.{Told}
+use Rattle.judge_spec.specs.ToldAllFaults.{region_number, IsOutsideOf, IsNamed}
+use Rattle.judge_spec.specs.ToldNumbered.{AreListedIn, AreAllNumbered}
 use Rattle.pci_given.specs.declared.needed.Needed.{Needed}
 use Rattle.pci_given.specs.declared.named.Outside.{Outside}
 use Rattle.pci_given.specs.Named.{outside_of, AreAllOutside}

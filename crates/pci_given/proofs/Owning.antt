@@ -15,8 +15,8 @@ use Rattle.pci_faults.specs.declared.shares.Share.{Share}
 use Rattle.pci_faults.specs.declared.owners.Found.{Found}
 use Rattle.pci_faults.specs.Owners.{OwnedRanges, Owns, IsRangeAdded}
 use Rattle.pci_faults.specs.Owners as one
-use Rattle.given_spec.specs.Claims.{is_window_register, is_fixed_register, are_together, may_share}
-use Rattle.given_spec.proofs.Judging.{slots_same}
+use Rattle.judge_spec.specs.Claims.{is_window_register, is_fixed_register, are_together, may_share}
+use Rattle.judge_spec.proofs.Judging.{slots_same}
 use Rattle.pci_claims.specs.Claim.{Claimed, may_both_claim, is_held_beside}
 use Rattle.pci_claims.proofs.Gathering.{none_covered, covers_take}
 use Rattle.pci_given.specs.Clashes.{Meet, claim_at, nobody, AreMeeting, IsFoundBelow}

@@ -21,16 +21,16 @@ use Rattle.pci_tree.specs.Regions.{AreRegionsOf}
 use Rattle.pci_tree.specs.Outline.{Tree}
 use Rattle.pci_tree.specs.Trees.{HasTree}
 use Rattle.pci_check.specs.Clashes.{AreRegionsOn}
-use Rattle.given_spec.specs.Given.{Given, legacy_holds, is_legacy_at, palette_holds, is_palette_at}
-use Rattle.given_spec.specs.Given as spec
-use Rattle.given_spec.specs.Claims.{Own, Legacy, Palette, ClaimsOnBus, may_share, are_together}
-use Rattle.given_spec.proofs.Judging.{slots_same}
+use Rattle.judge_spec.specs.Given.{Given, legacy_holds, is_legacy_at, palette_holds, is_palette_at}
+use Rattle.judge_spec.specs.Given as spec
+use Rattle.judge_spec.specs.Claims.{Own, Legacy, Palette, ClaimsOnBus, may_share, are_together}
+use Rattle.judge_spec.proofs.Judging.{slots_same}
 use Rattle.pci_claims.specs.declared.given.LegacyBridge.{LegacyBridge}
 use Rattle.pci_claims.specs.Values.{legacy_value}
 use Rattle.pci_claims.specs.Legacy.{ArePieces}
-use Rattle.given_spec.specs.Told.{ToldRange}
-use Rattle.given_spec.specs.ToldClaims.{Told}
-use Rattle.given_spec.specs.ToldClaims as told_claims
+use Rattle.judge_spec.specs.Told.{ToldRange}
+use Rattle.judge_spec.specs.ToldClaims.{Told}
+use Rattle.judge_spec.specs.ToldClaims as told_claims
 use Rattle.pci_claims.specs.declared.all_claims.Stretch.{Stretch}
 use Rattle.pci_claims.specs.AllClaims.{IsStretchOf}
 use Rattle.pci_given.specs.declared.named.Clash as named

@@ -14,10 +14,10 @@ use Rattle.pci_base.specs.Space.{space_of}
 use Rattle.pci_tree.specs.Ranges.{Holds}
 use Rattle.pci_tree.specs.Outline.{Tree, IsPathTo}
 use Rattle.pci_tree.specs.Trees.{HasTree}
-use Rattle.given_spec.specs.Given.{Given, starts}
-use Rattle.given_spec.specs.ToldClaims.{Told}
-use Rattle.given_spec.specs.ToldFault.{IsOutside}
-use Rattle.given_spec.specs.ToldNumbered.{AreListedIn}
+use Rattle.judge_spec.specs.Given.{Given, starts}
+use Rattle.judge_spec.specs.ToldClaims.{Told}
+use Rattle.judge_spec.specs.ToldFault.{IsOutside}
+use Rattle.judge_spec.specs.ToldNumbered.{AreListedIn}
 use Rattle.pci_claims.specs.Outside.{IsSent, IsLeastUnsent, IsRootOfPath}
 use Rattle.pci_claims.proofs.Outsides.{root_of}
 use Rattle.pci_given.specs.declared.needed.Needed.{Needed}

@@ -15,10 +15,10 @@ use Rattle.pci_tree.specs.Ranges.{Covers}
 use Rattle.pci_tree.specs.Outline.{Tree}
 use Rattle.pci_faults.specs.declared.shares.Among.TheVariants.{Roots}
 use Rattle.pci_faults.specs.declared.shares.Share.{Share}
-use Rattle.given_spec.specs.Given.{Given, starts}
-use Rattle.given_spec.specs.ToldClaims.{Told, ClaimsOnBus, may_share}
-use Rattle.given_spec.specs.ToldFault.{IsSplit}
-use Rattle.given_spec.specs.ToldAllFaults.{region_number}
+use Rattle.judge_spec.specs.Given.{Given, starts}
+use Rattle.judge_spec.specs.ToldClaims.{Told, ClaimsOnBus, may_share}
+use Rattle.judge_spec.specs.ToldFault.{IsSplit}
+use Rattle.judge_spec.specs.ToldAllFaults.{region_number}
 use Rattle.pci_claims.specs.Claim.{Claimed, may_both_claim}
 use Rattle.pci_claims.proofs.AllClaiming.{share_by_marks}
 use Rattle.pci_given.specs.declared.named.Split.{Split}

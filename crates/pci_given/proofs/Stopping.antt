@@ -14,7 +14,7 @@ use Rattle.pci_tree.specs.Outline.{RiseBySlot}
 use Rattle.pci_tree.specs.Ranges.{Holds, Covers}
 use Rattle.pci_tree.specs.Ways.{slots_of}
 use Rattle.pci_tree.proofs.Lifting.{one_by_number}
-use Rattle.given_spec.specs.Given.{Given}
+use Rattle.judge_spec.specs.Given.{Given}
 use Rattle.pci_claims.specs.Passed.{ArePassed, passes_with}
 use Rattle.pci_claims.specs.Sent.{IsSentTo}
 use Rattle.pci_claims.specs.Reached.{PassesAt}

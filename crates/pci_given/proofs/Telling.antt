@@ -5,7 +5,7 @@ use Rattle.std.proofs.lemmas.List.{get_or_default}
 use Rattle.pci_spec.specs.Slot.{Slot}
 use Rattle.pci_faults.specs.declared.shares.Among.{Among}
 use Rattle.pci_faults.specs.declared.shares.Share.{Share}
-use Rattle.given_spec.specs.ToldAllFaults.{region_number}
+use Rattle.judge_spec.specs.ToldAllFaults.{region_number}
 use Rattle.pci_claims.specs.Claim.{Claimed}
 use Rattle.pci_claims.specs.BusClaims.{claim_number}
 use Rattle.pci_given.proofs.Tellings.{Places, AreRising, IsAtPlace, IsSharedAs, AreLeastOf, place_before}

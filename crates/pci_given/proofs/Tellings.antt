@@ -9,7 +9,7 @@ use Rattle.pci_spec.specs.Fault as plain
 use Rattle.pci_spec.specs.Order.{judging_key, slot_key, space_key}
 use Rattle.pci_spec.proofs.Members.{in_map_to, in_map_from, pairs_map}
 use Rattle.pci_faults.specs.declared.shares.Share.{Share}
-use Rattle.given_spec.specs.ToldAllFaults.{region_number}
+use Rattle.judge_spec.specs.ToldAllFaults.{region_number}
 use Rattle.pci_given.specs.Lines.{AreJustLines}
 
 pub number_same : (s t : Slot) (r q : ℕ) → s ≡ t → r ≡ q → region_number s r ≡ region_number t q

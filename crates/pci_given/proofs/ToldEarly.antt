@@ -17,12 +17,12 @@ use Rattle.pci_early.specs.Lists.{BeginsWith}
 use Rattle.pci_early.proofs.Checks.{late_alone}
 use Rattle.pci_early.proofs.Lines.{phase_of_line, none_earlier_than}
 use Rattle.pci_early.proofs.Wholes.{before_judging, same_slots}
-use Rattle.given_spec.specs.Given.{Given}
-use Rattle.given_spec.specs.Fault as untold
-use Rattle.given_spec.specs.Told.{IsTold}
-use Rattle.given_spec.specs.ToldClaims.{Told}
-use Rattle.given_spec.specs.ToldFault.{Fault, Known, NotListed}
-use Rattle.given_spec.specs.ToldFaultLines.{AreOfSlots, AreOfNotListed, AreListed, IsEarlyLine, AreAllEarly}
+use Rattle.judge_spec.specs.Given.{Given}
+use Rattle.judge_spec.specs.Fault as untold
+use Rattle.judge_spec.specs.Told.{IsTold}
+use Rattle.judge_spec.specs.ToldClaims.{Told}
+use Rattle.judge_spec.specs.ToldFault.{Fault, Known, NotListed}
+use Rattle.judge_spec.specs.ToldFaultLines.{AreOfSlots, AreOfNotListed, AreListed, IsEarlyLine, AreAllEarly}
 use Rattle.pci_given.specs.AllLines.{plain_fault}
 use Rattle.pci_given.specs.Before.{AreSlotsOf, IsOfNoFunction}
 use Rattle.pci_given.specs.Every.{first_phase, AreEarlyWith, AreBefore}

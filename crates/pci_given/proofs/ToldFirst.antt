@@ -9,9 +9,9 @@ use Rattle.pci_spec.specs.System.{System, system_of}
 use Rattle.pci_spec.specs.Bus.{is_root, is_led_to}
 use Rattle.pci_spec.proofs.BusRanges.{root_means}
 use Rattle.pci_spec.proofs.Pairing.{same_length, slots-system_of}
-use Rattle.given_spec.specs.ToldClaims.{Told}
-use Rattle.given_spec.specs.ToldFault.{IsNotListed, IsHeldOrphan}
-use Rattle.given_spec.specs.ToldFaultLines.{AreNotListed}
+use Rattle.judge_spec.specs.ToldClaims.{Told}
+use Rattle.judge_spec.specs.ToldFault.{IsNotListed, IsHeldOrphan}
+use Rattle.judge_spec.specs.ToldFaultLines.{AreNotListed}
 use Rattle.pci_given.specs.Before.{leads_to, IsOfSome, AreSlotsOf, IsOfNoFunction, IsOfNoBus}
 use Rattle.pci_given.proofs.Leading.{led_by_system}
 

@@ -12,9 +12,9 @@ use Rattle.pci_base.specs.Space.{space_of}
 use Rattle.pci_tree.specs.Outline.{Tree}
 use Rattle.pci_tree.specs.Ranges.{Holds}
 use Rattle.pci_tree.specs.Trees.{HasTree}
-use Rattle.given_spec.specs.Told.{ToldRange, IsTold, IsToldRange}
-use Rattle.given_spec.specs.ToldClaims.{Told, told_register, is_range_on, is_marked_held}
-use Rattle.given_spec.specs.ToldClaims.{Holds as AreAt}
+use Rattle.judge_spec.specs.Told.{ToldRange, IsTold, IsToldRange}
+use Rattle.judge_spec.specs.ToldClaims.{Told, told_register, is_range_on, is_marked_held}
+use Rattle.judge_spec.specs.ToldClaims.{Holds as AreAt}
 use Rattle.pci_given.specs.declared.needed.Needed.{Needed}
 use Rattle.pci_given.specs.Needed.{IsOfRange, Which, IsOneOf, AreJust, Differ, AreAdded, IsNeededRange}
 use Rattle.pci_claims.specs.ToldOn.{AreOnIn}

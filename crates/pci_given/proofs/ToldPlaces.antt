@@ -20,11 +20,11 @@ use Rattle.pci_function.specs.declared.fault.Fault.TheVariants as codes
 use Rattle.pci_function.specs.Fault.{fault_of}
 use Rattle.pci_early.proofs.Checks.{late_alone}
 use Rattle.pci_early.proofs.Keys.{not_before_itself, front_precedes, lower_precedes}
-use Rattle.given_spec.specs.Told.{IsToldRange, IsTold}
-use Rattle.given_spec.specs.ToldClaims.{Told}
-use Rattle.given_spec.specs.ToldFault.{IsHeldOrphan}
-use Rattle.given_spec.specs.ToldFaultLines.{IsEarlyThere, IsEarlyLine, AreAllEarly}
-use Rattle.given_spec.proofs.DeterminedTexts.{pairs_of_map, slot_decided}
+use Rattle.judge_spec.specs.Told.{IsToldRange, IsTold}
+use Rattle.judge_spec.specs.ToldClaims.{Told}
+use Rattle.judge_spec.specs.ToldFault.{IsHeldOrphan}
+use Rattle.judge_spec.specs.ToldFaultLines.{IsEarlyThere, IsEarlyLine, AreAllEarly}
+use Rattle.judge_spec.proofs.DeterminedTexts.{pairs_of_map, slot_decided}
 use Rattle.pci_claims.proofs.Making.{rise_in_order}
 use Rattle.pci_given.specs.Before.{AreSlotsOf, IsOfNoBus, place_number, AreOrphansAdded}
 use Rattle.pci_given.proofs.ToldFirst.{orphan_to, orphan_from}

@@ -15,14 +15,14 @@ use Rattle.pci_tree.specs.Outline.{Tree}
 use Rattle.pci_tree.specs.Trees.{HasTree}
 use Rattle.pci_check.specs.Judgement.{AreHome}
 use Rattle.pci_check.specs.Stops.{AlwaysNested}
-use Rattle.given_spec.specs.Given.{Given}
-use Rattle.given_spec.specs.Fault.{Known, Outside, fault_number}
-use Rattle.given_spec.specs.Fault as spec
-use Rattle.given_spec.specs.AllFaults.{judging_key}
-use Rattle.given_spec.specs.ToldClaims.{Told}
-use Rattle.given_spec.specs.ToldFault.{IsUnreached}
-use Rattle.given_spec.specs.ToldAllFaults.{region_number, IsUnreachedOf, IsNamed}
-use Rattle.given_spec.specs.ToldNumbered.{AreListedIn, AreAllNumbered}
+use Rattle.judge_spec.specs.Given.{Given}
+use Rattle.judge_spec.specs.Fault.{Known, Outside, fault_number}
+use Rattle.judge_spec.specs.Fault as spec
+use Rattle.judge_spec.specs.AllFaults.{judging_key}
+use Rattle.judge_spec.specs.ToldClaims.{Told}
+use Rattle.judge_spec.specs.ToldFault.{IsUnreached}
+use Rattle.judge_spec.specs.ToldAllFaults.{region_number, IsUnreachedOf, IsNamed}
+use Rattle.judge_spec.specs.ToldNumbered.{AreListedIn, AreAllNumbered}
 use Rattle.pci_given.specs.declared.needed.Needed.{Needed}
 use Rattle.pci_given.specs.declared.named.Unreached.{Unreached}
 use Rattle.pci_given.specs.Named.{unreached_of, AreAllUnreached}

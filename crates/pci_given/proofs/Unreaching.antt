@@ -20,10 +20,10 @@ use Rattle.pci_tree.specs.Outline.{Tree, RiseBySlot, IsPathTo}
 use Rattle.pci_tree.specs.Ranges.{Holds}
 use Rattle.pci_tree.proofs.Lifting.{Has}
 use Rattle.pci_tree.specs.Trees.{HasTree}
-use Rattle.given_spec.specs.Given.{Given, starts}
-use Rattle.given_spec.specs.Claims.{passes}
-use Rattle.given_spec.specs.ToldClaims.{Told}
-use Rattle.given_spec.specs.ToldFault.{IsUnreached}
+use Rattle.judge_spec.specs.Given.{Given, starts}
+use Rattle.judge_spec.specs.Claims.{passes}
+use Rattle.judge_spec.specs.ToldClaims.{Told}
+use Rattle.judge_spec.specs.ToldFault.{IsUnreached}
 use Rattle.pci_claims.specs.Outside.{IsSent, IsRootOfPath}
 use Rattle.pci_claims.specs.Reached.{PassesAt}
 use Rattle.pci_given.specs.declared.needed.Needed.{Needed}

@@ -8,12 +8,12 @@ use Rattle.pci_function.specs.declared.fault.Fault.{Fault}
 use Rattle.pci_function.specs.Fault as plain
 use Rattle.pci_tree.specs.Outline.{Tree}
 use Rattle.pci_faults.specs.Lines.{AreAllListed}
-use Rattle.given_spec.specs.Given.{nothing_given}
-use Rattle.given_spec.specs.Fault as untold
-use Rattle.given_spec.specs.ToldClaims.{nothing_told}
-use Rattle.given_spec.specs.ToldFault as spec
-use Rattle.given_spec.proofs.PlainLists.{plain_judging}
-use Rattle.given_spec.proofs.NothingTold.{judging_same}
+use Rattle.judge_spec.specs.Given.{nothing_given}
+use Rattle.judge_spec.specs.Fault as untold
+use Rattle.judge_spec.specs.ToldClaims.{nothing_told}
+use Rattle.judge_spec.specs.ToldFault as spec
+use Rattle.judge_spec.proofs.PlainLists.{plain_judging}
+use Rattle.judge_spec.proofs.NothingTold.{judging_same}
 use Rattle.pci_given.specs.declared.any_fault.AnyFault.{AnyFault}
 use Rattle.pci_claims.specs.Values.{given_value, told_value, host_value, legacy_value, taking_value}
 use Rattle.pci_claims.specs.declared.given.Given as claims

@@ -6,12 +6,12 @@ use Rattle.pci_function.specs.declared.fault.Fault as code
 use Rattle.pci_function.specs.Fault as plain
 use Rattle.pci_tree.specs.Outline.{Tree}
 use Rattle.pci_tree.specs.Trees.{HasTree}
-use Rattle.given_spec.specs.Given.{Given}
-use Rattle.given_spec.specs.Fault as untold
-use Rattle.given_spec.specs.ToldClaims.{Told}
-use Rattle.given_spec.specs.ToldFault as spec
-use Rattle.given_spec.specs.ToldNumbered.{AreListedIn}
-use Rattle.given_spec.specs.ToldAllFaults.{AreAllOfJudging}
+use Rattle.judge_spec.specs.Given.{Given}
+use Rattle.judge_spec.specs.Fault as untold
+use Rattle.judge_spec.specs.ToldClaims.{Told}
+use Rattle.judge_spec.specs.ToldFault as spec
+use Rattle.judge_spec.specs.ToldNumbered.{AreListedIn}
+use Rattle.judge_spec.specs.ToldAllFaults.{AreAllOfJudging}
 use Rattle.pci_claims.specs.declared.given.Given as claims
 use Rattle.pci_given.specs.declared.any_fault.AnyFault.{AnyFault}
 use Rattle.pci_given.specs.declared.any_fault.AnyFault.TheVariants.{Early, NotListed, OutsideHost, Unreached, Clash, Split}

@@ -9,8 +9,8 @@ use Rattle.pci_spec.specs.Fault as plain
 use Rattle.pci_function.specs.declared.fault.Fault.{Fault}
 use Rattle.pci_function.specs.declared.fault.Fault.TheVariants.{Orphan}
 use Rattle.pci_function.specs.Fault.{fault_of}
-use Rattle.given_spec.specs.Told.{ToldRange}
-use Rattle.given_spec.specs.ToldClaims.{is_marked_held}
+use Rattle.judge_spec.specs.Told.{ToldRange}
+use Rattle.judge_spec.specs.ToldClaims.{is_marked_held}
 
 -- the slot is that of such a range
 pub record IsOfSome (Is : ToldRange → Type 0) (ranges : List ToldRange) (slot : Slot) : Type 0 where

@@ -12,9 +12,9 @@ use Rattle.pci_tree.specs.Outline.{Tree}
 use Rattle.pci_faults.specs.declared.shares.Among.{Among}
 use Rattle.pci_faults.specs.declared.shares.Among.TheVariants.{Bus, Roots}
 use Rattle.pci_faults.specs.declared.shares.Share.{Share}
-use Rattle.given_spec.specs.Given.{Given}
-use Rattle.given_spec.specs.ToldClaims.{Told}
-use Rattle.given_spec.specs.ToldAllFaults.{IsClashOf}
+use Rattle.judge_spec.specs.Given.{Given}
+use Rattle.judge_spec.specs.ToldClaims.{Told}
+use Rattle.judge_spec.specs.ToldAllFaults.{IsClashOf}
 use Rattle.pci_claims.specs.Claim.{Claimed, AreAtOdds, may_both_claim}
 use Rattle.pci_given.specs.declared.named.Name.{Name}
 use Rattle.pci_given.specs.declared.named.Clash.{Clash}

@@ -7,14 +7,14 @@ use Rattle.pci_spec.specs.Fault as spec
 use Rattle.pci_spec.specs.Order.{Judging, phase_key, phase_of}
 use Rattle.pci_function.specs.declared.fault.Fault as code
 use Rattle.pci_function.specs.Fault as plain
-use Rattle.given_spec.specs.Given.{Given, TakingBridge}
-use Rattle.given_spec.specs.Told.{ToldRange}
-use Rattle.given_spec.specs.ToldClaims.{Told}
-use Rattle.given_spec.specs.ToldFault.{Fault, NotListed}
-use Rattle.given_spec.specs.ToldFaultLines.{AreOfSlots, AreOfNotListed, AreEarlier, AreListed, IsEarlyThere}
-use Rattle.given_spec.specs.ToldSound.{IsSound}
-use Rattle.given_spec.specs.Unclaimed.{AreTaking}
-use Rattle.given_spec.specs.UnclaimedLaws.{with_taking}
+use Rattle.judge_spec.specs.Given.{Given, TakingBridge}
+use Rattle.judge_spec.specs.Told.{ToldRange}
+use Rattle.judge_spec.specs.ToldClaims.{Told}
+use Rattle.judge_spec.specs.ToldFault.{Fault, NotListed}
+use Rattle.judge_spec.specs.ToldFaultLines.{AreOfSlots, AreOfNotListed, AreEarlier, AreListed, IsEarlyThere}
+use Rattle.judge_spec.specs.ToldSound.{IsSound}
+use Rattle.judge_spec.specs.Unclaimed.{AreTaking}
+use Rattle.judge_spec.specs.UnclaimedLaws.{with_taking}
 use Rattle.pci_tree.specs.Outline.{Tree}
 use Rattle.pci_tree.specs.Trees.{HasTree}
 use Rattle.pci_tree.specs.Admission.{IsOutlineFor}

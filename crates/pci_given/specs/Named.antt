@@ -5,10 +5,10 @@ use Rattle.pci_spec.specs.Fault as plain
 use Rattle.pci_base.specs.Space.{space_of}
 use Rattle.pci_tree.specs.Outline.{Tree}
 use Rattle.pci_tree.specs.Trees.{HasTree}
-use Rattle.given_spec.specs.Given.{Given}
-use Rattle.given_spec.specs.Fault as spec
-use Rattle.given_spec.specs.ToldClaims.{Told}
-use Rattle.given_spec.specs.ToldNumbered.{AreListedIn, AreAllNumbered}
+use Rattle.judge_spec.specs.Given.{Given}
+use Rattle.judge_spec.specs.Fault as spec
+use Rattle.judge_spec.specs.ToldClaims.{Told}
+use Rattle.judge_spec.specs.ToldNumbered.{AreListedIn, AreAllNumbered}
 use Rattle.pci_given.specs.declared.named.Unreached.{Unreached}
 use Rattle.pci_given.specs.declared.named.Clash.{Clash}
 use Rattle.pci_given.specs.declared.named.Split.{Split}

@@ -11,10 +11,10 @@ use Rattle.pci_tree.specs.Outline.{Tree}
 use Rattle.pci_tree.specs.Ranges.{Holds}
 use Rattle.pci_tree.specs.Regions.{is_of_window}
 use Rattle.pci_tree.specs.Trees.{HasTree}
-use Rattle.given_spec.specs.Told.{ToldRange}
-use Rattle.given_spec.specs.ToldClaims.{Told}
-use Rattle.given_spec.specs.ToldFault.{HasToBeReached}
-use Rattle.given_spec.specs.ToldAllFaults.{region_number}
+use Rattle.judge_spec.specs.Told.{ToldRange}
+use Rattle.judge_spec.specs.ToldClaims.{Told}
+use Rattle.judge_spec.specs.ToldFault.{HasToBeReached}
+use Rattle.judge_spec.specs.ToldAllFaults.{region_number}
 use Rattle.pci_given.specs.declared.needed.Needed.{Needed}
 
 -- ---- which addresses of which regions

@@ -3,7 +3,7 @@ use Rattle.std.specs.Prelude.{ℕ, ◌+◌, ◌*◌, ◌^◌}
 use Rattle.pci_spec.specs.Slot.{Slot}
 use Rattle.pci_base.specs.Space.{space_of}
 use Rattle.pci_faults.specs.Order.{place_in}
-use Rattle.given_spec.specs.ToldAllFaults.{region_number}
+use Rattle.judge_spec.specs.ToldAllFaults.{region_number}
 use Rattle.pci_given.specs.declared.named.Clash.{Clash}
 use Rattle.pci_given.specs.declared.named.Split.{Split}
 

@@ -5,11 +5,11 @@ use Rattle.pci_spec.specs.Fault.{address_in, named_region}
 use Rattle.pci_base.specs.Space.{space_of}
 use Rattle.pci_tree.specs.Outline.{Tree}
 use Rattle.pci_tree.specs.Trees.{HasTree}
-use Rattle.given_spec.specs.Given.{Given}
-use Rattle.given_spec.specs.ToldClaims.{Told}
-use Rattle.given_spec.specs.ToldFault.{IsOutside}
-use Rattle.given_spec.specs.ToldAllFaults.{IsOutsideOf, region_number}
-use Rattle.given_spec.specs.ToldNumbered.{AreListedIn}
+use Rattle.judge_spec.specs.Given.{Given}
+use Rattle.judge_spec.specs.ToldClaims.{Told}
+use Rattle.judge_spec.specs.ToldFault.{IsOutside}
+use Rattle.judge_spec.specs.ToldAllFaults.{IsOutsideOf, region_number}
+use Rattle.judge_spec.specs.ToldNumbered.{AreListedIn}
 use Rattle.pci_claims.specs.Made.{AreOneEach}
 use Rattle.pci_given.specs.declared.named.Outside.{Outside}
 use Rattle.pci_given.specs.declared.needed.Needed.{Needed}

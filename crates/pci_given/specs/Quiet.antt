@@ -10,9 +10,9 @@ use Rattle.pci_tree.specs.declared.region.Region.{Region}
 use Rattle.pci_tree.specs.Ranges.{Covers}
 use Rattle.pci_tree.specs.Outline.{Tree}
 use Rattle.pci_tree.specs.Trees.{HasTree}
-use Rattle.given_spec.specs.Given.{Given, legacy_holds, palette_holds}
-use Rattle.given_spec.specs.Claims.{ClaimsOnBus, may_share}
-use Rattle.given_spec.specs.ToldClaims as told_claims
+use Rattle.judge_spec.specs.Given.{Given, legacy_holds, palette_holds}
+use Rattle.judge_spec.specs.Claims.{ClaimsOnBus, may_share}
+use Rattle.judge_spec.specs.ToldClaims as told_claims
 use Rattle.pci_claims.specs.declared.given.LegacyBridge.{LegacyBridge}
 
 -- the region may share each address that it has of the legacy part of the bridge at a slot

@@ -3,8 +3,8 @@ use Rattle.std.specs.Prelude.{◌≡◌, ℕ, ◌<◌, ◌⊎◌, List, Some}
 use Rattle.std.specs.List.{Contains, slice_get}
 use Rattle.pci_spec.specs.System.{Space}
 use Rattle.pci_tree.specs.declared.region.Region.{Region}
-use Rattle.given_spec.specs.Told.{ToldRange}
-use Rattle.given_spec.specs.ToldClaims.{told_register}
+use Rattle.judge_spec.specs.Told.{ToldRange}
+use Rattle.judge_spec.specs.ToldClaims.{told_register}
 use Rattle.pci_given.specs.declared.spans.Span.{Span}
 
 abbrev pub span_of : Region → Span

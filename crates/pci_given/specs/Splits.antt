@@ -8,9 +8,9 @@ use Rattle.pci_base.specs.declared.space.Space.{Space}
 use Rattle.pci_base.specs.Space.{space_of}
 use Rattle.pci_tree.specs.Outline.{Tree}
 use Rattle.pci_faults.specs.declared.shares.Share.{Share}
-use Rattle.given_spec.specs.Given.{Given}
-use Rattle.given_spec.specs.ToldClaims.{Told}
-use Rattle.given_spec.specs.ToldAllFaults.{IsSplitOf}
+use Rattle.judge_spec.specs.Given.{Given}
+use Rattle.judge_spec.specs.ToldClaims.{Told}
+use Rattle.judge_spec.specs.ToldAllFaults.{IsSplitOf}
 use Rattle.pci_claims.specs.Claim.{Claimed}
 use Rattle.pci_given.specs.declared.named.Split.{Split}
 use Rattle.pci_given.specs.Clashes.{claim_at, name_of}

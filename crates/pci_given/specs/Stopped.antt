@@ -12,11 +12,11 @@ use Rattle.pci_tree.specs.Outline.{Tree}
 use Rattle.pci_tree.specs.Ranges.{Holds, Covers}
 use Rattle.pci_tree.specs.Trees.{HasTree}
 use Rattle.pci_check.specs.Stops.{Reaches, ranges_at}
-use Rattle.given_spec.specs.Given.{Given, is_cut, is_isa_port}
-use Rattle.given_spec.specs.ToldClaims.{Told}
-use Rattle.given_spec.specs.ToldFault.{IsUnreached}
-use Rattle.given_spec.specs.ToldAllFaults.{IsUnreachedOf}
-use Rattle.given_spec.specs.ToldNumbered.{AreListedIn}
+use Rattle.judge_spec.specs.Given.{Given, is_cut, is_isa_port}
+use Rattle.judge_spec.specs.ToldClaims.{Told}
+use Rattle.judge_spec.specs.ToldFault.{IsUnreached}
+use Rattle.judge_spec.specs.ToldAllFaults.{IsUnreachedOf}
+use Rattle.judge_spec.specs.ToldNumbered.{AreListedIn}
 use Rattle.pci_claims.specs.Outside.{IsSent}
 use Rattle.pci_claims.specs.Reached.{PassesAt}
 use Rattle.pci_given.specs.declared.needed.Needed.{Needed}

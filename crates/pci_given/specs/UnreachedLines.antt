@@ -2,8 +2,8 @@
 use Rattle.std.specs.Prelude.{◌≡◌, ℕ, List}
 use Rattle.pci_spec.specs.Slot.{Slot}
 use Rattle.pci_tree.specs.Outline.{Tree}
-use Rattle.given_spec.specs.Given.{Given}
-use Rattle.given_spec.specs.ToldAllFaults.{region_number}
+use Rattle.judge_spec.specs.Given.{Given}
+use Rattle.judge_spec.specs.ToldAllFaults.{region_number}
 use Rattle.pci_claims.specs.Made.{AreOneEach}
 use Rattle.pci_given.specs.declared.named.Unreached.{Unreached}
 use Rattle.pci_given.specs.declared.needed.Needed.{Needed}

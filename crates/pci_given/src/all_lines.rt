@@ -1,9 +1,9 @@
 //! All faults of judging, with what is given and told.
 ghost use Rattle.std.specs.Prelude.{◌≡◌, ◌++◌, map, List, IfOk, OnOk};
 ghost use Rattle.pci_spec.specs.Slot.{Slot};
-ghost use Rattle.given_spec.specs.Given.{nothing_given};
-ghost use Rattle.given_spec.specs.Told.{IsTold};
-ghost use Rattle.given_spec.specs.ToldClaims.{nothing_told};
+ghost use Rattle.judge_spec.specs.Given.{nothing_given};
+ghost use Rattle.judge_spec.specs.Told.{IsTold};
+ghost use Rattle.judge_spec.specs.ToldClaims.{nothing_told};
 ghost use Rattle.pci_given.specs.declared.any_fault.AnyFault.TheVariants as codes;
 ghost use Rattle.pci_claims.specs.Values.{given_value, told_value};
 ghost use Rattle.pci_claims.specs.AllClaims.{IsBoard};

@@ -1,6 +1,6 @@
 //! Faults, with what is given and told.
 ghost use Rattle.std.specs.Prelude.{◌≡◌, Some};
-ghost use Rattle.given_spec.specs.ToldLine.{fault_text};
+ghost use Rattle.judge_spec.specs.ToldLine.{fault_text};
 ghost use Rattle.pci_given.specs.declared.any_fault.AnyFault.TheVariants as codes;
 ghost use Rattle.pci_given.specs.AllLines.{fault_of, plain_fault, IsResolved};
 

@@ -6,7 +6,7 @@ ghost use Rattle.std.specs.List.Sorted.{IsNonDecreasingBy, IsPermutation};
 ghost use Rattle.pci_spec.specs.Header.{layout};
 ghost use Rattle.pci_spec.specs.Slot.{slot_number};
 ghost use Rattle.pci_spec.specs.Text.{IsDump, slots_of};
-ghost use Rattle.given_spec.specs.Told.{IsTold};
+ghost use Rattle.judge_spec.specs.Told.{IsTold};
 ghost use Rattle.pci_tree.specs.Roots.{buses_of};
 ghost use Rattle.pci_function.specs.Fault.{fault_of};
 ghost use Rattle.pci_given.specs.Before.{IsLast, IsSlotAdded, AreSlotsOf, AreLedTo, IsOfNoBus, IsOfNoFunction, place_number, AreOrphansAdded};

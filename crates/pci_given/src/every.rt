@@ -1,10 +1,10 @@
 //! All faults of a dump and its probe, with what is given and told.
 ghost use Rattle.std.specs.Prelude.{◌≡◌, ◌↔◌, [], map, IfOk, MatchOption};
 ghost use Rattle.pci_spec.specs.Text.{IsDump};
-ghost use Rattle.given_spec.specs.Told.{IsTold};
-ghost use Rattle.given_spec.specs.ToldFault.{NotListed};
-ghost use Rattle.given_spec.specs.ToldFaultLines.{AreJudged, AreAllFaults};
-ghost use Rattle.given_spec.specs.UnclaimedLaws.{with_taking};
+ghost use Rattle.judge_spec.specs.Told.{IsTold};
+ghost use Rattle.judge_spec.specs.ToldFault.{NotListed};
+ghost use Rattle.judge_spec.specs.ToldFaultLines.{AreJudged, AreAllFaults};
+ghost use Rattle.judge_spec.specs.UnclaimedLaws.{with_taking};
 ghost use Rattle.pci_tree.specs.Admission.{IsOutlineFor};
 ghost use Rattle.pci_tree.specs.Roots.{buses_of};
 ghost use Rattle.pci_claims.specs.Values.{given_value, told_value};

@@ -1,7 +1,7 @@
 //! Faults of judging, each with the regions that it names. They are shown as number, name and fields.
 ghost use Rattle.std.specs.Prelude.{Some};
-ghost use Rattle.given_spec.specs.ToldFault.{Known};
-ghost use Rattle.given_spec.specs.ToldLine.{region_text, fault_text};
+ghost use Rattle.judge_spec.specs.ToldFault.{Known};
+ghost use Rattle.judge_spec.specs.ToldLine.{region_text, fault_text};
 
 use pci_base::slot::Slot;
 use pci_base::space::{Address, Space};

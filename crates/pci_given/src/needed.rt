@@ -2,7 +2,7 @@
 //! held.
 ghost use Rattle.std.specs.Prelude.{◌≡◌, IfOk, OnOk};
 ghost use Rattle.std.specs.List.Sorted.{IsNonDecreasingBy, IsPermutation};
-ghost use Rattle.given_spec.specs.ToldAllFaults.{region_number};
+ghost use Rattle.judge_spec.specs.ToldAllFaults.{region_number};
 ghost use Rattle.pci_claims.specs.Values.{told_value};
 ghost use Rattle.pci_claims.specs.AllClaims.{IsBoard};
 ghost use Rattle.pci_given.specs.Needed.{needed_place, AreAllNeeded, AreToldNeeded};

@@ -3,7 +3,7 @@ ghost use Rattle.std.specs.Prelude.{◌≡◌, ◌<◌, ◌^◌, OnOk};
 ghost use Rattle.std.specs.List.Sorted.{IsNonDecreasingBy, IsPermutation};
 ghost use Rattle.pci_base.specs.Space.{space_of};
 ghost use Rattle.pci_faults.specs.Order.{place_in};
-ghost use Rattle.given_spec.specs.ToldAllFaults.{region_number};
+ghost use Rattle.judge_spec.specs.ToldAllFaults.{region_number};
 ghost use Rattle.pci_given.specs.Order.{number_on_bus, clash_place, split_place};
 
 use super::named::{Clash, Split};

@@ -6,7 +6,7 @@ ghost use Rattle.std.specs.List.Sorted.{IsPermutation};
 ghost use Rattle.pci_base.specs.Space.{space_of};
 ghost use Rattle.pci_tree.specs.Ranges.{IsCanonical};
 ghost use Rattle.pci_tree.specs.Roots.{buses_of};
-ghost use Rattle.given_spec.specs.Told.{IsTold};
+ghost use Rattle.judge_spec.specs.Told.{IsTold};
 ghost use Rattle.pci_claims.specs.Values.{given_value, told_value};
 ghost use Rattle.pci_given.specs.Quiet.{IsOff, IsOffLegacy, HasThoseOn, HoldNothing, AreQuiet, IsQuietInEach, IsQuietWith};
 

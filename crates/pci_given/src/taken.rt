@@ -2,8 +2,8 @@
 ghost use Rattle.std.specs.Prelude.{IfOk};
 ghost use Rattle.pci_spec.specs.System.{System};
 ghost use Rattle.pci_tree.specs.Trees.{HasTree};
-ghost use Rattle.given_spec.specs.Told.{IsTold};
-ghost use Rattle.given_spec.specs.Unclaimed.{AreTaking};
+ghost use Rattle.judge_spec.specs.Told.{IsTold};
+ghost use Rattle.judge_spec.specs.Unclaimed.{AreTaking};
 ghost use Rattle.pci_claims.specs.Values.{given_value, told_value};
 
 use super::said::Said;

@@ -2,7 +2,7 @@
 ghost use Rattle.std.specs.Prelude.{◌≡◌, ◌++◌, map, IfOk, OnOk};
 ghost use Rattle.std.specs.List.{flat_map};
 ghost use Rattle.std.specs.String.{string_bytes};
-ghost use Rattle.given_spec.specs.ToldLine.{fault_line, list_text};
+ghost use Rattle.judge_spec.specs.ToldLine.{fault_line, list_text};
 ghost use Rattle.pci_given.specs.AllLines.{fault_of};
 
 use super::any_fault::AnyFault;

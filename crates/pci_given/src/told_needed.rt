@@ -1,8 +1,8 @@
 //! The told ranges that have to be sent and reached: those that are on and that aren't held.
 ghost use Rattle.std.specs.Prelude.{◌≡◌, ◌&&◌, OnOk, length, not};
 ghost use Rattle.pci_tree.specs.Outline.{Tree};
-ghost use Rattle.given_spec.specs.Told.{IsTold};
-ghost use Rattle.given_spec.specs.ToldClaims.{is_marked_held};
+ghost use Rattle.judge_spec.specs.Told.{IsTold};
+ghost use Rattle.judge_spec.specs.ToldClaims.{is_marked_held};
 ghost use Rattle.pci_claims.specs.Values.{told_value};
 ghost use Rattle.pci_given.specs.Needed.{AreAdded, IsNeededRange, IsOfRange};
 ghost use Rattle.pci_claims.specs.ToldOn.{AreOnIn};

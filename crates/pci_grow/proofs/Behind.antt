@@ -13,9 +13,9 @@ use Rattle.pci_spec.specs.Decoded.{Range as DecodedRange}
 use Rattle.pci_spec.specs.System.{Space, Function, IsFunction, has_part, is_bridge}
 use Rattle.pci_spec.specs.Bus.{secondary, subordinate}
 use Rattle.pci_spec.proofs.Members.{in_nil, in_head, in_map_to, in_map_from, IsMade}
-use Rattle.given_spec.specs.Told.{ToldRange}
-use Rattle.given_spec.specs.ToldClaims.{told_register}
-use Rattle.given_spec.specs.ToldRegion.{ToldRegion, regions_from, told_regions}
+use Rattle.judge_spec.specs.Told.{ToldRange}
+use Rattle.judge_spec.specs.ToldClaims.{told_register}
+use Rattle.judge_spec.specs.ToldRegion.{ToldRegion, regions_from, told_regions}
 use Rattle.settle_spec.specs.Lines.{line_range, is_line_of, is_line_behind, lines_on, lines_behind}
 use Rattle.settle_spec.specs.Lists.{Request}
 use Rattle.settle_spec.specs.Stands.{window_part}

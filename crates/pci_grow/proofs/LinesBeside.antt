@@ -11,10 +11,10 @@ use Rattle.pci_spec.specs.Decoded.{Range}
 use Rattle.pci_spec.specs.Bus.{are_siblings}
 use Rattle.pci_spec.specs.System.{System, Space}
 use Rattle.pci_spec.proofs.Members.{in_nil, in_head, in_tail, in_cons_cases, in_map_to, in_map_from, IsMade, in_filter_to, in_filter_from, in_flat_map_to, in_flat_map_from, IsInPiece}
-use Rattle.given_spec.specs.Told.{ToldRange}
-use Rattle.given_spec.specs.ToldForm.{blank}
-use Rattle.given_spec.specs.ToldClaims.{told_register, is_marked_held}
-use Rattle.given_spec.specs.ToldRegion.{ToldRegion, regions_from, told_regions, told_extent}
+use Rattle.judge_spec.specs.Told.{ToldRange}
+use Rattle.judge_spec.specs.ToldForm.{blank}
+use Rattle.judge_spec.specs.ToldClaims.{told_register, is_marked_held}
+use Rattle.judge_spec.specs.ToldRegion.{ToldRegion, regions_from, told_regions, told_extent}
 use Rattle.settle_spec.specs.Lines.{line_range, can_keep_off}
 use Rattle.settle_spec.specs.Lists.{Request}
 use Rattle.settle_spec.specs.Parts.{FunctionPart, addresses, are_same_space}

@@ -8,7 +8,7 @@ use Rattle.std.proofs.lemmas.List.Elements.{All-contains, Contains-append_left, 
 use Rattle.pci_spec.specs.Slot.{Slot}
 use Rattle.pci_spec.specs.Decoded.{Range}
 use Rattle.pci_spec.specs.System.{Space}
-use Rattle.given_spec.specs.Told.{ToldRange}
+use Rattle.judge_spec.specs.Told.{ToldRange}
 use Rattle.settle_spec.specs.Parts.{are_same_space}
 use Rattle.pci_base.specs.Ranges.{decoded_range_of}
 use Rattle.pci_base.specs.Space.{space_of}

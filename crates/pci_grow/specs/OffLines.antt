@@ -5,9 +5,9 @@ use Rattle.std.specs.Option.{option_map}
 use Rattle.pci_spec.specs.Slot.{Slot, same_slot}
 use Rattle.pci_spec.specs.Decoded.{Range as DecodedRange}
 use Rattle.pci_spec.specs.System.{Space}
-use Rattle.given_spec.specs.Told.{ToldRange}
-use Rattle.given_spec.specs.ToldForm.{blank}
-use Rattle.given_spec.specs.ToldClaims.{is_marked_held}
+use Rattle.judge_spec.specs.Told.{ToldRange}
+use Rattle.judge_spec.specs.ToldForm.{blank}
+use Rattle.judge_spec.specs.ToldClaims.{is_marked_held}
 use Rattle.settle_spec.specs.Parts.{are_same_space}
 use Rattle.settle_spec.specs.Reach.{before_window, past_window}
 use Rattle.pci_base.specs.Ranges.{decoded_range_of}

@@ -5,7 +5,7 @@ use Rattle.pci_spec.specs.Window.{WindowKind}
 use Rattle.pci_spec.specs.System.{System, Function, is_bridge}
 use Rattle.pci_spec.specs.Bus.{secondary}
 use Rattle.pci_spec.specs.Decoded.{Range}
-use Rattle.given_spec.specs.Told.{ToldRange}
+use Rattle.judge_spec.specs.Told.{ToldRange}
 use Rattle.settle_spec.specs.Lists.{Lists, Request}
 use Rattle.settle_spec.specs.Parts.{FunctionPart, addresses}
 use Rattle.settle_spec.specs.Stands.{window_part, stands}

@@ -4,7 +4,7 @@ ghost use Rattle.std.specs.List.{AllWithin, filter};
 ghost use Rattle.std.specs.Option.{option_map};
 ghost use Rattle.std.specs.List.Sorted.{IsNonDecreasingBy};
 ghost use Rattle.pci_spec.specs.Decoded.{Range as DecodedRange};
-ghost use Rattle.given_spec.specs.Told.{ToldRange as RangeValue};
+ghost use Rattle.judge_spec.specs.Told.{ToldRange as RangeValue};
 ghost use Rattle.settle_spec.specs.Parts.{are_same_space};
 ghost use Rattle.pci_base.specs.Ranges.{decoded_range_of};
 ghost use Rattle.pci_base.specs.Space.{space_of};

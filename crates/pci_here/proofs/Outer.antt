@@ -4,7 +4,7 @@ use Rattle.std.specs.List.{list_any}
 use Rattle.std.proofs.lemmas.Bool.{false≢true, cases_Bool, and_parts, and_from, eqb-true, eq-eqb, leb-true, le-leb}
 use Rattle.std.proofs.lemmas.List.{drop_more}
 use Rattle.std.proofs.lemmas.List.Folds.{list_any-append, Any-from_list_any, list_any-from_Any}
-use Rattle.given_spec.specs.Given.{is_for, sends}
+use Rattle.judge_spec.specs.Given.{is_for, sends}
 use Rattle.pci_base.specs.declared.range.RootRange.{RootRange}
 use Rattle.pciplan_lists.specs.HostLists.{host_range_of}
 use Rattle.pci_here.specs.HostRanges.{same_root, lies_within, outer_ranges, sends_by}

@@ -1,7 +1,7 @@
 -- What the host sends to the root buses of a domain, as `/proc/ioports` or `/proc/iomem` lists it.
 use Rattle.std.specs.Prelude.{◌≡◌, ◌⊎◌, ℕ, ◌≤◌, ◌==◌, nat_le, Bool, true, false, ◌&&◌, if◌then◌else◌, List, [], ◌∷◌, ◌++◌, Option, None, Some}
 use Rattle.std.specs.List.{Contains, list_any, slice_split}
-use Rattle.given_spec.specs.Given.{sends}
+use Rattle.judge_spec.specs.Given.{sends}
 use Rattle.pci_base.specs.declared.range.RootRange.{RootRange}
 use Rattle.pciplan_lists.specs.HostLists.{host_range_of, IsGoodHostList}
 use Rattle.std.specs.Global.{Vec}

@@ -11,9 +11,9 @@ use Rattle.pci_spec.specs.Line.{hex_number}
 use Rattle.pci_spec.specs.System.{Space, Io, Memory, Part, Bar, Rom, Window}
 use Rattle.pci_spec.specs.Decoded.{Range}
 use Rattle.pci_spec.specs.Listing.{range_text}
-use Rattle.given_spec.specs.Told.{Mark, Command, Always, Held, ToldRange, IsToldRange, IsTold, is_name_byte}
-use Rattle.given_spec.specs.ToldRegion.{ToldRegion, mark_word}
-use Rattle.map_spec.specs.MapText.{indent, part_name, told_part_name}
+use Rattle.judge_spec.specs.Told.{Mark, Command, Always, Held, ToldRange, IsToldRange, IsTold, is_name_byte}
+use Rattle.judge_spec.specs.ToldRegion.{ToldRegion, mark_word}
+use Rattle.judge_spec.specs.MapText.{indent, part_name, told_part_name}
 use Rattle.pci_map.specs.Lines.{isa_ending, name_ending}
 use Rattle.pci_listing.proofs.HexPushes.{digit_ascii}
 use Rattle.pci_listing.specs.Amounts.{unit_text}

@@ -8,14 +8,14 @@ use Rattle.pci_spec.specs.Slot.{Slot, slot_number}
 use Rattle.pci_spec.specs.System.{System, Space, Io, Memory}
 use Rattle.pci_spec.specs.Why.{Region}
 use Rattle.pci_spec.proofs.Members.{in_nil, in_cons_cases}
-use Rattle.given_spec.specs.Given.{Given}
-use Rattle.given_spec.specs.Told.{ToldRange, IsTold}
-use Rattle.given_spec.specs.ToldClaims.{Told, told_register, is_range_on}
-use Rattle.given_spec.specs.ToldRegion.{ToldRegion, IsToldIn}
-use Rattle.map_spec.specs.Regions.{MapRegion, Own, OfLine, IsIn}
-use Rattle.map_spec.specs.Lines.{IsOutOfPlace}
-use Rattle.map_spec.specs.Map.{HasWay, IsOutsideWindows, IsOnlyLeft}
-use Rattle.map_spec.specs.MapText.{map_region_line}
+use Rattle.judge_spec.specs.Given.{Given}
+use Rattle.judge_spec.specs.Told.{ToldRange, IsTold}
+use Rattle.judge_spec.specs.ToldClaims.{Told, told_register, is_range_on}
+use Rattle.judge_spec.specs.ToldRegion.{ToldRegion, IsToldIn}
+use Rattle.judge_spec.specs.Regions.{MapRegion, Own, OfLine, IsIn}
+use Rattle.judge_spec.specs.Lines.{IsOutOfPlace}
+use Rattle.judge_spec.specs.Map.{HasWay, IsOutsideWindows, IsOnlyLeft}
+use Rattle.judge_spec.specs.MapText.{map_region_line}
 use Rattle.pci_function.specs.declared.record.Record.{Record}
 use Rattle.pci_tree.specs.declared.region.Region as outline
 use Rattle.pci_tree.specs.Outline.{RiseBySlot}

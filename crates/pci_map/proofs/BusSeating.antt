@@ -14,11 +14,11 @@ use Rattle.pci_spec.proofs.Members.{IsMade, in_nil, in_map_to, in_map_from, pair
 use Rattle.pci_tree.specs.declared.region.Region.{Region}
 use Rattle.pci_tree.specs.Outline.{Tree, AreSortedRegionsOf}
 use Rattle.pci_tree.specs.Trees.{HasTree}
-use Rattle.given_spec.specs.Told.{ToldRange, IsTold, IsToldRange}
-use Rattle.given_spec.specs.ToldClaims.{Told, told_register}
-use Rattle.given_spec.specs.ToldAllFaults.{region_number}
-use Rattle.given_spec.specs.ToldRegion.{ToldRegion}
-use Rattle.given_spec.proofs.Reasons.{low_register}
+use Rattle.judge_spec.specs.Told.{ToldRange, IsTold, IsToldRange}
+use Rattle.judge_spec.specs.ToldClaims.{Told, told_register}
+use Rattle.judge_spec.specs.ToldAllFaults.{region_number}
+use Rattle.judge_spec.specs.ToldRegion.{ToldRegion}
+use Rattle.judge_spec.proofs.Reasons.{low_register}
 use Rattle.pci_claims.specs.declared.all_claims.Stretch.{Stretch}
 use Rattle.pci_claims.specs.AllClaims.{IsStretchOf, IsOnAt}
 use Rattle.pci_claims.specs.ToldOn.{AreOnIn}

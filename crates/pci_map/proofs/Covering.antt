@@ -7,11 +7,11 @@ use Rattle.pci_spec.specs.System.{System, Space}
 use Rattle.pci_spec.proofs.Members.{IsMade, in_nil, in_cons_cases, in_head, in_map_to, in_map_from, pairs_map}
 use Rattle.pci_spec.specs.Slot.{Slot}
 use Rattle.pci_spec.specs.Fault.{RegionName, address_in}
-use Rattle.given_spec.specs.Given.{Given}
-use Rattle.given_spec.specs.ToldClaims.{Told, RangeClaimsOnBus}
-use Rattle.given_spec.specs.ToldRegion.{ToldRegion, told_name}
-use Rattle.map_spec.specs.Regions.{range_of}
-use Rattle.map_spec.specs.Lines.{IsClaimedOn}
+use Rattle.judge_spec.specs.Given.{Given}
+use Rattle.judge_spec.specs.ToldClaims.{Told, RangeClaimsOnBus}
+use Rattle.judge_spec.specs.ToldRegion.{ToldRegion, told_name}
+use Rattle.judge_spec.specs.Regions.{range_of}
+use Rattle.judge_spec.specs.Lines.{IsClaimedOn}
 use Rattle.pci_base.specs.declared.range.Range.{Range}
 use Rattle.pci_tree.specs.Ranges.{Covers}
 use Rattle.pci_claims.specs.Gathered.{IsGathered}

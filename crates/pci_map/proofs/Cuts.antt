@@ -8,8 +8,8 @@ use Rattle.pci_spec.specs.Window.{IoWindow, MemoryWindow, PrefetchWindow, has_wi
 use Rattle.pci_spec.specs.System.{System, Function, Space, Io, Memory, Claims, has_part, is_window, register_of}
 use Rattle.pci_spec.specs.System as system
 use Rattle.pci_spec.proofs.Regions.{part_same}
-use Rattle.given_spec.specs.Given.{Given, has_isa, is_isa_port, is_cut}
-use Rattle.given_spec.specs.Claims.{OwnClaims, is_cut_of}
+use Rattle.judge_spec.specs.Given.{Given, has_isa, is_isa_port, is_cut}
+use Rattle.judge_spec.specs.Claims.{OwnClaims, is_cut_of}
 use Rattle.pci_tree.specs.declared.region.Region.{Region}
 use Rattle.pci_tree.specs.Regions.{IsRegionOf, IsRegionOn, is_of_window}
 use Rattle.pci_tree.proofs.RegionParts.{window_named}

@@ -11,10 +11,10 @@ use Rattle.pci_spec.specs.System.{System, Function, Space, Io, Memory, Claims, I
 use Rattle.pci_spec.specs.System as system
 use Rattle.pci_spec.specs.Why.{IsRegionIn}
 use Rattle.pci_spec.proofs.Regions.{part_same}
-use Rattle.given_spec.specs.Given.{Given, is_cut}
-use Rattle.given_spec.specs.Claims.{is_cut_of}
-use Rattle.map_spec.specs.Lines.{is_first_window}
-use Rattle.map_spec.proofs.Having.{first_claims}
+use Rattle.judge_spec.specs.Given.{Given, is_cut}
+use Rattle.judge_spec.specs.Claims.{is_cut_of}
+use Rattle.judge_spec.specs.Lines.{is_first_window}
+use Rattle.judge_spec.proofs.Having.{first_claims}
 use Rattle.pci_tree.specs.declared.region.Region.{Region}
 use Rattle.pci_claims.specs.Claim.{is_cut_from}
 use Rattle.pci_claims.specs.Found.{region_of_found, IsFoundIn}

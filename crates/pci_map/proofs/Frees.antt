@@ -9,9 +9,9 @@ use Rattle.pci_spec.specs.System.{System, Space, IsAddress}
 use Rattle.pci_spec.specs.Decoded as decoded
 use Rattle.pci_spec.specs.Why.{AreRuns}
 use Rattle.pci_spec.proofs.Members.{pairs_nil}
-use Rattle.given_spec.specs.Given.{Given, ranges_said}
-use Rattle.given_spec.specs.ToldClaims.{Told}
-use Rattle.map_spec.specs.Lines.{IsClaimedOn, IsFreeOn}
+use Rattle.judge_spec.specs.Given.{Given, ranges_said}
+use Rattle.judge_spec.specs.ToldClaims.{Told}
+use Rattle.judge_spec.specs.Lines.{IsClaimedOn, IsFreeOn}
 use Rattle.pci_base.specs.declared.range.Range.{Range}
 use Rattle.pci_base.specs.Ranges.{decoded_range_of}
 use Rattle.pci_tree.specs.declared.region.Region.{Region}

@@ -1,7 +1,7 @@
 -- Steps of depth.
 use Rattle.std.proofs.Common.{◌≡◌, ℕ, zero, suc, ◌+◌, ◌*◌, ◌/◌, ◌%◌, ◌≤◌, List, ◌∷◌, ◌++◌, refl, ap, sym, ◌∙◌, arith, codes, append-nil, replicate, take}
 use Rattle.std.proofs.lemmas.List.{append_assoc, take-replicate}
-use Rattle.map_spec.specs.MapText.{indent}
+use Rattle.judge_spec.specs.MapText.{indent}
 
 pub no_indent : (start : List ℕ) → start ≡ start ++ indent 0
 unfolding indent

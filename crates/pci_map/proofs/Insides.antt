@@ -12,13 +12,13 @@ use Rattle.pci_spec.specs.Bus.{secondary}
 use Rattle.pci_spec.specs.Why.{IsRegionIn, AreRuns}
 use Rattle.pci_spec.proofs.Members.{in_filter_to, in_filter_from, pairs_filter}
 use Rattle.pci_spec.proofs.Regions.{part_same}
-use Rattle.given_spec.specs.Given.{Given, is_cut}
-use Rattle.given_spec.specs.Claims.{is_cut_of}
-use Rattle.given_spec.specs.Told.{IsTold}
-use Rattle.given_spec.specs.ToldClaims.{Told}
-use Rattle.map_spec.specs.Regions.{slot_of, range_of}
-use Rattle.map_spec.specs.Lines.{is_first_window, BelongsUnder, IsClaimedOn, IsFreeIn, IsOutOfPlace}
-use Rattle.map_spec.proofs.Having.{first_claims}
+use Rattle.judge_spec.specs.Given.{Given, is_cut}
+use Rattle.judge_spec.specs.Claims.{is_cut_of}
+use Rattle.judge_spec.specs.Told.{IsTold}
+use Rattle.judge_spec.specs.ToldClaims.{Told}
+use Rattle.judge_spec.specs.Regions.{slot_of, range_of}
+use Rattle.judge_spec.specs.Lines.{is_first_window, BelongsUnder, IsClaimedOn, IsFreeIn, IsOutOfPlace}
+use Rattle.judge_spec.proofs.Having.{first_claims}
 use Rattle.pci_base.specs.declared.range.Range.{Range}
 use Rattle.pci_base.specs.Ranges.{decoded_range_of}
 use Rattle.pci_tree.specs.declared.region.Part.TheVariants.{Window}

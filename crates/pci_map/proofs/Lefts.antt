@@ -14,12 +14,12 @@ use Rattle.pci_spec.specs.Decoded.{InRange}
 use Rattle.pci_spec.specs.Why as why
 use Rattle.pci_spec.specs.Why.{IsRegionIn}
 use Rattle.pci_spec.proofs.Ways.{a_way_to_each}
-use Rattle.given_spec.specs.Given.{Given, takes}
-use Rattle.map_spec.specs.Regions.{MapRegion, Own, slot_of, range_of}
-use Rattle.map_spec.specs.Regions as regions
-use Rattle.map_spec.specs.Lines.{is_first_window, BelongsUnder, StandsBehind}
-use Rattle.map_spec.specs.Map.{HasWay, IsOutsideWindows}
-use Rattle.map_spec.proofs.Having.{window_has_space}
+use Rattle.judge_spec.specs.Given.{Given, takes}
+use Rattle.judge_spec.specs.Regions.{MapRegion, Own, slot_of, range_of}
+use Rattle.judge_spec.specs.Regions as regions
+use Rattle.judge_spec.specs.Lines.{is_first_window, BelongsUnder, StandsBehind}
+use Rattle.judge_spec.specs.Map.{HasWay, IsOutsideWindows}
+use Rattle.judge_spec.proofs.Having.{window_has_space}
 use Rattle.pci_tree.specs.declared.region.Region.{Region}
 use Rattle.pci_tree.specs.Ranges.{Covers}
 use Rattle.pci_map.specs.Addresses.{SpaceRanges, ranges_in, AreTaken}

@@ -5,11 +5,11 @@ use Rattle.pci_spec.specs.Slot.{Slot}
 use Rattle.pci_spec.specs.Text.{hex_byte, slot_text}
 use Rattle.pci_spec.specs.System.{Space, Io, Memory}
 use Rattle.pci_spec.specs.Listing.{words}
-use Rattle.given_spec.specs.Given.{Given}
-use Rattle.given_spec.specs.Why.{isa_words_of}
-use Rattle.given_spec.specs.ToldRegion.{name_words}
-use Rattle.map_spec.specs.Regions.{Own}
-use Rattle.map_spec.specs.MapText.{indent, part_name, extent_line, map_region_line}
+use Rattle.judge_spec.specs.Given.{Given}
+use Rattle.judge_spec.specs.Why.{isa_words_of}
+use Rattle.judge_spec.specs.ToldRegion.{name_words}
+use Rattle.judge_spec.specs.Regions.{Own}
+use Rattle.judge_spec.specs.MapText.{indent, part_name, extent_line, map_region_line}
 use Rattle.pci_tree.specs.declared.region.Part.{Part}
 use Rattle.pci_tree.specs.declared.region.Part.TheVariants.{Bar, Rom, Window}
 use Rattle.pci_tree.specs.declared.region.Region.{Region}

@@ -3,10 +3,10 @@ use Rattle.std.proofs.Common.{◌≡◌, ℕ, List, [], ◌++◌, ap, ◌∙◌}
 use Rattle.std.specs.List.{flat_map, range_with_len}
 use Rattle.std.proofs.lemmas.List.{append_assoc}
 use Rattle.pci_spec.specs.System.{System}
-use Rattle.given_spec.specs.Given.{Given}
-use Rattle.given_spec.specs.ToldClaims.{Told}
-use Rattle.map_spec.specs.Map.{Map}
-use Rattle.map_spec.specs.MapText.{root_text, outside_text, unreached_text, map_off_text, IsMapText}
+use Rattle.judge_spec.specs.Given.{Given}
+use Rattle.judge_spec.specs.ToldClaims.{Told}
+use Rattle.judge_spec.specs.Map.{Map}
+use Rattle.judge_spec.specs.MapText.{root_text, outside_text, unreached_text, map_off_text, IsMapText}
 use Rattle.pci_map.specs.Buses.{AreRootsTold}
 use Rattle.pci_map.specs.Asides.{AreAsidesTold}
 

@@ -9,11 +9,11 @@ use Rattle.pci_spec.specs.System.{System, Space}
 use Rattle.pci_spec.specs.Decoded as decoded
 use Rattle.pci_spec.specs.Why.{IsRun, AreRuns}
 use Rattle.pci_spec.proofs.Members.{IsMade, in_nil, in_cons_cases, in_head, in_tail, in_map_to, in_map_from, pairs_nil, pairs_cons, pairs_head, pairs_tail, pairs_append, pairs_map}
-use Rattle.given_spec.specs.Given.{Given}
-use Rattle.given_spec.specs.ToldClaims.{Told}
-use Rattle.map_spec.specs.Regions.{MapRegion, space_of, IsIn}
-use Rattle.map_spec.specs.Lines as spec
-use Rattle.map_spec.specs.Lines.{Lines, End, Free, Sits, MapPlace, Mark, region_mark, run_mark, marks, regions_at, runs_at, StandsInPlace, IsOutOfPlace, IsFreeInPlace, AreLinesAt}
+use Rattle.judge_spec.specs.Given.{Given}
+use Rattle.judge_spec.specs.ToldClaims.{Told}
+use Rattle.judge_spec.specs.Regions.{MapRegion, space_of, IsIn}
+use Rattle.judge_spec.specs.Lines as spec
+use Rattle.judge_spec.specs.Lines.{Lines, End, Free, Sits, MapPlace, Mark, region_mark, run_mark, marks, regions_at, runs_at, StandsInPlace, IsOutOfPlace, IsFreeInPlace, AreLinesAt}
 use Rattle.pci_base.specs.declared.range.Range.{Range}
 use Rattle.pci_base.specs.Ranges.{decoded_range_of}
 use Rattle.pci_map.specs.declared.seat.Seat.{Seat}

@@ -14,12 +14,12 @@ use Rattle.pci_spec.specs.Listing.{kind_space}
 use Rattle.pci_spec.specs.Why.{off_bars}
 use Rattle.pci_spec.proofs.Members.{in_head, in_flat_map_to, in_map_to}
 use Rattle.pci_spec.proofs.Regions.{slot_number-same}
-use Rattle.given_spec.specs.Told.{ToldRange, IsTold}
-use Rattle.given_spec.specs.ToldClaims.{Told, is_range_on}
-use Rattle.given_spec.specs.ToldLine.{register_text}
-use Rattle.given_spec.specs.ToldRegion.{ToldRegion, told_extent, regions_from, is_off_at, off_ranges, name_words}
-use Rattle.given_spec.proofs.Judging.{slots_same}
-use Rattle.map_spec.specs.MapText.{indent, part_name, told_part_name, extent_line, under_heading, map_told_line, map_off_line, map_off_bars_of, map_off_lines_of, map_off_text}
+use Rattle.judge_spec.specs.Told.{ToldRange, IsTold}
+use Rattle.judge_spec.specs.ToldClaims.{Told, is_range_on}
+use Rattle.judge_spec.specs.ToldLine.{register_text}
+use Rattle.judge_spec.specs.ToldRegion.{ToldRegion, told_extent, regions_from, is_off_at, off_ranges, name_words}
+use Rattle.judge_spec.proofs.Judging.{slots_same}
+use Rattle.judge_spec.specs.MapText.{indent, part_name, told_part_name, extent_line, under_heading, map_told_line, map_off_line, map_off_bars_of, map_off_lines_of, map_off_text}
 use Rattle.pci_tree.proofs.Regions.{on_same}
 use Rattle.pci_map.specs.Off.{section, off_bars_text, off_from, off_ranges_text, off_record}
 

@@ -9,9 +9,9 @@ use Rattle.pci_spec.specs.Bus.{IsNested, secondary}
 use Rattle.pci_spec.specs.Decoded.{record_of}
 use Rattle.pci_spec.specs.Why.{IsRegionIn}
 use Rattle.pci_spec.proofs.BusRanges.{bus_order_means}
-use Rattle.given_spec.specs.Given.{Given}
-use Rattle.given_spec.specs.Told.{IsTold}
-use Rattle.given_spec.specs.ToldClaims.{Told}
+use Rattle.judge_spec.specs.Given.{Given}
+use Rattle.judge_spec.specs.Told.{IsTold}
+use Rattle.judge_spec.specs.ToldClaims.{Told}
 use Rattle.pci_function.specs.declared.record.Bridge.{Bridge}
 use Rattle.pci_function.specs.declared.record.Record.{Record}
 use Rattle.pci_function.specs.Values.{record_value}

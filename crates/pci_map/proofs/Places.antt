@@ -11,17 +11,17 @@ use Rattle.pci_spec.specs.System as system
 use Rattle.pci_spec.specs.Fault.{RegionName, address_in, named_region}
 use Rattle.pci_spec.proofs.Members.{in_nil, in_cons_cases, in_head, in_tail}
 use Rattle.pci_spec.proofs.Regions.{part_same, register_of-lt}
-use Rattle.given_spec.specs.Given.{Given, starts, starts_in, ranges_said}
-use Rattle.given_spec.specs.Fault as untold
-use Rattle.given_spec.specs.Told.{ToldRange, IsTold}
-use Rattle.given_spec.specs.ToldClaims.{Told, is_marked_held}
-use Rattle.given_spec.specs.ToldFault.{IsOutside, IsRangeOutside}
-use Rattle.given_spec.specs.ToldRegion.{ToldRegion, told_name, IsToldIn}
-use Rattle.given_spec.proofs.Judging.{slots_same}
-use Rattle.given_spec.proofs.Reasons.{low_register}
-use Rattle.given_spec.proofs.ToldNames.{one_range}
-use Rattle.map_spec.specs.Regions.{MapRegion, Own, OfLine, slot_of, register_of, space_of}
-use Rattle.map_spec.specs.Lines.{IsOutOfPlace}
+use Rattle.judge_spec.specs.Given.{Given, starts, starts_in, ranges_said}
+use Rattle.judge_spec.specs.Fault as untold
+use Rattle.judge_spec.specs.Told.{ToldRange, IsTold}
+use Rattle.judge_spec.specs.ToldClaims.{Told, is_marked_held}
+use Rattle.judge_spec.specs.ToldFault.{IsOutside, IsRangeOutside}
+use Rattle.judge_spec.specs.ToldRegion.{ToldRegion, told_name, IsToldIn}
+use Rattle.judge_spec.proofs.Judging.{slots_same}
+use Rattle.judge_spec.proofs.Reasons.{low_register}
+use Rattle.judge_spec.proofs.ToldNames.{one_range}
+use Rattle.judge_spec.specs.Regions.{MapRegion, Own, OfLine, slot_of, register_of, space_of}
+use Rattle.judge_spec.specs.Lines.{IsOutOfPlace}
 use Rattle.pci_tree.specs.declared.region.Part.{Part}
 use Rattle.pci_tree.specs.declared.region.Part.TheVariants as parts
 use Rattle.pci_tree.specs.declared.region.Region.{Region}

@@ -8,11 +8,11 @@ use Rattle.std.proofs.lemmas.Option.{slice_get_within, get_or_from_slice_get}
 use Rattle.pci_spec.specs.Slot.{Slot, slot_number}
 use Rattle.pci_spec.specs.System.{System}
 use Rattle.pci_spec.proofs.Members.{IsMade, in_nil, in_head, in_cons_cases, in_map_to, in_map_from}
-use Rattle.given_spec.specs.Given.{Given}
-use Rattle.given_spec.specs.Told.{ToldRange, IsTold}
-use Rattle.given_spec.specs.ToldClaims.{Told, told_register, is_range_on}
-use Rattle.given_spec.specs.ToldRegion.{ToldRegion, IsToldIn}
-use Rattle.map_spec.specs.Regions.{MapRegion, Own, OfLine, slot_of, register_of, IsIn, region_rank}
+use Rattle.judge_spec.specs.Given.{Given}
+use Rattle.judge_spec.specs.Told.{ToldRange, IsTold}
+use Rattle.judge_spec.specs.ToldClaims.{Told, told_register, is_range_on}
+use Rattle.judge_spec.specs.ToldRegion.{ToldRegion, IsToldIn}
+use Rattle.judge_spec.specs.Regions.{MapRegion, Own, OfLine, slot_of, register_of, IsIn, region_rank}
 use Rattle.pci_function.specs.declared.record.Record.{Record}
 use Rattle.pci_tree.specs.Outline.{RiseBySlot}
 use Rattle.pci_tree.specs.Ways.{slots_of}

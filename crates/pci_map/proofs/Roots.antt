@@ -10,10 +10,10 @@ use Rattle.pci_spec.specs.System.{System, Io, Memory}
 use Rattle.pci_spec.specs.Bus.{is_root}
 use Rattle.pci_spec.proofs.Members.{in_nil, in_cons_cases}
 use Rattle.pci_spec.proofs.BusRanges.{root_means}
-use Rattle.given_spec.specs.Given.{Given}
-use Rattle.given_spec.specs.ToldClaims.{Told}
-use Rattle.map_spec.specs.Map.{MapRoot, IsRootOfMap}
-use Rattle.map_spec.specs.MapText.{space_lines, root_text}
+use Rattle.judge_spec.specs.Given.{Given}
+use Rattle.judge_spec.specs.ToldClaims.{Told}
+use Rattle.judge_spec.specs.Map.{MapRoot, IsRootOfMap}
+use Rattle.judge_spec.specs.MapText.{space_lines, root_text}
 use Rattle.pci_map.specs.Buses.{IsSpaceTold, AreRootsTold}
 
 module _ (told : Told) (given : Given) (roots : List ℕ) (s : System) where

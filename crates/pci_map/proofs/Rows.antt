@@ -4,7 +4,7 @@ use Rattle.std.specs.Option.{is_some, option_map}
 use Rattle.std.proofs.lemmas.Bool.{cases_lt, false≢true}
 use Rattle.std.proofs.lemmas.List.{get_or_append_left, get_or_push, length_push}
 use Rattle.pci_spec.specs.System.{System, Io, Memory}
-use Rattle.given_spec.specs.Given.{Given, ranges_said}
+use Rattle.judge_spec.specs.Given.{Given, ranges_said}
 use Rattle.pci_claims.specs.Values.{host_value, given_value}
 use Rattle.pci_claims.specs.declared.given.Given as declared
 use Rattle.pci_map.specs.Above.{AreRootsAbove, AreRows}

@@ -3,11 +3,11 @@ use Rattle.std.proofs.Common.{◌≡◌, ℕ, suc, ◌+◌, List, [], ◌∷◌,
 use Rattle.std.proofs.lemmas.List.{append_assoc}
 use Rattle.pci_spec.specs.System.{System, Space}
 use Rattle.pci_spec.specs.Why.{AreRuns}
-use Rattle.given_spec.specs.Given.{Given}
-use Rattle.given_spec.specs.ToldClaims.{Told}
-use Rattle.map_spec.specs.Regions.{Own}
-use Rattle.map_spec.specs.Lines.{Lines, End, OnRoot, Inside, IsClaimedOn, IsOutOfPlace, IsFreeOn, AreLinesAt, AreInPart, AreInside}
-use Rattle.map_spec.specs.MapText.{map_region_line, lines_text}
+use Rattle.judge_spec.specs.Given.{Given}
+use Rattle.judge_spec.specs.ToldClaims.{Told}
+use Rattle.judge_spec.specs.Regions.{Own}
+use Rattle.judge_spec.specs.Lines.{Lines, End, OnRoot, Inside, IsClaimedOn, IsOutOfPlace, IsFreeOn, AreLinesAt, AreInPart, AreInside}
+use Rattle.judge_spec.specs.MapText.{map_region_line, lines_text}
 use Rattle.pci_base.specs.declared.range.Range.{Range}
 use Rattle.pci_base.specs.Ranges.{decoded_range_of}
 use Rattle.pci_tree.specs.declared.region.Part.{Part}

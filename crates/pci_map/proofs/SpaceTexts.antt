@@ -4,11 +4,11 @@ use Rattle.std.specs.List.{flat_map}
 use Rattle.std.proofs.lemmas.List.{append_assoc}
 use Rattle.pci_spec.specs.System.{System, Space}
 use Rattle.pci_spec.specs.Why.{AreRuns}
-use Rattle.given_spec.specs.Given.{Given}
-use Rattle.given_spec.specs.ToldClaims.{Told}
-use Rattle.map_spec.specs.Lines.{Lines, End, Free, Sits, IsFreeOn}
-use Rattle.map_spec.specs.Map.{MapTaking, AreTakings}
-use Rattle.map_spec.specs.MapText.{bus_heading, lines_text, taking_text, is_without_lines}
+use Rattle.judge_spec.specs.Given.{Given}
+use Rattle.judge_spec.specs.ToldClaims.{Told}
+use Rattle.judge_spec.specs.Lines.{Lines, End, Free, Sits, IsFreeOn}
+use Rattle.judge_spec.specs.Map.{MapTaking, AreTakings}
+use Rattle.judge_spec.specs.MapText.{bus_heading, lines_text, taking_text, is_without_lines}
 use Rattle.pci_base.specs.declared.range.Range.{Range}
 use Rattle.pci_base.specs.Ranges.{decoded_range_of}
 use Rattle.pci_map.specs.declared.seat.Seat.{Seat}

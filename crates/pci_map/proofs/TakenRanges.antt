@@ -13,8 +13,8 @@ use Rattle.pci_function.specs.declared.record.Record.{Record}
 use Rattle.pci_function.specs.Values.{record_value}
 use Rattle.pci_tree.specs.Ranges.{Holds, Covers}
 use Rattle.pci_tree.proofs.Lifting.{same_bridge, same_slot_of}
-use Rattle.given_spec.specs.Given.{Given, takes}
-use Rattle.given_spec.proofs.Snoop.{takes_none}
+use Rattle.judge_spec.specs.Given.{Given, takes}
+use Rattle.judge_spec.proofs.Snoop.{takes_none}
 use Rattle.pci_claims.specs.declared.given.TakingBridge.{TakingBridge}
 use Rattle.pci_claims.specs.Gathered.{IsGathered}
 use Rattle.pci_claims.specs.Passed.{is_taken_piece_at, AreTakenPieces, takes_of}

@@ -17,9 +17,9 @@ use Rattle.pci_function.specs.Values.{record_value}
 use Rattle.pci_tree.specs.Outline.{RiseBySlot}
 use Rattle.pci_tree.specs.Ways.{secondary_in, slots_of}
 use Rattle.pci_tree.proofs.Lifting.{Has, record_for, same_bridge, same_secondary, same_slot_of, one_by_number}
-use Rattle.given_spec.specs.Given.{Given, TakingBridge, ranges_of, is_taken_at, takes}
-use Rattle.given_spec.specs.UnclaimedLaws.{is_taking}
-use Rattle.given_spec.proofs.Unclaimed.{none_passes}
+use Rattle.judge_spec.specs.Given.{Given, TakingBridge, ranges_of, is_taken_at, takes}
+use Rattle.judge_spec.specs.UnclaimedLaws.{is_taking}
+use Rattle.judge_spec.proofs.Unclaimed.{none_passes}
 use Rattle.pci_claims.specs.declared.given.TakingBridge as lent
 use Rattle.pci_claims.specs.Values.{taking_value}
 use Rattle.pci_claims.proofs.Parts.{any_more}

@@ -10,13 +10,13 @@ use Rattle.pci_spec.specs.System.{System, Function, Space, Leads}
 use Rattle.pci_spec.specs.Bus.{IsNested, LeadsTo, secondary}
 use Rattle.pci_spec.proofs.BusRanges.{bus_order_means}
 use Rattle.pci_spec.proofs.Members.{in_nil, in_cons_cases, in_head, pairs_nil, pairs_cons, pairs_head, pairs_tail, pairs_append}
-use Rattle.given_spec.specs.Given.{Given, takes}
-use Rattle.given_spec.specs.ToldClaims.{Told}
-use Rattle.map_spec.specs.Regions.{MapRegion, slot_of, range_of}
-use Rattle.map_spec.specs.Regions as regions
-use Rattle.map_spec.specs.Lines.{Lines, TakenBy, StandsBehind, IsOutOfPlace, AreLinesAt, is_first_window}
-use Rattle.map_spec.specs.Map.{MapTaking, IsBelow, IsTaking, AreTakings}
-use Rattle.map_spec.specs.MapText.{lines_text, taking_heading, taking_text}
+use Rattle.judge_spec.specs.Given.{Given, takes}
+use Rattle.judge_spec.specs.ToldClaims.{Told}
+use Rattle.judge_spec.specs.Regions.{MapRegion, slot_of, range_of}
+use Rattle.judge_spec.specs.Regions as regions
+use Rattle.judge_spec.specs.Lines.{Lines, TakenBy, StandsBehind, IsOutOfPlace, AreLinesAt, is_first_window}
+use Rattle.judge_spec.specs.Map.{MapTaking, IsBelow, IsTaking, AreTakings}
+use Rattle.judge_spec.specs.MapText.{lines_text, taking_heading, taking_text}
 use Rattle.pci_claims.proofs.Gathering.{nil_canonical}
 use Rattle.pci_claims.proofs.GapRanges.{covers_nil}
 use Rattle.pci_claims.proofs.Runs.{runs_of}

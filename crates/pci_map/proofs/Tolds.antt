@@ -18,16 +18,16 @@ use Rattle.pci_spec.specs.Decoded as decoded
 use Rattle.pci_spec.specs.Why.{Region, IsRegionIn}
 use Rattle.pci_spec.proofs.Members.{in_nil, in_head, in_cons_cases, IsMade, in_map_to, pairs_nil, pairs_cons, pairs_append, pairs_head, pairs_tail}
 use Rattle.pci_spec.proofs.Regions.{part_same, register_of-lt}
-use Rattle.given_spec.specs.Given.{Given}
-use Rattle.given_spec.specs.Why.{isa_words_of}
-use Rattle.given_spec.specs.ToldClaims.{Told}
-use Rattle.given_spec.specs.ToldLine.{register_text}
-use Rattle.given_spec.specs.ToldRegion.{ToldRegion, told_extent, IsToldIn, name_words}
-use Rattle.map_spec.specs.Regions.{MapRegion, Own, OfLine, slot_of, register_of, IsIn, region_rank}
-use Rattle.map_spec.specs.Regions as regions
-use Rattle.map_spec.specs.Lines.{IsOutOfPlace}
-use Rattle.map_spec.specs.Map.{IsOnlyLeft, AreRegionsBySlot}
-use Rattle.map_spec.specs.MapText.{part_name, told_part_name, map_region_line, outside_text, under_heading}
+use Rattle.judge_spec.specs.Given.{Given}
+use Rattle.judge_spec.specs.Why.{isa_words_of}
+use Rattle.judge_spec.specs.ToldClaims.{Told}
+use Rattle.judge_spec.specs.ToldLine.{register_text}
+use Rattle.judge_spec.specs.ToldRegion.{ToldRegion, told_extent, IsToldIn, name_words}
+use Rattle.judge_spec.specs.Regions.{MapRegion, Own, OfLine, slot_of, register_of, IsIn, region_rank}
+use Rattle.judge_spec.specs.Regions as regions
+use Rattle.judge_spec.specs.Lines.{IsOutOfPlace}
+use Rattle.judge_spec.specs.Map.{IsOnlyLeft, AreRegionsBySlot}
+use Rattle.judge_spec.specs.MapText.{part_name, told_part_name, map_region_line, outside_text, under_heading}
 use Rattle.pci_function.specs.declared.record.Record.{Record}
 use Rattle.pci_function.specs.Values.{record_value}
 use Rattle.pci_tree.specs.Outline.{Tree, RiseBySlot}

@@ -7,8 +7,8 @@ use Rattle.pci_spec.specs.Slot.{Slot, same_slot}
 use Rattle.pci_spec.specs.System.{System, Function}
 use Rattle.pci_spec.specs.Bus.{IsNested, LeadsTo, secondary, is_root}
 use Rattle.pci_spec.proofs.BusRanges.{IsOrdered, IsWithin, ordered, within_of_behind, apart_shares_none, behind_is_no_root, root_means, bus_order_means}
-use Rattle.given_spec.proofs.Judging.{slots_same}
-use Rattle.given_spec.specs.Given.{Given}
+use Rattle.judge_spec.proofs.Judging.{slots_same}
+use Rattle.judge_spec.specs.Given.{Given}
 use Rattle.pci_function.specs.declared.record.Record.{Record}
 use Rattle.pci_tree.specs.Ways.{bus_behind, IsBridgeIn, LeadsAt}
 use Rattle.pci_tree.proofs.Lifting.{Has, record_for, function_for, same_bridge, same_secondary, same_slot_of}

@@ -11,10 +11,10 @@ use Rattle.pci_spec.specs.Why as why
 use Rattle.pci_spec.specs.Why.{IsRegionIn}
 use Rattle.pci_tree.specs.declared.region.Region.{Region}
 use Rattle.pci_tree.specs.Regions.{IsRegionOf, IsRegionOn}
-use Rattle.given_spec.specs.Told.{ToldRange, IsTold}
-use Rattle.given_spec.specs.ToldClaims.{Told}
-use Rattle.map_spec.specs.Regions.{MapRegion, Own, OfLine, slot_of, IsIn}
-use Rattle.map_spec.specs.Regions as regions
+use Rattle.judge_spec.specs.Told.{ToldRange, IsTold}
+use Rattle.judge_spec.specs.ToldClaims.{Told}
+use Rattle.judge_spec.specs.Regions.{MapRegion, Own, OfLine, slot_of, IsIn}
+use Rattle.judge_spec.specs.Regions as regions
 use Rattle.pci_map.specs.declared.seat.Seat.{Seat}
 use Rattle.pci_map.specs.declared.seat.Seat.TheVariants as seats
 use Rattle.pci_map.specs.Seats.{seat_value, seat_first, IsSeatOn, AreSortedSeatsOf}

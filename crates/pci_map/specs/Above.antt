@@ -2,9 +2,9 @@
 use Rattle.std.specs.Prelude.{◌≡◌, ℕ, ◌<◌, ◌⊎◌, List, None, length, slice_index_or}
 use Rattle.std.specs.List.{Contains}
 use Rattle.pci_spec.specs.System.{System, Function, Space, Io, Memory, Leads}
-use Rattle.given_spec.specs.Given.{Given, ranges_said}
-use Rattle.given_spec.specs.ToldClaims.{Told}
-use Rattle.map_spec.specs.Lines.{IsOutOfPlace}
+use Rattle.judge_spec.specs.Given.{Given, ranges_said}
+use Rattle.judge_spec.specs.ToldClaims.{Told}
+use Rattle.judge_spec.specs.Lines.{IsOutOfPlace}
 use Rattle.pci_tree.specs.Outline.{Tree}
 use Rattle.pci_map.specs.declared.seat.Seat.{Seat}
 use Rattle.pci_map.specs.Seats.{seat_value, AreKept}

@@ -1,7 +1,7 @@
 -- Addresses of both spaces: what the host sends to a root bus, and what a bridge takes as nobody claims it.
 use Rattle.std.specs.Prelude.{ℕ, ◌↔◌, IsTrue, List}
 use Rattle.pci_spec.specs.System.{Function, Space, Io, Memory}
-use Rattle.given_spec.specs.Given.{Given, takes}
+use Rattle.judge_spec.specs.Given.{Given, takes}
 use Rattle.pci_base.specs.declared.range.Range.{Range}
 use Rattle.pci_function.specs.declared.record.Record.{Record}
 use Rattle.pci_tree.specs.Ranges.{Holds, Covers, IsCanonical}

@@ -4,14 +4,14 @@ use Rattle.std.specs.List.{All, AllPairs, AllWithin, Contains, flat_map}
 use Rattle.pci_spec.specs.Slot.{Slot, slot_number}
 use Rattle.pci_spec.specs.System.{System, Space}
 use Rattle.pci_spec.specs.Decoded.{HasRecords}
-use Rattle.given_spec.specs.Given.{Given}
-use Rattle.given_spec.specs.Told.{ToldRange}
-use Rattle.given_spec.specs.ToldClaims.{Told, told_register}
-use Rattle.given_spec.specs.ToldRegion.{ToldRegion}
-use Rattle.map_spec.specs.Regions.{MapRegion, Own, OfLine, slot_of, register_of, space_of, IsIn, region_rank}
-use Rattle.map_spec.specs.Lines.{IsOutOfPlace}
-use Rattle.map_spec.specs.Map.{IsOutsideWindows, IsOnlyLeft, AreRegionsBySlot}
-use Rattle.map_spec.specs.MapText.{map_region_line, outside_text, unreached_text}
+use Rattle.judge_spec.specs.Given.{Given}
+use Rattle.judge_spec.specs.Told.{ToldRange}
+use Rattle.judge_spec.specs.ToldClaims.{Told, told_register}
+use Rattle.judge_spec.specs.ToldRegion.{ToldRegion}
+use Rattle.judge_spec.specs.Regions.{MapRegion, Own, OfLine, slot_of, register_of, space_of, IsIn, region_rank}
+use Rattle.judge_spec.specs.Lines.{IsOutOfPlace}
+use Rattle.judge_spec.specs.Map.{IsOutsideWindows, IsOnlyLeft, AreRegionsBySlot}
+use Rattle.judge_spec.specs.MapText.{map_region_line, outside_text, unreached_text}
 use Rattle.pci_function.specs.declared.record.Record.{Record}
 use Rattle.pci_function.specs.Values.{record_value}
 use Rattle.pci_tree.specs.declared.region.Region as outline

@@ -4,12 +4,12 @@ use Rattle.std.specs.List.{AllPairs, Contains, filter, flat_map}
 use Rattle.pci_spec.specs.Slot.{slot_number}
 use Rattle.pci_spec.specs.System.{System, Function}
 use Rattle.pci_spec.specs.Bus.{is_root}
-use Rattle.given_spec.specs.Given.{Given}
-use Rattle.given_spec.specs.ToldClaims.{Told}
-use Rattle.map_spec.specs.Regions.{MapRegion, slot_of, space_of, range_of, IsIn}
-use Rattle.map_spec.specs.Lines.{StandsBehind, IsOutOfPlace}
-use Rattle.map_spec.specs.Map.{MapTaking, MapSpace, MapRoot, IsBelow, IsTaking, IsSpaceOfMap, IsRootOfMap}
-use Rattle.map_spec.specs.MapText.{taking_text, space_lines, root_text}
+use Rattle.judge_spec.specs.Given.{Given}
+use Rattle.judge_spec.specs.ToldClaims.{Told}
+use Rattle.judge_spec.specs.Regions.{MapRegion, slot_of, space_of, range_of, IsIn}
+use Rattle.judge_spec.specs.Lines.{StandsBehind, IsOutOfPlace}
+use Rattle.judge_spec.specs.Map.{MapTaking, MapSpace, MapRoot, IsBelow, IsTaking, IsSpaceOfMap, IsRootOfMap}
+use Rattle.judge_spec.specs.MapText.{taking_text, space_lines, root_text}
 use Rattle.pci_map.specs.declared.takers.Taker.{Taker}
 use Rattle.pci_map.specs.declared.seat.Seat.{Seat}
 use Rattle.pci_map.specs.Values.{Mapped}

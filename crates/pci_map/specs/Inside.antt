@@ -4,9 +4,9 @@ use Rattle.std.specs.List.{AllPairs, Contains}
 use Rattle.pci_spec.specs.Registers.{MEMORY_BASE, PREFETCHABLE_BASE}
 use Rattle.pci_spec.specs.System.{System, Space}
 use Rattle.pci_spec.specs.Why.{AreRuns}
-use Rattle.given_spec.specs.Given.{is_isa_port}
-use Rattle.map_spec.specs.Regions.{MapRegion, space_of, IsIn}
-use Rattle.map_spec.specs.Lines.{BelongsUnder, IsFreeIn, IsOutOfPlace}
+use Rattle.judge_spec.specs.Given.{is_isa_port}
+use Rattle.judge_spec.specs.Regions.{MapRegion, space_of, IsIn}
+use Rattle.judge_spec.specs.Lines.{BelongsUnder, IsFreeIn, IsOutOfPlace}
 use Rattle.pci_base.specs.declared.range.Range.{Range}
 use Rattle.pci_base.specs.Ranges.{decoded_range_of}
 use Rattle.pci_tree.specs.declared.region.Region.{Region}

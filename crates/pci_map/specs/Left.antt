@@ -8,11 +8,11 @@ use Rattle.pci_spec.specs.System as system
 use Rattle.pci_spec.specs.Bus.{IsNested, LeadsTo}
 use Rattle.pci_spec.specs.Decoded.{HasRecords}
 use Rattle.pci_spec.specs.Why.{Region, IsRegionIn}
-use Rattle.given_spec.specs.Given.{Given}
-use Rattle.given_spec.specs.Claims.{OwnClaims}
-use Rattle.map_spec.specs.Regions.{MapRegion}
-use Rattle.map_spec.specs.Lines.{is_first_window}
-use Rattle.map_spec.specs.Map.{HasWay, IsOutsideWindows}
+use Rattle.judge_spec.specs.Given.{Given}
+use Rattle.judge_spec.specs.Claims.{OwnClaims}
+use Rattle.judge_spec.specs.Regions.{MapRegion}
+use Rattle.judge_spec.specs.Lines.{is_first_window}
+use Rattle.judge_spec.specs.Map.{HasWay, IsOutsideWindows}
 use Rattle.pci_tree.specs.declared.region.Region as outline
 use Rattle.pci_tree.specs.Outline.{Tree}
 use Rattle.pci_map.specs.declared.ways.Above.{Above}

@@ -2,7 +2,7 @@
 use Rattle.std.specs.Prelude.{ℕ, Bool, if◌then◌else◌, List, [], ◌∷◌, codes}
 use Rattle.pci_spec.specs.Text.{hex_byte, slot_text}
 use Rattle.pci_spec.specs.Why.{Region}
-use Rattle.map_spec.specs.MapText.{part_name, extent_line}
+use Rattle.judge_spec.specs.MapText.{part_name, extent_line}
 
 -- the word of a window that it cuts
 abbrev pub isa_word : Bool → List (List ℕ)

@@ -3,9 +3,9 @@ use Rattle.std.specs.Prelude.{Bool, List, Option}
 use Rattle.pci_spec.specs.System.{System}
 use Rattle.pci_tree.specs.Outline.{Tree}
 use Rattle.pci_tree.specs.Trees.{HasTree}
-use Rattle.given_spec.specs.Given.{Given}
-use Rattle.given_spec.specs.Told.{IsTold}
-use Rattle.given_spec.specs.ToldClaims.{Told}
+use Rattle.judge_spec.specs.Given.{Given}
+use Rattle.judge_spec.specs.Told.{IsTold}
+use Rattle.judge_spec.specs.ToldClaims.{Told}
 use Rattle.pci_claims.specs.ToldOn.{AreOnIn}
 use Rattle.pci_map.specs.Seats.{IsToldOf}
 use Rattle.pci_map.specs.Addresses.{SpaceRanges}

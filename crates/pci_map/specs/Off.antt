@@ -5,10 +5,10 @@ use Rattle.pci_spec.specs.Slot.{Slot, same_slot}
 use Rattle.pci_spec.specs.Decoded.{DecodedBar, Record}
 use Rattle.pci_spec.specs.Listing.{kind_space}
 use Rattle.pci_base.specs.Space.{is_on}
-use Rattle.given_spec.specs.Told.{ToldRange}
-use Rattle.given_spec.specs.ToldClaims.{told_register}
-use Rattle.given_spec.specs.ToldRegion.{ToldRegion}
-use Rattle.map_spec.specs.MapText.{map_off_line, map_told_line}
+use Rattle.judge_spec.specs.Told.{ToldRange}
+use Rattle.judge_spec.specs.ToldClaims.{told_register}
+use Rattle.judge_spec.specs.ToldRegion.{ToldRegion}
+use Rattle.judge_spec.specs.MapText.{map_off_line, map_told_line}
 
 -- a text below a heading, where there is any
 abbrev pub section : List ℕ → List ℕ → List ℕ

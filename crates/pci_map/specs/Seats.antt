@@ -2,12 +2,12 @@
 use Rattle.std.specs.Prelude.{◌≡◌, ℕ, List}
 use Rattle.std.specs.List.{AllPairs, Contains}
 use Rattle.pci_spec.specs.System.{System, Function, Space, Part, Claims}
-use Rattle.given_spec.specs.Told.{ToldRange, IsTold}
-use Rattle.given_spec.specs.ToldClaims.{Told}
-use Rattle.given_spec.specs.ToldNumbered.{AreListedIn}
-use Rattle.given_spec.specs.ToldRegion.{ToldRegion, IsToldIn}
-use Rattle.map_spec.specs.Regions.{MapRegion, Own, OfLine}
-use Rattle.map_spec.specs.Lines.{region_mark, MarkIsBefore}
+use Rattle.judge_spec.specs.Told.{ToldRange, IsTold}
+use Rattle.judge_spec.specs.ToldClaims.{Told}
+use Rattle.judge_spec.specs.ToldNumbered.{AreListedIn}
+use Rattle.judge_spec.specs.ToldRegion.{ToldRegion, IsToldIn}
+use Rattle.judge_spec.specs.Regions.{MapRegion, Own, OfLine}
+use Rattle.judge_spec.specs.Lines.{region_mark, MarkIsBefore}
 use Rattle.pci_base.specs.declared.range.Range.{Range}
 use Rattle.pci_tree.specs.declared.region.Region.{Region}
 use Rattle.pci_tree.specs.Regions.{IsRegionOf, IsRegionOn}

@@ -6,9 +6,9 @@ use Rattle.pci_spec.specs.Window.{WindowKind}
 use Rattle.pci_spec.specs.System.{System, Function, Space, is_bridge}
 use Rattle.pci_spec.specs.Bus.{secondary}
 use Rattle.pci_spec.specs.Decoded.{record_of}
-use Rattle.given_spec.specs.Given.{Given, takes}
-use Rattle.given_spec.specs.UnclaimedLaws.{is_taking}
-use Rattle.map_spec.specs.Lines.{is_first_window}
+use Rattle.judge_spec.specs.Given.{Given, takes}
+use Rattle.judge_spec.specs.UnclaimedLaws.{is_taking}
+use Rattle.judge_spec.specs.Lines.{is_first_window}
 use Rattle.pci_function.specs.declared.record.Record.{Record}
 use Rattle.pci_function.specs.Values.{record_value}
 use Rattle.pci_map.specs.declared.takers.Taker.{Taker}

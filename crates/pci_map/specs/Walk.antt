@@ -2,9 +2,9 @@
 use Rattle.std.specs.Prelude.{◌≡◌, ℕ, suc, nat_le, if◌then◌else◌, List, [], ◌∷◌, ◌++◌, map, take, drop}
 use Rattle.pci_spec.specs.System.{Space}
 use Rattle.pci_spec.specs.Decoded as decoded
-use Rattle.map_spec.specs.Regions.{MapRegion}
-use Rattle.map_spec.specs.Lines.{Lines, End, Free, Sits, AreInside, AreAllInside}
-use Rattle.map_spec.specs.MapText.{map_region_line, lines_text}
+use Rattle.judge_spec.specs.Regions.{MapRegion}
+use Rattle.judge_spec.specs.Lines.{Lines, End, Free, Sits, AreInside, AreAllInside}
+use Rattle.judge_spec.specs.MapText.{map_region_line, lines_text}
 use Rattle.pci_base.specs.declared.range.Range.{Range}
 use Rattle.pci_base.specs.Ranges.{decoded_range_of}
 use Rattle.pci_tree.specs.declared.region.Region.{Region}

@@ -5,9 +5,9 @@ use Rattle.pci_spec.specs.Registers.{IO_BASE, MEMORY_BASE, PREFETCHABLE_BASE}
 use Rattle.pci_spec.specs.Slot.{Slot}
 use Rattle.pci_spec.specs.Window.{WindowKind}
 use Rattle.pci_spec.specs.System.{System, Function, Space, Io, Memory}
-use Rattle.given_spec.specs.Given.{Given}
-use Rattle.map_spec.specs.Regions.{Own}
-use Rattle.map_spec.specs.Lines.{is_first_window}
+use Rattle.judge_spec.specs.Given.{Given}
+use Rattle.judge_spec.specs.Regions.{Own}
+use Rattle.judge_spec.specs.Lines.{is_first_window}
 use Rattle.pci_claims.specs.Found.{IsFoundIn, NoneClaims}
 use Rattle.pci_claims.specs.Isa.{is_cut_region}
 use Rattle.pci_map.specs.Values.{value_of}

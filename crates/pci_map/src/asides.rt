@@ -2,10 +2,10 @@
 ghost use Rattle.std.specs.Prelude.{◌≡◌, ◌≤◌, length, MatchBool, MatchOption, OnOk};
 ghost use Rattle.std.specs.String.{string_bytes};
 ghost use Rattle.pci_spec.specs.System.{System, Io, Memory};
-ghost use Rattle.given_spec.specs.Given.{Given as GivenValue};
-ghost use Rattle.given_spec.specs.ToldClaims.{Told as ToldValue};
-ghost use Rattle.given_spec.specs.ToldRegion.{IsToldIn};
-ghost use Rattle.map_spec.specs.Regions.{Own, IsIn};
+ghost use Rattle.judge_spec.specs.Given.{Given as GivenValue};
+ghost use Rattle.judge_spec.specs.ToldClaims.{Told as ToldValue};
+ghost use Rattle.judge_spec.specs.ToldRegion.{IsToldIn};
+ghost use Rattle.judge_spec.specs.Regions.{Own, IsIn};
 ghost use Rattle.pci_base.specs.Space.{space_of};
 ghost use Rattle.pci_tree.specs.Outline.{Tree};
 ghost use Rattle.pci_tree.specs.declared.region.Region.{Region as RegionValue};

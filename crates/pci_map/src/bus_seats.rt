@@ -4,7 +4,7 @@ ghost use Rattle.std.specs.List.Sorted.{IsNonDecreasingBy, IsPermutation};
 ghost use Rattle.pci_spec.specs.System.{System};
 ghost use Rattle.pci_base.specs.Space.{space_of};
 ghost use Rattle.pci_tree.specs.Trees.{HasTree};
-ghost use Rattle.given_spec.specs.Told.{IsTold};
+ghost use Rattle.judge_spec.specs.Told.{IsTold};
 ghost use Rattle.pci_claims.specs.Values.{told_value};
 ghost use Rattle.pci_map.specs.declared.seat.Seat.TheVariants.{Own};
 ghost use Rattle.pci_map.specs.Seats.{AreSortedSeatsOf};

@@ -1,8 +1,8 @@
 //! Whether a region is left: no windows lead to it from a root bus, or from what a bridge takes.
 ghost use Rattle.std.specs.Prelude.{◌≡◌, ℕ, ◌<◌, [], length, None, ◌↔◌, IsTrue, MatchBool};
 ghost use Rattle.pci_spec.specs.System.{System, IsAddress};
-ghost use Rattle.given_spec.specs.Given.{Given};
-ghost use Rattle.map_spec.specs.Regions.{MapRegion, slot_of, space_of as region_space, range_of};
+ghost use Rattle.judge_spec.specs.Given.{Given};
+ghost use Rattle.judge_spec.specs.Regions.{MapRegion, slot_of, space_of as region_space, range_of};
 ghost use Rattle.pci_base.specs.Space.{space_of};
 ghost use Rattle.pci_tree.specs.Outline.{Tree};
 ghost use Rattle.pci_tree.specs.Ranges.{Covers};

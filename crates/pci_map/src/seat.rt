@@ -46,7 +46,7 @@ pub fn add_seat<'g, A: Allocator>(
 }
 
 impl ToldRegion<'_> {
-    ghost use Rattle.given_spec.specs.ToldClaims.{is_marked_held};
+    ghost use Rattle.judge_spec.specs.ToldClaims.{is_marked_held};
     ghost use Rattle.pci_base.specs.Space.{space_of};
     ghost use Rattle.pci_map.specs.Seats.{told_range};
 

@@ -1,7 +1,7 @@
 //! The bridges that take what no region of their bus claims.
 ghost use Rattle.std.specs.Prelude.{◌≡◌, IfOk};
 ghost use Rattle.pci_spec.specs.System.{System};
-ghost use Rattle.given_spec.specs.UnclaimedLaws.{is_taking};
+ghost use Rattle.judge_spec.specs.UnclaimedLaws.{is_taking};
 ghost use Rattle.pci_claims.specs.Values.{given_value};
 ghost use Rattle.pci_map.specs.Left.{IsTreeOf};
 ghost use Rattle.pci_map.specs.Takers.{AreTakenAt, IsTakerOf, AreTakers};

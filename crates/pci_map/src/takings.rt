@@ -3,10 +3,10 @@ ghost use Rattle.std.specs.Prelude.{◌≡◌, ℕ, [], ◌∷◌, length, IfOk,
 ghost use Rattle.std.specs.String.{string_bytes};
 ghost use Rattle.std.specs.List.{Contains};
 ghost use Rattle.pci_spec.specs.System.{System};
-ghost use Rattle.given_spec.specs.Given.{Given};
-ghost use Rattle.given_spec.specs.ToldClaims.{Told};
+ghost use Rattle.judge_spec.specs.Given.{Given};
+ghost use Rattle.judge_spec.specs.ToldClaims.{Told};
 ghost use Rattle.pci_base.specs.Space.{space_of};
-ghost use Rattle.map_spec.specs.Map.{IsBelow};
+ghost use Rattle.judge_spec.specs.Map.{IsBelow};
 ghost use Rattle.pci_tree.specs.Outline.{Tree};
 ghost use Rattle.pci_claims.specs.Values.{given_value, told_value};
 ghost use Rattle.pci_map.specs.Values.{mapped_of};

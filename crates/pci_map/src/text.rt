@@ -3,9 +3,9 @@ ghost use Rattle.std.specs.Prelude.{IfOk};
 ghost use Rattle.std.specs.String.{string_bytes};
 ghost use Rattle.pci_spec.specs.System.{System};
 ghost use Rattle.pci_tree.specs.Trees.{HasTree};
-ghost use Rattle.given_spec.specs.Told.{IsTold};
-ghost use Rattle.given_spec.specs.ToldNumbered.{AreListedIn};
-ghost use Rattle.map_spec.specs.MapText.{IsMapText};
+ghost use Rattle.judge_spec.specs.Told.{IsTold};
+ghost use Rattle.judge_spec.specs.ToldNumbered.{AreListedIn};
+ghost use Rattle.judge_spec.specs.MapText.{IsMapText};
 ghost use Rattle.pci_claims.specs.Values.{given_value, told_value};
 
 use super::above::sent_above;

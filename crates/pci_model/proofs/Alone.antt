@@ -9,7 +9,7 @@ use Rattle.pci_function.proofs.FirstIn.{in_here, here_in, here_not_clear}
 use Rattle.pci_image.specs.declared.fault.ImageFault.{ImageFault}
 use Rattle.pci_image.specs.declared.fault.ImageFault.TheVariants as images
 use Rattle.pci_image.specs.Caps.{IsChainFaultIn}
-use Rattle.model_spec.specs.Taken.{HasNoOwnFaultBefore}
+use Rattle.judge_spec.specs.Taken.{HasNoOwnFaultBefore}
 
 only_one : (f g : Function) → Contains (f ∷ []) g → f ≡ g
 only_one f g (zero, less, is) = is

@@ -8,8 +8,8 @@ use Rattle.std.proofs.lemmas.List.Elements.{filter-append}
 use Rattle.pci_spec.specs.Decoded.{DecodedBar}
 use Rattle.pci_image.specs.declared.bar.Bar.{Bar}
 use Rattle.pci_image.specs.Bars.{decoded_bar_of, decoded_kind_of}
-use Rattle.model_spec.specs.Bytes.{cleared, width_of, without_bars}
-use Rattle.model_spec.specs.Taken.{is_compatible}
+use Rattle.judge_spec.specs.Bytes.{cleared, width_of, without_bars}
+use Rattle.judge_spec.specs.Taken.{is_compatible}
 
 abbrev is_left_out : ℕ → DecodedBar → Bool
 is_left_out interface bar = is_compatible interface bar.register

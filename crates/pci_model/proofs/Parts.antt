@@ -5,9 +5,9 @@ use Rattle.pci_spec.specs.Number.{byte_at}
 use Rattle.pci_spec.specs.Registers.{INTERFACE}
 use Rattle.pci_spec.specs.System.{Function}
 use Rattle.pci_spec.specs.Decoded.{Record, record_of}
-use Rattle.model_spec.specs.Words.{Words}
-use Rattle.model_spec.specs.Bytes.{as_bare_device, as_device, device_read_backs, without_bars, without_registers}
-use Rattle.model_spec.specs.Taken.{FixedParts, cardbus_aside, is_cardbus, is_compatible, is_ide, is_unnumbered, is_unnumbered_bridge, parts_aside}
+use Rattle.judge_spec.specs.ModelWords.{Words}
+use Rattle.judge_spec.specs.Bytes.{as_bare_device, as_device, device_read_backs, without_bars, without_registers}
+use Rattle.judge_spec.specs.Taken.{FixedParts, cardbus_aside, is_cardbus, is_compatible, is_ide, is_unnumbered, is_unnumbered_bridge, parts_aside}
 
 pub channels_aside : (w : Words) (fixed : FixedParts) (f : Function) (r : Record) → r ≡ record_of f → w.ide ≡ true → is_ide f.image ≡ true
     → (image probe : List ℕ) → image ≡ without_bars (filter (λ bar. is_compatible (byte_at f.image INTERFACE) bar.register) r.bars) f.image

@@ -8,10 +8,10 @@ use Rattle.pci_spec.specs.Text.{Block, IsDump, slots_of}
 use Rattle.pci_spec.specs.System.{Function, System, function_of, system_of}
 use Rattle.pci_spec.specs.Fault.{is_subtractive_bridge}
 use Rattle.pci_spec.proofs.Pairing.{same_length, slots-system_of}
-use Rattle.given_spec.specs.Words.{is_alone, is_rival}
-use Rattle.model_spec.specs.Words.{Words}
-use Rattle.model_spec.specs.Taken.{is_anyone_behind, takes_by}
-use Rattle.model_spec.specs.Bytes.{positive}
+use Rattle.judge_spec.specs.Words.{is_alone, is_rival}
+use Rattle.judge_spec.specs.ModelWords.{Words}
+use Rattle.judge_spec.specs.Taken.{is_anyone_behind, takes_by}
+use Rattle.judge_spec.specs.Bytes.{positive}
 use Rattle.pci_model.specs.Subtractive.{is_rival_block, takes_block, unclaimed_aside_of}
 use Rattle.pci_model.proofs.Behind.{buses_rise, same_place}
 

@@ -5,9 +5,9 @@ use Rattle.std.proofs.lemmas.Bool.{and_from}
 use Rattle.pci_spec.specs.Window.{WindowKind, IoWindow, MemoryWindow, PrefetchWindow, bounds_at, breaks_window_rule}
 use Rattle.pci_spec.specs.Derived.{bounds_of_nibble}
 use Rattle.pci_spec.specs.System.{Function, is_bridge}
-use Rattle.model_spec.specs.Words.{Words}
-use Rattle.model_spec.specs.Windows.{image_with_window, shown_nibble, window_as_shown, windows_as_shown, with_bounds, with_nibble}
-use Rattle.model_spec.specs.Taken.{windows_aside}
+use Rattle.judge_spec.specs.ModelWords.{Words}
+use Rattle.judge_spec.specs.Windows.{image_with_window, shown_nibble, window_as_shown, windows_as_shown, with_bounds, with_nibble}
+use Rattle.judge_spec.specs.Taken.{windows_aside}
 
 pub one_shown : (kind : WindowKind) (f : Function) (n : ℕ) → breaks_window_rule kind f.image f.probe ≡ true → shown_nibble kind (bounds_at kind f.image) ≡ Some n
     → (image probe : List ℕ) → image ≡ image_with_window kind n f → probe ≡ with_bounds kind (bounds_of_nibble kind n) f.probe

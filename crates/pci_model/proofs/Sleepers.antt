@@ -6,9 +6,9 @@ use Rattle.pci_spec.specs.Slot.{Slot}
 use Rattle.pci_spec.specs.Text.{Block, slots_of}
 use Rattle.pci_spec.specs.System.{Function, System, function_of, system_of}
 use Rattle.pci_spec.proofs.Pairing.{length-system_of, same_length}
-use Rattle.model_spec.specs.Words.{Words}
-use Rattle.model_spec.specs.Taken.{IsAsleepBy}
-use Rattle.model_spec.specs.Asleep.{AreAsleepBy, AreSlotsWhere}
+use Rattle.judge_spec.specs.ModelWords.{Words}
+use Rattle.judge_spec.specs.Taken.{IsAsleepBy}
+use Rattle.judge_spec.specs.Asleep.{AreAsleepBy, AreSlotsWhere}
 use Rattle.pci_model.proofs.Takes.{functions_more}
 
 pub none_asleep : (w : Words) (s : System) → w.power ≡ false → AreAsleepBy w s []

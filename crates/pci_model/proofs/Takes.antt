@@ -10,10 +10,10 @@ use Rattle.pci_spec.specs.Text.{Block, IsDump, slots_of}
 use Rattle.pci_spec.specs.Stops.{IsAboveLast, last_slot}
 use Rattle.pci_spec.specs.System.{Function, System, function_of, system_of}
 use Rattle.pci_spec.proofs.Pairing.{above_all, function-at, length-system_of, same_length, system_last}
-use Rattle.model_spec.specs.Words.{Words}
-use Rattle.given_spec.specs.Words.{taken_by_unclaimed, unclaimed_aside}
-use Rattle.model_spec.specs.Taken.{IsTakenAs, unclaimed_aside_by}
-use Rattle.model_spec.specs.TakenDumps.{titles_of, AreTakenAs}
+use Rattle.judge_spec.specs.ModelWords.{Words}
+use Rattle.judge_spec.specs.Words.{taken_by_unclaimed, unclaimed_aside}
+use Rattle.judge_spec.specs.Taken.{IsTakenAs, unclaimed_aside_by}
+use Rattle.judge_spec.specs.TakenDumps.{titles_of, AreTakenAs}
 use Rattle.pci_model.specs.Subtractive.{unclaimed_aside_of}
 use Rattle.pci_model.proofs.Behind.{numbers_rise}
 

@@ -5,8 +5,8 @@ use Rattle.std.proofs.lemmas.Bool.{cases_Bool}
 use Rattle.pci_spec.specs.Text.{Block, slots_of}
 use Rattle.pci_spec.specs.System.{system_of}
 use Rattle.pci_spec.proofs.Pairing.{same_length}
-use Rattle.model_spec.specs.Words.{Words}
-use Rattle.model_spec.specs.Taken.{takes_by, taking_by}
+use Rattle.judge_spec.specs.ModelWords.{Words}
+use Rattle.judge_spec.specs.Taken.{takes_by, taking_by}
 use Rattle.pci_model.specs.Subtractive.{takes_block, taking_blocks}
 use Rattle.pci_model.proofs.Rivals.{takes_shown}
 

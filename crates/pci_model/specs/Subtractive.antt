@@ -5,9 +5,9 @@ use Rattle.pci_spec.specs.Slot.{Slot, same_slot}
 use Rattle.pci_spec.specs.Text.{Block}
 use Rattle.pci_spec.specs.System.{System, Function, function_of, system_of}
 use Rattle.pci_spec.specs.Fault.{is_subtractive_bridge}
-use Rattle.given_spec.specs.Words.{unclaimed_aside}
-use Rattle.model_spec.specs.Words.{Words}
-use Rattle.model_spec.specs.Taken.{takes_by}
+use Rattle.judge_spec.specs.Words.{unclaimed_aside}
+use Rattle.judge_spec.specs.ModelWords.{Words}
+use Rattle.judge_spec.specs.Taken.{takes_by}
 
 -- whether a block is of another function of this class on the bus of a slot
 abbrev pub is_rival_block : Slot → Block → Bool

@@ -1,7 +1,7 @@
 -- The words of the code as those of the definitions.
 use Rattle.std.specs.Option.{option_map}
-use Rattle.given_spec.specs.Words as given
-use Rattle.model_spec.specs.Words as model
+use Rattle.judge_spec.specs.Words as given
+use Rattle.judge_spec.specs.ModelWords as model
 use Rattle.pci_model.specs.declared.words.VgaWord.{VgaWord}
 use Rattle.pci_model.specs.declared.words.VgaWord.TheVariants.{Vga, Vga16}
 use Rattle.pci_model.specs.declared.words.Words.{Words}

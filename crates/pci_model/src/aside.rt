@@ -7,8 +7,8 @@ ghost use Rattle.pci_spec.specs.Order.{Place};
 ghost use Rattle.pci_image.specs.Bars.{decoded_bar_of, decoded_kind_of};
 ghost use Rattle.pci_image.specs.Windows.{decoded_windows_of};
 ghost use Rattle.pci_function.specs.Values.{bridge_value, record_value};
-ghost use Rattle.model_spec.specs.Bytes.{cleared, width_of, without_bars};
-ghost use Rattle.model_spec.specs.Taken as taken;
+ghost use Rattle.judge_spec.specs.Bytes.{cleared, width_of, without_bars};
+ghost use Rattle.judge_spec.specs.Taken as taken;
 ghost use Rattle.pci_model.specs.FixedPartsValue.{fixed_value};
 ghost use Rattle.pci_model.specs.WordsValue.{words_value};
 

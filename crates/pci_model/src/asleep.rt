@@ -2,8 +2,8 @@
 ghost use Rattle.std.specs.Prelude.{◌≡◌, ◌↔◌, IfOk, IsTrue};
 ghost use Rattle.pci_spec.specs.System.{system_of};
 ghost use Rattle.pci_spec.specs.Text.{slots_of};
-ghost use Rattle.model_spec.specs.Asleep.{AreAsleepBy};
-ghost use Rattle.model_spec.specs.Taken.{IsAsleepBy};
+ghost use Rattle.judge_spec.specs.Asleep.{AreAsleepBy};
+ghost use Rattle.judge_spec.specs.Taken.{IsAsleepBy};
 ghost use Rattle.pci_model.specs.WordsValue.{words_value};
 
 use super::aside::first_aside;

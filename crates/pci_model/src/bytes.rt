@@ -1,7 +1,7 @@
 //! Images with some of their bytes changed.
 ghost use Rattle.std.specs.Prelude.{◌≡◌, ◌+◌, ◌≤◌};
-ghost use Rattle.given_spec.specs.Words.{without_isa, without_snoop, without_vga};
-ghost use Rattle.model_spec.specs.Bytes as bytes;
+ghost use Rattle.judge_spec.specs.Words.{without_isa, without_snoop, without_vga};
+ghost use Rattle.judge_spec.specs.Bytes as bytes;
 
 use pci_base::image::Image;
 use pci_base::offset::{

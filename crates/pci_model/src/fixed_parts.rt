@@ -1,8 +1,8 @@
 //! The parts with fixed addresses of a bridge: its legacy part and its palette part.
 ghost use Rattle.std.specs.Prelude.{◌≡◌, ◌&&◌, ℕ, List, is_some};
 ghost use Rattle.pci_spec.specs.Slot.{Slot as SlotValue};
-ghost use Rattle.given_spec.specs.Words as given;
-ghost use Rattle.model_spec.specs.Taken as taken;
+ghost use Rattle.judge_spec.specs.Words as given;
+ghost use Rattle.judge_spec.specs.Taken as taken;
 ghost use Rattle.pci_model.specs.WordsValue.{words_value};
 ghost use Rattle.pci_model.specs.FixedPartsValue.{fixed_value};
 

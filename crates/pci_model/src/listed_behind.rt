@@ -3,7 +3,7 @@ ghost use Rattle.std.specs.Prelude.{◌≡◌, ◌<◌, ◌≤◌, ℕ, List, le
 ghost use Rattle.std.specs.List.{AllWithin};
 ghost use Rattle.pci_spec.specs.Slot.{Slot as SlotValue};
 ghost use Rattle.pci_spec.specs.Text.{IsDump, slots_of};
-ghost use Rattle.model_spec.specs.Taken.{is_anyone_behind};
+ghost use Rattle.judge_spec.specs.Taken.{is_anyone_behind};
 
 use pci_base::image::Image;
 use pci_base::offset::{SECONDARY_BUS, SUBORDINATE_BUS};

@@ -3,8 +3,8 @@ ghost use Rattle.std.specs.Prelude.{◌↔◌, ℕ, List, IsTrue};
 ghost use Rattle.pci_spec.specs.Slot.{Slot as SlotValue};
 ghost use Rattle.pci_spec.specs.Fault.{IsNotInD0};
 ghost use Rattle.pci_spec.specs.Order.{Profile};
-ghost use Rattle.model_spec.specs.Bytes.{switched_off};
-ghost use Rattle.model_spec.specs.Taken.{HasNoOwnFaultBefore, IsAsleep, IsWhere};
+ghost use Rattle.judge_spec.specs.Bytes.{switched_off};
+ghost use Rattle.judge_spec.specs.Taken.{HasNoOwnFaultBefore, IsAsleep, IsWhere};
 
 use super::bytes::switch_off;
 use super::words::Words;

@@ -2,7 +2,7 @@
 ghost use Rattle.std.specs.Prelude.{◌≡◌, ◌==◌};
 ghost use Rattle.pci_spec.specs.Slot.{Slot as SlotValue};
 ghost use Rattle.pci_spec.specs.Header.{layout};
-ghost use Rattle.model_spec.specs.Taken as taken;
+ghost use Rattle.judge_spec.specs.Taken as taken;
 ghost use Rattle.pci_model.specs.WordsValue.{words_value};
 
 use super::bytes::{clear_registers, make_bare_device};

@@ -3,7 +3,7 @@ ghost use Rattle.std.specs.Prelude.{◌≡◌, ℕ, List};
 ghost use Rattle.std.specs.List.{list_any};
 ghost use Rattle.pci_spec.specs.System.{system_of};
 ghost use Rattle.pci_spec.specs.Text.{Block as BlockValue, IsDump, slots_of};
-ghost use Rattle.given_spec.specs.Words as given;
+ghost use Rattle.judge_spec.specs.Words as given;
 ghost use Rattle.pci_model.specs.Subtractive.{is_rival_block, unclaimed_aside_of};
 ghost use Rattle.pci_model.specs.WordsValue.{words_value};
 

@@ -2,8 +2,8 @@
 ghost use Rattle.std.specs.Prelude.{◌≡◌, List, IfOk};
 ghost use Rattle.pci_spec.specs.System.{function_of, system_of};
 ghost use Rattle.pci_spec.specs.Text.{Block as BlockValue, IsDump, slots_of};
-ghost use Rattle.model_spec.specs.Taken.{IsTakenAs};
-ghost use Rattle.model_spec.specs.TakenDumps.{AreTakenAs};
+ghost use Rattle.judge_spec.specs.Taken.{IsTakenAs};
+ghost use Rattle.judge_spec.specs.TakenDumps.{AreTakenAs};
 ghost use Rattle.pci_model.specs.Subtractive.{unclaimed_aside_of};
 ghost use Rattle.pci_model.specs.WordsValue.{words_value};
 

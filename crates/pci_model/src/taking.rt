@@ -2,8 +2,8 @@
 ghost use Rattle.std.specs.Prelude.{◌≡◌, ◌&&◌, not, List, IfOk};
 ghost use Rattle.pci_spec.specs.System.{function_of, system_of};
 ghost use Rattle.pci_spec.specs.Text.{Block as BlockValue, IsDump, slots_of};
-ghost use Rattle.model_spec.specs.Taken as taken;
-ghost use Rattle.model_spec.specs.Taken.{taking_by};
+ghost use Rattle.judge_spec.specs.Taken as taken;
+ghost use Rattle.judge_spec.specs.Taken.{taking_by};
 ghost use Rattle.pci_model.specs.Subtractive.{takes_block};
 ghost use Rattle.pci_model.specs.WordsValue.{words_value};
 

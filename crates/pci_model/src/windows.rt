@@ -6,8 +6,8 @@ ghost use Rattle.pci_spec.specs.Header.{layout};
 ghost use Rattle.pci_spec.specs.Derived.{bounds_of_nibble};
 ghost use Rattle.pci_base.specs.WindowKinds.{kind_value};
 ghost use Rattle.pci_base.specs.Bounds.{spec_bounds_of};
-ghost use Rattle.model_spec.specs.Windows as spec;
-ghost use Rattle.model_spec.specs.Taken as taken;
+ghost use Rattle.judge_spec.specs.Windows as spec;
+ghost use Rattle.judge_spec.specs.Taken as taken;
 ghost use Rattle.pci_model.specs.WordsValue.{words_value};
 
 use super::words::Words;

@@ -6,8 +6,8 @@ use Rattle.std.specs.List.Sorted.{IsNonDecreasingBy, IsStrictlyIncreasing}
 use Rattle.std.proofs.lemmas.List.Elements.{All-filter, All-map, All-weaker}
 use Rattle.pci_spec.specs.Slot.{IsSlot, slot_number}
 use Rattle.pci_spec.specs.System.{Function, System, IsSystem, IsFunction}
-use Rattle.given_spec.specs.Given.{LegacyBridge}
-use Rattle.given_spec.specs.Words.{VgaWord, has_legacy, has_palette, legacy_bridge, legacy_bridges, palette_bridges, palette_word}
+use Rattle.judge_spec.specs.Given.{LegacyBridge}
+use Rattle.judge_spec.specs.Words.{VgaWord, has_legacy, has_palette, legacy_bridge, legacy_bridges, palette_bridges, palette_word}
 use Rattle.pci_model_settle.specs.ClaimLines.{AreBySlot}
 
 -- slots from one on, none of which is below the one before it

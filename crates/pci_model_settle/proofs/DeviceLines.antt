@@ -8,7 +8,7 @@ use Rattle.std.proofs.lemmas.List.{map-append}
 use Rattle.std.proofs.lemmas.List.Elements.{All-nil, All-tail}
 use Rattle.pci_spec.specs.Slot.{Slot, IsSlot, slot_number}
 use Rattle.pci_spec.specs.System.{IsFunction, IsSystem, System, Space, Io, Memory, IsAddress}
-use Rattle.given_spec.specs.Told.{IsToldRange, is_name_byte}
+use Rattle.judge_spec.specs.Told.{IsToldRange, is_name_byte}
 use Rattle.pci_image.specs.Bars.{decoded_bar_of, decoded_kind_of}
 use Rattle.pci_image.specs.Roms.{decoded_rom_of}
 use Rattle.pci_image.specs.declared.bar.Bar.{Bar}

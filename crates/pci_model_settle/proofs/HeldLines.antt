@@ -11,8 +11,8 @@ use Rattle.pci_spec.specs.System.{Space, Io, Memory, IsAddress}
 use Rattle.pci_base.specs.declared.range.Range.{Range}
 use Rattle.pci_base.specs.declared.memory.Refused.{Refused}
 use Rattle.pci_base.specs.declared.memory.Refused.TheVariants as refusals
-use Rattle.given_spec.specs.Given.{LegacyBridge}
-use Rattle.given_spec.specs.Told.{ToldRange, IsToldRange, IsTold, is_name_byte}
+use Rattle.judge_spec.specs.Given.{LegacyBridge}
+use Rattle.judge_spec.specs.Told.{ToldRange, IsToldRange, IsTold, is_name_byte}
 use Rattle.pci_claims.specs.declared.legacy.FixedPart.{FixedPart}
 use Rattle.pci_claims.specs.declared.legacy.FixedPart.TheVariants.{Legacy, Palette}
 use Rattle.pci_claims.specs.Legacy.{blocks_of, vga_low, vga_high, palette_low, palette_high}

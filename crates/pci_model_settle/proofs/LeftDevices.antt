@@ -7,7 +7,7 @@ use Rattle.pci_spec.specs.Slot.{Slot}
 use Rattle.pci_spec.specs.Text.{Block, slots_of}
 use Rattle.pci_spec.proofs.Pairing.{same_length}
 use Rattle.pci_model_settle.specs.OffDevices.{block_without, blocks_without, is_left_out, left_out}
-use Rattle.model_spec.specs.Bytes.{without_registers}
+use Rattle.judge_spec.specs.Bytes.{without_registers}
 use Rattle.pci_model_settle.specs.Unmoved.{is_among}
 
 -- three blocks more

@@ -7,8 +7,8 @@ use Rattle.std.proofs.lemmas.List.{length-append, map-append, map_push, take_mor
 use Rattle.pci_spec.specs.Slot.{Slot, slot_number}
 use Rattle.pci_spec.specs.System as space
 use Rattle.pci_base.specs.declared.range.Range.{Range}
-use Rattle.given_spec.specs.Given as spec
-use Rattle.given_spec.specs.Told.{ToldRange}
+use Rattle.judge_spec.specs.Given as spec
+use Rattle.judge_spec.specs.Told.{ToldRange}
 use Rattle.pci_claims.specs.declared.given.LegacyBridge.{LegacyBridge}
 use Rattle.pci_claims.specs.declared.legacy.FixedPart.TheVariants.{Legacy, Palette}
 use Rattle.pci_claims.specs.Legacy.{blocks_of, vga_low, vga_high, palette_low, palette_high}

@@ -10,7 +10,7 @@ use Rattle.pci_spec.specs.Header.{command}
 use Rattle.pci_spec.specs.Slot.{Slot, IsRising, slot_number, same_slot}
 use Rattle.pci_spec.specs.Text.{Block, slots_of}
 use Rattle.pci_spec.specs.Machine.{Write}
-use Rattle.model_spec.specs.Windows.{with_number}
+use Rattle.judge_spec.specs.Windows.{with_number}
 use Rattle.pci_model_settle.specs.Listed.{block_after, command_at}
 
 rise : (blocks : List Block) → IsRising (slots_of blocks) → (i j : ℕ) (d : Block) → i < j → j < length blocks → slot_number (get_or blocks i d).slot < slot_number (get_or blocks j d).slot

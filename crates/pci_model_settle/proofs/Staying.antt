@@ -7,7 +7,7 @@ use Rattle.pci_spec.specs.Slot.{Slot}
 use Rattle.pci_spec.specs.Text.{Block, slots_of}
 use Rattle.pci_spec.specs.System.{Function, System, function_of, system_of}
 use Rattle.pci_spec.proofs.Pairing.{length-system_of, same_length}
-use Rattle.model_spec.specs.Words.{Words}
+use Rattle.judge_spec.specs.ModelWords.{Words}
 use Rattle.pci_model.proofs.Takes.{functions_more}
 use Rattle.pci_model_settle.specs.Unmoved.{is_unmoved, unmoved_among}
 

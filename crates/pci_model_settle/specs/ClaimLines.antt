@@ -6,9 +6,9 @@ use Rattle.std.specs.List.Sorted.{IsNonDecreasingBy}
 use Rattle.pci_base.specs.declared.range.Range.{Range}
 use Rattle.pci_spec.specs.Slot.{Slot, IsSlot, slot_number}
 use Rattle.pci_spec.specs.System.{Space, Io, Memory}
-use Rattle.given_spec.specs.Given.{LegacyBridge}
-use Rattle.given_spec.specs.Told.{ToldRange, Held}
-use Rattle.given_spec.specs.ToldClaims.{Holds}
+use Rattle.judge_spec.specs.Given.{LegacyBridge}
+use Rattle.judge_spec.specs.Told.{ToldRange, Held}
+use Rattle.judge_spec.specs.ToldClaims.{Holds}
 use Rattle.pci_claims.specs.declared.legacy.FixedPart.{FixedPart}
 use Rattle.pci_claims.specs.declared.legacy.FixedPart.TheVariants.{Legacy, Palette}
 use Rattle.pci_model_settle.specs.declared.claim_lines.Origin.{Origin}

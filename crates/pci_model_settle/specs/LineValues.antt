@@ -2,7 +2,7 @@
 use Rattle.std.specs.Prelude.{◌≡◌, ℕ, nat_le, Bool, true, false, List, [], ◌∷◌, ◌++◌, map}
 use Rattle.pci_spec.specs.Slot.{slot_number}
 use Rattle.std.specs.List.{All}
-use Rattle.given_spec.specs.Told.{AreInSlotOrder, IsToldRange, ToldRange}
+use Rattle.judge_spec.specs.Told.{AreInSlotOrder, IsToldRange, ToldRange}
 use Rattle.pci_base.specs.Space.{space_of}
 use Rattle.pci_told.specs.Marks.{mark_of}
 use Rattle.pci_model_settle.specs.declared.claim_lines.Line.{Line as CodeLine}

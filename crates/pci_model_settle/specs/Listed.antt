@@ -5,7 +5,7 @@ use Rattle.pci_spec.specs.Registers.{COMMAND}
 use Rattle.pci_spec.specs.Header.{command}
 use Rattle.pci_spec.specs.Text.{Block}
 use Rattle.pci_spec.specs.Machine.{Write}
-use Rattle.model_spec.specs.Windows.{with_number}
+use Rattle.judge_spec.specs.Windows.{with_number}
 
 -- Command of the function at a slot; 0 where none is there
 abbrev pub command_at : List Block → Slot → ℕ

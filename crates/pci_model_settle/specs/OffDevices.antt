@@ -10,8 +10,8 @@ use Rattle.pci_spec.specs.Decoded.{DecodedBar, DecodedRom, Range, Record, record
 use Rattle.pci_spec.specs.Listing.{kind_space}
 use Rattle.pci_spec.specs.Mark.{marked}
 use Rattle.pci_base.specs.Space.{is_on}
-use Rattle.given_spec.specs.Told.{ToldRange, Command}
-use Rattle.model_spec.specs.Bytes.{without_registers}
+use Rattle.judge_spec.specs.Told.{ToldRange, Command}
+use Rattle.judge_spec.specs.Bytes.{without_registers}
 use Rattle.pci_model_settle.specs.declared.claim_lines.Origin.TheVariants.{Device}
 use Rattle.pci_model_settle.specs.ClaimLines.{Line}
 use Rattle.pci_model_settle.specs.Unmoved.{is_among}

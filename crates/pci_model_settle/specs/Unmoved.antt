@@ -7,8 +7,8 @@ use Rattle.pci_spec.specs.Window.{IoWindow, MemoryWindow, PrefetchWindow, breaks
 use Rattle.pci_spec.specs.System.{Function, System, is_bridge}
 use Rattle.pci_spec.specs.Fault.{controls_bridge}
 use Rattle.plan_spec.specs.Plan.{bridges_above}
-use Rattle.model_spec.specs.Words.{Words}
-use Rattle.model_spec.specs.Asleep.{AreAsleepBy}
+use Rattle.judge_spec.specs.ModelWords.{Words}
+use Rattle.judge_spec.specs.Asleep.{AreAsleepBy}
 
 -- whether a slot is one of some
 abbrev pub is_among : List Slot → Slot → Bool

@@ -3,7 +3,7 @@ ghost use Rattle.std.specs.Prelude.{◌≡◌, ◌≤◌, ◌<◌, length, map, 
 ghost use Rattle.std.specs.List.{AllWithin};
 ghost use Rattle.pci_spec.specs.Slot.{IsRising, slot_number};
 ghost use Rattle.pci_spec.specs.Text.{IsDump, slots_of};
-ghost use Rattle.model_spec.specs.Windows.{with_number};
+ghost use Rattle.judge_spec.specs.Windows.{with_number};
 ghost use Rattle.pci_plan.specs.Writes.{write_value};
 ghost use Rattle.pci_model_settle.specs.Listed.{block_after, blocks_after, command_at, listed_write};
 

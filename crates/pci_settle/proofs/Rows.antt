@@ -14,9 +14,9 @@ use Rattle.pci_spec.specs.Window.{WindowKind}
 use Rattle.pci_spec.specs.Bus.{is_root, are_siblings, secondary, subordinate}
 use Rattle.pci_spec.specs.System.{Function, Space, window_space}
 use Rattle.pci_spec.proofs.Members.{in_head, in_tail, in_nil, in_cons_cases, in_map_to, in_map_from, in_filter_to}
-use Rattle.given_spec.specs.Told.{ToldRange, IsToldRange, IsTold}
-use Rattle.given_spec.specs.ToldClaims.{told_register}
-use Rattle.given_spec.specs.ToldRegion.{ToldRegion, regions_from, told_regions}
+use Rattle.judge_spec.specs.Told.{ToldRange, IsToldRange, IsTold}
+use Rattle.judge_spec.specs.ToldClaims.{told_register}
+use Rattle.judge_spec.specs.ToldRegion.{ToldRegion, regions_from, told_regions}
 use Rattle.settle_spec.specs.Lists.{Request}
 use Rattle.settle_spec.specs.Lines.{line_range as told_range, is_held_line, is_line_of, is_line_behind, keeps_off, lines_on, lines_behind}
 use Rattle.settle_spec.specs.FirstPlace.{ranges_are_apart}

@@ -6,9 +6,9 @@ use Rattle.pci_spec.specs.Slot.{Slot, same_slot}
 use Rattle.pci_spec.specs.Decoded.{Range as DecodedRange}
 use Rattle.pci_spec.specs.Bus.{is_root}
 use Rattle.pci_spec.specs.System.{Space}
-use Rattle.given_spec.specs.Told.{ToldRange}
-use Rattle.given_spec.specs.ToldClaims.{is_marked_held}
-use Rattle.given_spec.specs.ToldRegion.{told_extent}
+use Rattle.judge_spec.specs.Told.{ToldRange}
+use Rattle.judge_spec.specs.ToldClaims.{is_marked_held}
+use Rattle.judge_spec.specs.ToldRegion.{told_extent}
 use Rattle.settle_spec.specs.FirstPlace.{ranges_are_apart}
 use Rattle.settle_spec.specs.Parts.{are_same_space}
 use Rattle.pci_base.specs.declared.range.Range.{Range}

@@ -3,7 +3,7 @@ use Rattle.std.specs.Prelude.{ℕ, nat_lt, min, if◌then◌else◌, List, [], O
 use Rattle.std.specs.List.{list_any}
 use Rattle.pci_spec.specs.Slot.{Slot, same_slot}
 use Rattle.pci_spec.specs.Window.{WindowKind, IoWindow, MemoryWindow, PrefetchWindow}
-use Rattle.given_spec.specs.ToldClaims.{Told, nothing_told}
+use Rattle.judge_spec.specs.ToldClaims.{Told, nothing_told}
 use Rattle.settle_spec.specs.FirstPlace.{Extent as ExtentValue}
 use Rattle.settle_spec.specs.Lists.{Request, Spares}
 use Rattle.settle_spec.specs.Lists as ranges

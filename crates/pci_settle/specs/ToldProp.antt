@@ -3,7 +3,7 @@ use Rattle.std.specs.Prelude.{ℕ, List}
 use Rattle.std.specs.Coded.{le_prop}
 use Rattle.std.proofs.Props.{props}
 use Rattle.pci_spec.specs.System.{Space, Io, Memory, IsAddress}
-use Rattle.given_spec.specs.Told.{ToldRange, IsTold}
+use Rattle.judge_spec.specs.Told.{ToldRange, IsTold}
 
 IsAddress-prop : (space : Space) (a : ℕ) → IsProp (IsAddress space a)
 IsAddress-prop Io a = le_prop

@@ -6,7 +6,7 @@ ghost use Rattle.pci_spec.specs.System.{Function, window_space};
 ghost use Rattle.pci_spec.specs.Bus.{secondary, subordinate};
 ghost use Rattle.pci_spec.specs.Window.{WindowKind};
 ghost use Rattle.settle_spec.specs.Lists.{Request};
-ghost use Rattle.given_spec.specs.ToldRegion.{told_regions};
+ghost use Rattle.judge_spec.specs.ToldRegion.{told_regions};
 ghost use Rattle.settle_spec.specs.Lines.{keeps_off, lines_on, lines_behind};
 ghost use Rattle.settle_spec.specs.Stands.{window_part};
 ghost use Rattle.settle_spec.specs.Parts.{are_same_space};

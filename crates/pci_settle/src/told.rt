@@ -1,6 +1,6 @@
 //! Ranges that a text tells of: what functions answer beside their BARs and ROMs.
 ghost use Rattle.std.specs.Prelude.{◌≡◌, []};
-ghost use Rattle.given_spec.specs.Told.{IsTold};
+ghost use Rattle.judge_spec.specs.Told.{IsTold};
 ghost use Rattle.pci_settle.specs.ToldProp.{IsTold-prop};
 
 use pci_told::told_list::ToldList;

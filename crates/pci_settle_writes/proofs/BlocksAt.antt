@@ -14,7 +14,7 @@ use Rattle.pci_spec.specs.Slot.{Slot, slot_number, same_slot}
 use Rattle.pci_spec.specs.Text.{Block, IsDump, slots_of}
 use Rattle.pci_spec.specs.System.{Space, Io, Memory, is_space_on, function_of, system_of}
 use Rattle.pci_spec.proofs.Pairing.{same_length}
-use Rattle.given_spec.specs.ToldClaims.{is_enabled_at}
+use Rattle.judge_spec.specs.ToldClaims.{is_enabled_at}
 use Rattle.settle_spec.specs.Lists.{Request}
 use Rattle.settle_spec.specs.Kept.{Kept}
 use Rattle.pci_base.specs.Space.{is_on}

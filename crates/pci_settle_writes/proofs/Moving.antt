@@ -15,7 +15,7 @@ use Rattle.pci_spec.specs.Decoded as decoded
 use Rattle.pci_spec.specs.System.{System, Function, Space, Io, Memory, Part, Bar, Rom, Window, is_window, has_part, is_space_on, space_of}
 use Rattle.pci_spec.proofs.Members.{in_range_to}
 use Rattle.plan_spec.specs.Plan.{bridges_above, is_open}
-use Rattle.given_spec.specs.ToldRegion.{told_regions}
+use Rattle.judge_spec.specs.ToldRegion.{told_regions}
 use Rattle.settle_spec.specs.Lists.{Request}
 use Rattle.settle_spec.specs.Parts.{FunctionPart, is_part, is_left, header_bars, header_parts, are_same_space, class_in, has_left}
 use Rattle.settle_spec.specs.Registers.{is_answered_by, has_own}

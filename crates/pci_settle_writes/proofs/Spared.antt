@@ -8,7 +8,7 @@ use Rattle.pci_spec.specs.Text.{Block}
 use Rattle.pci_spec.specs.Machine.{Write, system_after}
 use Rattle.pci_spec.specs.Sound.{IsSound}
 use Rattle.pci_spec.specs.System.{System, system_of}
-use Rattle.given_spec.specs.Told.{IsTold}
+use Rattle.judge_spec.specs.Told.{IsTold}
 use Rattle.settle_spec.specs.Lists.{RootRange, Request, are_bad_lists}
 use Rattle.settle_spec.specs.Items.{spare_of}
 use Rattle.settle_spec.specs.Writes.{Settled}

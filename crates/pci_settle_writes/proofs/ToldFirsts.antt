@@ -3,9 +3,9 @@ use Rattle.std.proofs.Common.{◌≡◌, inl, inr, ℕ, zero, suc, ◌+◌, ◌-
 use Rattle.std.specs.List.{find, slice_get}
 use Rattle.std.proofs.lemmas.Bool.{cases_lt}
 use Rattle.std.proofs.lemmas.Option.{none-some, same_Some, slice_get_within}
-use Rattle.given_spec.specs.Told.{ToldRange}
-use Rattle.given_spec.specs.ToldClaims.{told_register}
-use Rattle.given_spec.specs.ToldRegion.{ToldRegion, regions_from}
+use Rattle.judge_spec.specs.Told.{ToldRange}
+use Rattle.judge_spec.specs.ToldClaims.{told_register}
+use Rattle.judge_spec.specs.ToldRegion.{ToldRegion, regions_from}
 use Rattle.settle_spec.specs.Lists.{Request}
 use Rattle.settle_spec.specs.Keeping.Writes.{earliest}
 

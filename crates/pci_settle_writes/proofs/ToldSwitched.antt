@@ -10,8 +10,8 @@ use Rattle.plan_spec.specs.Plan.{bridges_above}
 use Rattle.plan_spec.proofs.Planning.AboveBuses.{above_to, above_from}
 use Rattle.plan_spec.proofs.Planning.Behind.{any_gives, any_from}
 use Rattle.settle_spec.proofs.Nested.{behind_outer}
-use Rattle.given_spec.specs.Told.{Mark, Command, Always, Held, ToldRange}
-use Rattle.given_spec.specs.ToldClaims.{told_register, is_asleep, is_enabled_at, is_on_by, is_marked_held}
+use Rattle.judge_spec.specs.Told.{Mark, Command, Always, Held, ToldRange}
+use Rattle.judge_spec.specs.ToldClaims.{told_register, is_asleep, is_enabled_at, is_on_by, is_marked_held}
 use Rattle.settle_spec.specs.Lines.{is_marked_command, is_marked_always}
 use Rattle.settle_spec.specs.Lists.{Request}
 use Rattle.settle_spec.specs.Stands.{range_stands}

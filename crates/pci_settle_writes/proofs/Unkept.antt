@@ -3,7 +3,7 @@ use Rattle.std.proofs.Common.{◌≡◌, ◌-◌, ◌∙◌, sym, ap, subst, ref
 use Rattle.std.specs.Option.{option_map}
 use Rattle.std.proofs.lemmas.Option.{none-some, same_Some}
 use Rattle.pci_spec.specs.System.{System}
-use Rattle.given_spec.specs.ToldRegion.{ToldRegion}
+use Rattle.judge_spec.specs.ToldRegion.{ToldRegion}
 use Rattle.settle_spec.specs.Lists.{Request}
 use Rattle.settle_spec.specs.Writes.{NotKept, fixed_without}
 use Rattle.settle_spec.specs.Kept.{Kept}

@@ -7,7 +7,7 @@ use Rattle.settle_spec.specs.Lists.{Request, are_bad_lists}
 use Rattle.settle_spec.specs.Parts.{FunctionPart}
 use Rattle.settle_spec.specs.Stands.{stands}
 use Rattle.settle_spec.specs.Items.{Item}
-use Rattle.given_spec.specs.ToldRegion.{ToldRegion}
+use Rattle.judge_spec.specs.ToldRegion.{ToldRegion}
 use Rattle.settle_spec.specs.Writes.{Settling, BadLists, Fixed, NoRoom, NotKept, Settled, or_fixed, or_lack, or_write, fixed_without, fixed_write}
 use Rattle.settle_spec.specs.Kept.{Kept, as_it_stands, growing}
 use Rattle.settle_spec.specs.Keeping.Places.{lacking}

@@ -5,8 +5,8 @@ use Rattle.pci_spec.specs.Decoded.{InRange}
 use Rattle.pci_spec.specs.Slot.{Slot}
 use Rattle.pci_spec.specs.System.{System, IsPassedTo}
 use Rattle.pci_spec.specs.Machine.{Write, system_after}
-use Rattle.given_spec.specs.ToldFault.{IsNotListed, IsHeldOrphan}
-use Rattle.given_spec.specs.ToldRegion.{ToldRegion, told_regions}
+use Rattle.judge_spec.specs.ToldFault.{IsNotListed, IsHeldOrphan}
+use Rattle.judge_spec.specs.ToldRegion.{ToldRegion, told_regions}
 use Rattle.settle_spec.specs.Lines.{line_bus, line_range, is_always_line, keeps_off_part}
 use Rattle.settle_spec.specs.Lists.{Request}
 use Rattle.settle_spec.specs.Parts.{FunctionPart, system_parts}

@@ -9,9 +9,9 @@ use Rattle.pci_spec.specs.Window.{WindowKind}
 use Rattle.pci_spec.specs.System.{System, Function, Space, IsSystem, is_bridge}
 use Rattle.pci_spec.specs.Bus.{secondary, IsNested}
 use Rattle.plan_spec.specs.Plan.{bridges_above}
-use Rattle.given_spec.specs.Told.{ToldRange}
-use Rattle.given_spec.specs.ToldClaims.{told_register, is_enabled_at}
-use Rattle.given_spec.specs.ToldRegion.{ToldRegion}
+use Rattle.judge_spec.specs.Told.{ToldRange}
+use Rattle.judge_spec.specs.ToldClaims.{told_register, is_enabled_at}
+use Rattle.judge_spec.specs.ToldRegion.{ToldRegion}
 use Rattle.settle_spec.specs.Lines.{is_marked_always}
 use Rattle.settle_spec.specs.Lists.{Request}
 use Rattle.settle_spec.specs.Stands.{window_part, range_stands}

@@ -4,7 +4,7 @@ ghost use Rattle.std.specs.List.{AllWithin};
 ghost use Rattle.pci_spec.specs.Slot.{slot_number};
 ghost use Rattle.pci_spec.specs.System.{System};
 ghost use Rattle.pci_spec.specs.Text.{IsDump};
-ghost use Rattle.given_spec.specs.ToldClaims.{is_marked_held};
+ghost use Rattle.judge_spec.specs.ToldClaims.{is_marked_held};
 ghost use Rattle.settle_spec.specs.Lines.{is_marked_command, is_marked_always};
 ghost use Rattle.settle_spec.specs.Lists.{Request};
 ghost use Rattle.settle_spec.specs.Kept.{Kept as Keeping};

@@ -10,9 +10,9 @@ use Rattle.pci_spec.specs.Decoded.{Range as DecodedRange}
 use Rattle.pci_spec.specs.System.{Function, Space, window_space}
 use Rattle.pci_spec.specs.Bus.{secondary, subordinate}
 use Rattle.pci_spec.proofs.Members.{IsMade, in_head, in_tail, in_map_to, in_map_from, in_filter_to, in_filter_from}
-use Rattle.given_spec.specs.Told.{ToldRange}
-use Rattle.given_spec.specs.ToldRegion.{ToldRegion, told_extent, told_regions}
-use Rattle.given_spec.specs.ToldClaims.{told_register}
+use Rattle.judge_spec.specs.Told.{ToldRange}
+use Rattle.judge_spec.specs.ToldRegion.{ToldRegion, told_extent, told_regions}
+use Rattle.judge_spec.specs.ToldClaims.{told_register}
 use Rattle.settle_spec.specs.FirstPlace.{Extent, ranges_are_apart, first_place}
 use Rattle.settle_spec.specs.Lists.{Request}
 use Rattle.settle_spec.specs.Lines.{line_range, is_line_behind, lines_behind}

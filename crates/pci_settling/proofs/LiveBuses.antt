@@ -13,7 +13,7 @@ use Rattle.pci_spec.specs.Decoded.{HasRecords}
 use Rattle.pci_spec.specs.Decoded as decoded
 use Rattle.plan_spec.proofs.Planning.Safe.{order_of}
 use Rattle.settle_spec.specs.Lists.{Request}
-use Rattle.given_spec.specs.ToldRegion.{told_regions}
+use Rattle.judge_spec.specs.ToldRegion.{told_regions}
 use Rattle.settle_spec.specs.Registers.{is_answered_by, has_own}
 use Rattle.settle_spec.specs.LiveLaws.{has_live_behind}
 use Rattle.settle_spec.specs.Kept.{Kept}

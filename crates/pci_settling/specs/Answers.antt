@@ -3,9 +3,9 @@ use Rattle.std.specs.Prelude.{◌≡◌, ℕ, Bool, false, ◌&&◌, List, lengt
 use Rattle.std.specs.List.{list_any, range_with_len}
 use Rattle.pci_spec.specs.Slot.{Slot, same_slot}
 use Rattle.pci_spec.specs.System.{System, Space}
-use Rattle.given_spec.specs.Told.{ToldRange}
-use Rattle.given_spec.specs.ToldForm.{blank}
-use Rattle.given_spec.specs.ToldClaims.{told_register}
+use Rattle.judge_spec.specs.Told.{ToldRange}
+use Rattle.judge_spec.specs.ToldForm.{blank}
+use Rattle.judge_spec.specs.ToldClaims.{told_register}
 use Rattle.settle_spec.specs.Lists.{Request}
 use Rattle.settle_spec.specs.Lines.{is_marked_command}
 use Rattle.settle_spec.specs.Parts.{are_same_space}

@@ -9,8 +9,8 @@ use Rattle.pci_spec.specs.System.{System, Function, Space, IsSystem, is_space_on
 use Rattle.pci_spec.proofs.BusRanges.{any_gives, any_from}
 use Rattle.pci_spec.proofs.Members.{in_map_from}
 use Rattle.pci_spec.proofs.Nesting.{one_function}
-use Rattle.given_spec.specs.ToldClaims.{is_enabled_at}
-use Rattle.given_spec.proofs.Judging.{slots_same}
+use Rattle.judge_spec.specs.ToldClaims.{is_enabled_at}
+use Rattle.judge_spec.proofs.Judging.{slots_same}
 use Rattle.pci_base.specs.Space.{is_on}
 use Rattle.pci_function.specs.Values.{record_value}
 use Rattle.pci_function.specs.declared.record.Record.{Record}

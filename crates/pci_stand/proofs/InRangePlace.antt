@@ -8,8 +8,8 @@ use Rattle.pci_spec.specs.System.{System, Function, Window, has_part}
 use Rattle.pci_spec.specs.Bus.{is_root}
 use Rattle.plan_spec.specs.Plan.{is_open}
 use Rattle.plan_spec.specs.Planning.Layout.{range_of}
-use Rattle.given_spec.specs.Told.{ToldRange}
-use Rattle.given_spec.specs.ToldRegion.{told_extent}
+use Rattle.judge_spec.specs.Told.{ToldRange}
+use Rattle.judge_spec.specs.ToldRegion.{told_extent}
 use Rattle.settle_spec.specs.Lists.{Request}
 use Rattle.settle_spec.specs.Parts.{lies_within, bridge_over}
 use Rattle.settle_spec.specs.Lines.{is_always_line}

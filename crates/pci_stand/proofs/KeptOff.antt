@@ -11,8 +11,8 @@ use Rattle.pci_spec.specs.System.{System, Function, Space, Io, Memory}
 use Rattle.pci_spec.specs.Bus.{are_siblings}
 use Rattle.pci_spec.proofs.BusRanges.{any_gives, any_from}
 use Rattle.pci_spec.proofs.Members.{in_nil}
-use Rattle.given_spec.specs.Told.{ToldRange, IsTold}
-use Rattle.given_spec.specs.ToldRegion.{ToldRegion, told_regions}
+use Rattle.judge_spec.specs.Told.{ToldRange, IsTold}
+use Rattle.judge_spec.specs.ToldRegion.{ToldRegion, told_regions}
 use Rattle.settle_spec.specs.FirstPlace.{ranges_are_apart}
 use Rattle.settle_spec.specs.Lists.{Request}
 use Rattle.settle_spec.specs.Parts.{FunctionPart, addresses, are_same_space}

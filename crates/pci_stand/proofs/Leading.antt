@@ -12,9 +12,9 @@ use Rattle.pci_spec.proofs.BusRanges.{any_gives, any_from, within_of_behind, beh
 use Rattle.pci_spec.proofs.Members.{in_nil}
 use Rattle.plan_spec.specs.Plan.{is_open, same_class}
 use Rattle.plan_spec.specs.Planning.Layout.{range_of}
-use Rattle.given_spec.specs.Told.{ToldRange}
-use Rattle.given_spec.specs.ToldClaims.{is_marked_held}
-use Rattle.given_spec.specs.ToldRegion.{ToldRegion, told_regions}
+use Rattle.judge_spec.specs.Told.{ToldRange}
+use Rattle.judge_spec.specs.ToldClaims.{is_marked_held}
+use Rattle.judge_spec.specs.ToldRegion.{ToldRegion, told_regions}
 use Rattle.settle_spec.specs.Lists.{Request}
 use Rattle.settle_spec.specs.Parts.{FunctionPart, addresses, is_part, lies_within, are_same_space}
 use Rattle.settle_spec.specs.Lines.{line_bus, line_range, is_held_line, is_always_line}

@@ -8,8 +8,8 @@ use Rattle.std.proofs.lemmas.List.Elements.{Contains-append_cases, Contains-appe
 use Rattle.std.proofs.lemmas.List.Sorted.{IsPermutation-sym, Contains-permutation}
 use Rattle.pci_spec.specs.System.{System}
 use Rattle.pci_spec.proofs.Members.{in_nil, in_cons_cases, in_head}
-use Rattle.given_spec.specs.Told.{ToldRange}
-use Rattle.given_spec.specs.ToldRegion.{ToldRegion, told_regions, told_extent}
+use Rattle.judge_spec.specs.Told.{ToldRange}
+use Rattle.judge_spec.specs.ToldRegion.{ToldRegion, told_regions, told_extent}
 use Rattle.settle_spec.specs.Lists.{Request}
 use Rattle.stand_laws.specs.Order.{level}
 use Rattle.pci_base.specs.Ranges.{decoded_range_of}

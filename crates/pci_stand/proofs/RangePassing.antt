@@ -9,7 +9,7 @@ use Rattle.pci_spec.specs.System.{System, Space}
 use Rattle.pci_spec.specs.Bus.{are_siblings}
 use Rattle.pci_spec.proofs.BusRanges.{all_gives, all_from, any_gives, any_from}
 use Rattle.pci_spec.proofs.Members.{IsMade, in_map_to, in_map_from, in_filter_to, in_filter_from}
-use Rattle.given_spec.specs.ToldRegion.{ToldRegion}
+use Rattle.judge_spec.specs.ToldRegion.{ToldRegion}
 use Rattle.settle_spec.specs.FirstPlace.{ranges_are_apart}
 use Rattle.settle_spec.specs.Lists.{Request}
 use Rattle.settle_spec.specs.Parts.{are_same_space}

@@ -5,8 +5,8 @@ use Rattle.std.specs.List.{Contains, filter, list_any}
 use Rattle.std.proofs.lemmas.Bool.{cases_Bool, both_ways, eq-eqb, ne_eqb, not-true}
 use Rattle.pci_spec.specs.Slot.{IsSlot, slot_number}
 use Rattle.pci_spec.proofs.Members.{in_filter_to, in_filter_from, pairs_filter}
-use Rattle.given_spec.specs.Told.{ToldRange, IsTold}
-use Rattle.given_spec.specs.ToldRegion.{ToldRegion, told_regions, told_extent}
+use Rattle.judge_spec.specs.Told.{ToldRange, IsTold}
+use Rattle.judge_spec.specs.ToldRegion.{ToldRegion, told_regions, told_extent}
 use Rattle.settle_spec.specs.FirstPlace.{ranges_are_apart}
 use Rattle.settle_spec.specs.Lists.{Request}
 use Rattle.settle_spec.specs.Lines.{is_held_line, keeps_off}

@@ -7,8 +7,8 @@ use Rattle.std.proofs.lemmas.List.{get_or_append_left, get_or-append-add}
 use Rattle.std.proofs.lemmas.List.Sorted.{IsPartitionedBy-ltb}
 use Rattle.pci_spec.specs.Slot.{Slot, IsSlot, slot_number}
 use Rattle.pci_spec.proofs.Members.{in_nil, in_cons_cases, in_head, in_tail}
-use Rattle.given_spec.specs.Told.{ToldRange, IsTold}
-use Rattle.given_spec.specs.ToldRegion.{ToldRegion, regions_from}
+use Rattle.judge_spec.specs.Told.{ToldRange, IsTold}
+use Rattle.judge_spec.specs.ToldRegion.{ToldRegion, regions_from}
 use Rattle.pci_stand.specs.declared.told_line.ToldLine.{ToldLine}
 
 -- a line tells of the range at an index

@@ -9,8 +9,8 @@ use Rattle.std.proofs.lemmas.List.FromFn.{filter_of_map_range_with_len_more}
 use Rattle.std.proofs.lemmas.Option.{slice_get_within, get_or_from_slice_get}
 use Rattle.pci_spec.specs.System.{System}
 use Rattle.pci_spec.proofs.Members.{in_nil, in_head, in_tail, in_filter_to, in_map_from, in_range_to, in_range_from}
-use Rattle.given_spec.specs.Told.{ToldRange}
-use Rattle.given_spec.specs.ToldRegion.{ToldRegion, regions_from, told_regions}
+use Rattle.judge_spec.specs.Told.{ToldRange}
+use Rattle.judge_spec.specs.ToldRegion.{ToldRegion, regions_from, told_regions}
 use Rattle.settle_spec.specs.Lists.{Request}
 use Rattle.settle_spec.specs.Stands.{is_line_on, range_stands}
 use Rattle.stand_laws.specs.Told.Passes.{AreRangesInOrder}

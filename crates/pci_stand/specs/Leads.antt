@@ -2,9 +2,9 @@
 use Rattle.std.specs.Prelude.{◌≡◌, ℕ, ◌<◌, Bool, ◌&&◌, ◌||◌, not, IsFalse, List, length, slice_index_or}
 use Rattle.std.specs.List.{All, AllPairs, Contains, list_any}
 use Rattle.pci_spec.specs.System.{System}
-use Rattle.given_spec.specs.Told.{ToldRange}
-use Rattle.given_spec.specs.ToldClaims.{is_marked_held}
-use Rattle.given_spec.specs.ToldRegion.{told_regions}
+use Rattle.judge_spec.specs.Told.{ToldRange}
+use Rattle.judge_spec.specs.ToldClaims.{is_marked_held}
+use Rattle.judge_spec.specs.ToldRegion.{told_regions}
 use Rattle.settle_spec.specs.Lists.{Request}
 use Rattle.settle_spec.specs.Parts.{FunctionPart}
 use Rattle.settle_spec.specs.Stands.{is_line_on, leads_to_range, leads_to_told, leads_to_one_on}

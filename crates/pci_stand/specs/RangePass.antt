@@ -2,11 +2,11 @@
 use Rattle.std.specs.Prelude.{◌≡◌, ℕ, ◌+◌, ◌-◌, ◌<◌, Bool, true, false, IsTrue, List, [], ◌++◌, Some, length, slice_get, slice_index_or}
 use Rattle.std.specs.Bool.{beq}
 use Rattle.std.specs.List.{Contains, filter, range_with_len}
-use Rattle.given_spec.specs.Told.{ToldRange, Held}
+use Rattle.judge_spec.specs.Told.{ToldRange, Held}
 use Rattle.pci_spec.specs.System.{Io}
 use Rattle.pci_spec.specs.System.{System}
-use Rattle.given_spec.specs.ToldClaims.{told_register}
-use Rattle.given_spec.specs.ToldRegion.{ToldRegion, told_regions}
+use Rattle.judge_spec.specs.ToldClaims.{told_register}
+use Rattle.judge_spec.specs.ToldRegion.{ToldRegion, told_regions}
 use Rattle.settle_spec.specs.Lists.{Request}
 use Rattle.settle_spec.specs.Parts.{FunctionPart, system_parts, addresses}
 use Rattle.settle_spec.specs.Stands.{part_space, stands, range_stands}

@@ -3,9 +3,9 @@ use Rattle.std.specs.Prelude.{◌≡◌, ℕ, ◌<◌, Bool, ◌&&◌, ◌||◌,
 use Rattle.pci_spec.specs.Decoded.{Range}
 use Rattle.pci_spec.specs.System.{System, Space}
 use Rattle.plan_spec.specs.Plan.{same_class}
-use Rattle.given_spec.specs.Told.{ToldRange}
-use Rattle.given_spec.specs.ToldClaims.{is_marked_held, is_range_on}
-use Rattle.given_spec.specs.ToldRegion.{ToldRegion, told_extent}
+use Rattle.judge_spec.specs.Told.{ToldRange}
+use Rattle.judge_spec.specs.ToldClaims.{is_marked_held, is_range_on}
+use Rattle.judge_spec.specs.ToldRegion.{ToldRegion, told_extent}
 use Rattle.settle_spec.specs.Lists.{Request}
 use Rattle.settle_spec.specs.Parts.{lies_within, are_same_space}
 use Rattle.settle_spec.specs.Lines.{is_marked_always}

@@ -5,7 +5,7 @@ ghost use Rattle.std.specs.List.{All, AllPairs, AllWithin};
 ghost use Rattle.pci_spec.specs.System.{System};
 ghost use Rattle.settle_spec.specs.Lists.{Request};
 ghost use Rattle.settle_spec.specs.Stands.{leads_to_told};
-ghost use Rattle.given_spec.specs.Told.{IsTold, ToldRange as RangeValue};
+ghost use Rattle.judge_spec.specs.Told.{IsTold, ToldRange as RangeValue};
 ghost use Rattle.pci_stand.specs.Boards.{IsTree, IsKnown};
 ghost use Rattle.pci_stand.specs.Known.{region_value, AreParts};
 ghost use Rattle.pci_stand.specs.ToldLines.{AreToldLines, leads_to_line};

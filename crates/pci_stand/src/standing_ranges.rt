@@ -5,7 +5,7 @@ ghost use Rattle.std.specs.List.{All};
 ghost use Rattle.pci_spec.specs.System.{System};
 ghost use Rattle.settle_spec.specs.Lists.{Request};
 ghost use Rattle.settle_spec.specs.Lines.{is_held_line};
-ghost use Rattle.given_spec.specs.Told.{IsTold};
+ghost use Rattle.judge_spec.specs.Told.{IsTold};
 ghost use Rattle.pci_tree.specs.Ways.{IsBridgeToBus};
 ghost use Rattle.pci_place.specs.Above.{system_in};
 ghost use Rattle.pci_settle.specs.Slots.{demand_value};

@@ -13,9 +13,9 @@ use Rattle.pci_spec.specs.Decoded as decoded
 use Rattle.pci_spec.specs.System.{System, Function, Part, Bar, Rom, Window, is_bridge, is_window, has_part, space_of, window_space}
 use Rattle.pci_spec.specs.Bus.{secondary, subordinate, is_behind}
 use Rattle.pci_spec.proofs.Members.{in_nil, in_head}
-use Rattle.given_spec.specs.Told.{ToldRange}
-use Rattle.given_spec.specs.ToldRegion.{regions_from, told_regions}
-use Rattle.given_spec.specs.ToldClaims.{told_register}
+use Rattle.judge_spec.specs.Told.{ToldRange}
+use Rattle.judge_spec.specs.ToldRegion.{regions_from, told_regions}
+use Rattle.judge_spec.specs.ToldClaims.{told_register}
 use Rattle.settle_spec.specs.Lists.{Request}
 use Rattle.settle_spec.specs.Lines.{line_bus, line_range, is_line_behind, lines_behind}
 use Rattle.settle_spec.specs.Parts.{FunctionPart, are_same_space}

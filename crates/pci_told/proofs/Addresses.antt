@@ -3,8 +3,8 @@ use Rattle.std.proofs.Common.{◌-◌, ◌≡◌, ◌≢◌, ℕ, ◌+◌, ◌*�
 use Rattle.std.proofs.Math.Seq.{take-length}
 use Rattle.std.proofs.lemmas.Bool.{cases_lt, cond-true, cond-false, le-leb, ne_eqb}
 use Rattle.pci_spec.specs.System.{Space, Io, Memory}
-use Rattle.given_spec.specs.Told.{ToldRange}
-use Rattle.given_spec.specs.ToldForm.{Field, Bus, Device, Function, First, Last, Place, Digits, Begun, IsBegun, Step, Goes, ToldSoFar, Reading, IsFit, digit_in, digit_step, digits_of, greatest_digit, step, take_byte, take_step, take_bytes}
+use Rattle.judge_spec.specs.Told.{ToldRange}
+use Rattle.judge_spec.specs.ToldForm.{Field, Bus, Device, Function, First, Last, Place, Digits, Begun, IsBegun, Step, Goes, ToldSoFar, Reading, IsFit, digit_in, digit_step, digits_of, greatest_digit, step, take_byte, take_step, take_bytes}
 use Rattle.pci_told.specs.Steps.{IsAddressField, AreTaken, AreTakenWithin, BeginWithDigits, inner_digits, so_far}
 use Rattle.pci_told.proofs.Digits.{step_some, small_number}
 use Rattle.pci_told.proofs.Taken.{taken_more}

@@ -2,9 +2,9 @@
 use Rattle.std.proofs.Common.{◌-◌, ◌≡◌, ℕ, zero, suc, ◌+◌, ◌*◌, ◌^◌, ◌<◌, ◌≤◌, refl, sym, ◌∙◌, ap, subst, arith, lit≤, pow-suc, Option, Some, None}
 use Rattle.pci_spec.specs.System.{Space, Io, Memory}
 use Rattle.pci_spec.specs.Text.{hex_digit}
-use Rattle.given_spec.specs.Told.{ToldRange}
-use Rattle.given_spec.specs.ToldForm.{Field, Bus, Device, Function, First, Last, Place, Digits, Begun, Step, Wrong, digit_in, digit_step, step_at, step, digits_of, greatest_digit, IsFit}
-use Rattle.given_spec.proofs.ToldLines.{digit_read, digit_known}
+use Rattle.judge_spec.specs.Told.{ToldRange}
+use Rattle.judge_spec.specs.ToldForm.{Field, Bus, Device, Function, First, Last, Place, Digits, Begun, Step, Wrong, digit_in, digit_step, step_at, step, digits_of, greatest_digit, IsFit}
+use Rattle.judge_spec.proofs.ToldLines.{digit_read, digit_known}
 use Rattle.pci_told.specs.Steps.{IsOfField, IsStep}
 use Rattle.pci_told.specs.declared.line.Next.TheVariants as next
 

@@ -3,7 +3,7 @@ use Rattle.std.proofs.Common.{ℕ, List, ltb}
 use Rattle.std.specs.List.Sorted.{IsPartitionedBy}
 use Rattle.std.proofs.lemmas.List.Sorted.{IsPartitionedBy-ltb}
 use Rattle.pci_spec.specs.Slot.{slot_number}
-use Rattle.given_spec.specs.Told.{ToldRange, IsTold}
+use Rattle.judge_spec.specs.Told.{ToldRange, IsTold}
 
 pub parted_by_slot : (ranges : List ToldRange) (n : ℕ) → IsTold ranges → IsPartitionedBy (λ r. ltb (slot_number r.slot) n) ranges
 parted_by_slot ranges n told = IsPartitionedBy-ltb (λ (r : ToldRange). slot_number r.slot) ranges n told.order

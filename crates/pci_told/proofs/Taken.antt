@@ -4,13 +4,13 @@ use Rattle.std.specs.Io.KnownBytes.{Consumes, IsAtEnd}
 use Rattle.std.proofs.lemmas.Bool.{cond_both}
 use Rattle.std.proofs.lemmas.List.{drop_more, length-append}
 use Rattle.pci_spec.specs.Text.{BadSlot, BadTitle, BadLine, NoBlank, Order, TooMany, Ended}
-use Rattle.given_spec.specs.Told.{ToldRange, IsTold}
-use Rattle.given_spec.specs.ToldText.{IsToldTextOf}
-use Rattle.given_spec.specs.ToldForm.{Bus, Place, Digits, ToldSoFar, nothing_read, Step, Wrong, Goes, Ends, is_in_order, IsBegun, Reads, Reading, Stopped, line_number, take_byte, and_then, take_bytes, step, take_step}
-use Rattle.given_spec.proofs.ToldLines.{StaysBegun, stays_begun, nothing_begun}
-use Rattle.given_spec.proofs.ToldRows.{take_bytes-append, reading_of, whole_text}
-use Rattle.given_spec.proofs.ToldFaults.{fault_read, fault_at_end}
-use Rattle.given_spec.proofs.ToldLengths.{read_length, length_of, begun_read}
+use Rattle.judge_spec.specs.Told.{ToldRange, IsTold}
+use Rattle.judge_spec.specs.ToldText.{IsToldTextOf}
+use Rattle.judge_spec.specs.ToldForm.{Bus, Place, Digits, ToldSoFar, nothing_read, Step, Wrong, Goes, Ends, is_in_order, IsBegun, Reads, Reading, Stopped, line_number, take_byte, and_then, take_bytes, step, take_step}
+use Rattle.judge_spec.proofs.ToldLines.{StaysBegun, stays_begun, nothing_begun}
+use Rattle.judge_spec.proofs.ToldRows.{take_bytes-append, reading_of, whole_text}
+use Rattle.judge_spec.proofs.ToldFaults.{fault_read, fault_at_end}
+use Rattle.judge_spec.proofs.ToldLengths.{read_length, length_of, begun_read}
 use Rattle.pci_dump.specs.declared.read_fault.ReadFault.{ReadFault}
 use Rattle.pci_dump.specs.declared.read_fault.ReadFault.TheVariants as faults
 use Rattle.pci_told.specs.Faults.{IsToldTextFault, StopsWith}

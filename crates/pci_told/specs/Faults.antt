@@ -1,8 +1,8 @@
 -- The faults of a text of told ranges, as the definitions have them.
 use Rattle.std.specs.Prelude.{◌≡◌, ℕ, List}
 use Rattle.pci_spec.specs.Text.{BadSlot, BadTitle, BadLine, NoBlank, Order, TooMany, Ended}
-use Rattle.given_spec.specs.ToldStops.{IsToldFaultOf}
-use Rattle.given_spec.specs.ToldForm.{Reads, Stopped}
+use Rattle.judge_spec.specs.ToldStops.{IsToldFaultOf}
+use Rattle.judge_spec.specs.ToldForm.{Reads, Stopped}
 use Rattle.pci_dump.specs.declared.read_fault.ReadFault.{ReadFault}
 use Rattle.pci_dump.specs.declared.read_fault.ReadFault.TheVariants as faults
 

@@ -1,5 +1,5 @@
 -- Marks as the definitions have them.
-use Rattle.given_spec.specs.Told as told
+use Rattle.judge_spec.specs.Told as told
 use Rattle.pci_told.specs.declared.told_range.Mark.{Mark}
 use Rattle.pci_told.specs.declared.told_range.Mark.TheVariants.{Command, Always, Held}
 

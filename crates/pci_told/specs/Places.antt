@@ -1,5 +1,5 @@
 -- Places in a line as the definitions have them.
-use Rattle.given_spec.specs.ToldForm as form
+use Rattle.judge_spec.specs.ToldForm as form
 use Rattle.pci_told.specs.declared.place.Field.{Field}
 use Rattle.pci_told.specs.declared.place.Field.TheVariants.{Bus, Device, Function, First, Last}
 use Rattle.pci_told.specs.declared.place.Place.{Place}

@@ -1,8 +1,8 @@
 -- What a byte makes of a line, as the definitions have it.
 use Rattle.std.specs.Prelude.{◌≡◌, ◌≢◌, ℕ, ◌+◌, ◌-◌, ◌<◌, ◌≤◌, List, length, drop, slice_index_or, None}
 use Rattle.pci_spec.specs.System.{Space}
-use Rattle.given_spec.specs.Told.{ToldRange}
-use Rattle.given_spec.specs.ToldForm.{Field, Bus, Device, Function, First, Last, Place, Digits, Begun, IsBegun, Step, Wrong, Goes, Ends, ToldSoFar, digit_in, digits_of, take_bytes}
+use Rattle.judge_spec.specs.Told.{ToldRange}
+use Rattle.judge_spec.specs.ToldForm.{Field, Bus, Device, Function, First, Last, Place, Digits, Begun, IsBegun, Step, Wrong, Goes, Ends, ToldSoFar, digit_in, digits_of, take_bytes}
 use Rattle.pci_told.specs.declared.line.Next.{Next}
 use Rattle.pci_told.specs.declared.line.Next.TheVariants as next
 

@@ -1,6 +1,6 @@
 //! A line that is begun, and what its next byte makes of it.
 ghost use Rattle.std.specs.Prelude.{◌≡◌, ◌<◌, Some, IsTrue, false};
-ghost use Rattle.given_spec.specs.ToldForm.{no_line, with_number, digit_step, step, is_of_slot, IsFit, IsBegun, Digits, goes_at, Bus, space_begins, space_step, mark_begins, mark_step, name_step};
+ghost use Rattle.judge_spec.specs.ToldForm.{no_line, with_number, digit_step, step, is_of_slot, IsFit, IsBegun, Digits, goes_at, Bus, space_begins, space_step, mark_begins, mark_step, name_step};
 ghost use Rattle.pci_told.specs.Places.{field_of, place_of};
 ghost use Rattle.pci_told.specs.Steps.{IsStep, IsOfField, IsAddressField, AreTakenWithin, BeginWithDigits};
 
@@ -34,7 +34,7 @@ pub(crate) struct Line {
 }
 
 impl Model for Line {
-    ghost use Rattle.given_spec.specs.ToldForm.{Begun};
+    ghost use Rattle.judge_spec.specs.ToldForm.{Begun};
     ghost use Rattle.pci_told.specs.Places.{place_of};
 
     ghost Value = { Begun };
@@ -245,7 +245,7 @@ impl Line {
     }
 
     /// Takes the next byte of the line.
-    #[tactic(auto, unfolding(given_spec::specs::ToldForm::step_at))]
+    #[tactic(auto, unfolding(judge_spec::specs::ToldForm::step_at))]
     pub(crate) fn step(&mut self, byte: u8) -> Next
         requires { IsBegun self.old }
         ensures { IsStep self.old (step self.old byte) result self.new }

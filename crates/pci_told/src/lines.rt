@@ -1,7 +1,7 @@
 //! Lines one after the other.
 ghost use Rattle.std.specs.Prelude.{◌≡◌, ◌≢◌, ◌+◌, ◌≤◌, length, OnOk, IfOk, IfErr};
-ghost use Rattle.given_spec.specs.Told.{IsTold};
-ghost use Rattle.given_spec.specs.ToldForm.{Bus, Digits, nothing_read, IsBegun, is_in_order, slot_follows, Reading, take_byte, take_bytes};
+ghost use Rattle.judge_spec.specs.Told.{IsTold};
+ghost use Rattle.judge_spec.specs.ToldForm.{Bus, Digits, nothing_read, IsBegun, is_in_order, slot_follows, Reading, take_byte, take_bytes};
 ghost use Rattle.pci_told.specs.Faults.{StopsWith};
 ghost use Rattle.pci_told.specs.Steps.{AreTaken, BeginWithDigits};
 
@@ -26,7 +26,7 @@ pub(crate) struct Lines<A: Allocator> {
 }
 
 impl<A: Allocator> Model for Lines<A> {
-    ghost use Rattle.given_spec.specs.ToldForm.{ToldSoFar};
+    ghost use Rattle.judge_spec.specs.ToldForm.{ToldSoFar};
 
     ghost Value = { ToldSoFar };
 
@@ -76,7 +76,7 @@ impl<A: Allocator> Lines<A> {
     /// Takes the next byte.
     ///
     /// Errors: 3, 5, 7 and 8 where the text has that fault at this byte, 2 `Memory` where a growth was refused.
-    #[tactic(auto, unfolding(given_spec::specs::ToldForm::take_byte))]
+    #[tactic(auto, unfolding(judge_spec::specs::ToldForm::take_byte))]
     pub(crate) fn take(&mut self, byte: u8) -> Result<(), ReadFault>
         requires { IsBegun self.old.line }
         ensures ok { OnOk result (take_byte self.old byte ≡ Reading self.new) }

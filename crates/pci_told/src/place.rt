@@ -1,6 +1,6 @@
 //! How far a line is read.
 ghost use Rattle.std.specs.Prelude.{◌≡◌};
-ghost use Rattle.given_spec.specs.ToldForm.{digits_of, greatest_digit, separator, behind, is_of_slot};
+ghost use Rattle.judge_spec.specs.ToldForm.{digits_of, greatest_digit, separator, behind, is_of_slot};
 ghost use Rattle.pci_base.specs.Space.{space_of};
 ghost use Rattle.pci_told.specs.Places.{field_of, place_of};
 

@@ -1,7 +1,7 @@
 //! Reads a text of told ranges.
 ghost use Rattle.std.specs.Prelude.{◌≡◌, ◌+◌, ◌≢◌, ℕ, List, Some, IfOk, IfErr, OnOk};
-ghost use Rattle.given_spec.specs.Told.{ToldRange as RangeValue};
-ghost use Rattle.given_spec.specs.ToldText.{IsToldTextOf};
+ghost use Rattle.judge_spec.specs.Told.{ToldRange as RangeValue};
+ghost use Rattle.judge_spec.specs.ToldText.{IsToldTextOf};
 ghost use Rattle.pci_told.specs.Faults.{IsToldTextFault};
 
 use super::lines::Lines;

@@ -2,7 +2,7 @@
 ghost use Rattle.std.specs.Prelude.{◌≡◌, ◌<◌, ◌≤◌, [], length};
 ghost use Rattle.std.specs.List.{AllWithin};
 ghost use Rattle.pci_spec.specs.Slot.{IsSlot, slot_number};
-ghost use Rattle.given_spec.specs.Told.{IsTold};
+ghost use Rattle.judge_spec.specs.Told.{IsTold};
 
 use super::told_range::ToldRange;
 use pci_base::slot::Slot;
@@ -17,7 +17,7 @@ pub struct ToldList<A: Allocator = Global> {
 
 impl<A: Allocator> Model for ToldList<A> {
     ghost use Rattle.std.specs.Prelude.{List};
-    ghost use Rattle.given_spec.specs.Told.{ToldRange as RangeValue, IsTold};
+    ghost use Rattle.judge_spec.specs.Told.{ToldRange as RangeValue, IsTold};
 
     ghost Value = { List RangeValue };
 

@@ -1,7 +1,7 @@
 //! A range of addresses that a function answers, and of which a text tells.
 ghost use Rattle.std.specs.Prelude.{◌≡◌, ◌↔◌, IsTrue};
-ghost use Rattle.given_spec.specs.ToldClaims.{is_marked_held};
-ghost use Rattle.given_spec.specs.ToldForm.{blank};
+ghost use Rattle.judge_spec.specs.ToldClaims.{is_marked_held};
+ghost use Rattle.judge_spec.specs.ToldForm.{blank};
 ghost use Rattle.pci_base.specs.Space.{space_of};
 
 use arrayvec::ArrayVec;
@@ -38,7 +38,7 @@ pub struct ToldRange {
 }
 
 impl Model for ToldRange {
-    ghost use Rattle.given_spec.specs.Told.{ToldRange as RangeValue};
+    ghost use Rattle.judge_spec.specs.Told.{ToldRange as RangeValue};
     ghost use Rattle.pci_base.specs.Space.{space_of};
     ghost use Rattle.pci_told.specs.Marks.{mark_of};
 

@@ -1,7 +1,7 @@
 //! The words of a line.
 ghost use Rattle.std.specs.Prelude.{◌≡◌, ◌≤◌, length};
-ghost use Rattle.given_spec.specs.Told.{is_name_byte};
-ghost use Rattle.given_spec.specs.ToldText.{space_word, mark_word};
+ghost use Rattle.judge_spec.specs.Told.{is_name_byte};
+ghost use Rattle.judge_spec.specs.ToldText.{space_word, mark_word};
 ghost use Rattle.pci_base.specs.Space.{space_of};
 ghost use Rattle.pci_told.specs.Marks.{mark_of};
 

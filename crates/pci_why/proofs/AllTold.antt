@@ -13,11 +13,11 @@ use Rattle.pci_function.specs.Fault.{fault_of}
 use Rattle.pci_tree.specs.Outline.{Tree}
 use Rattle.pci_tree.specs.Trees.{HasTree}
 use Rattle.pci_why.specs.Lines.{Appends}
-use Rattle.given_spec.specs.Given.{Given}
-use Rattle.given_spec.specs.Fault as untold
-use Rattle.given_spec.specs.ToldClaims.{Told}
-use Rattle.given_spec.specs.ToldFault.{Fault, Known, NotListed}
-use Rattle.given_spec.specs.Why.{AnyRegion, IsNamed, IsRegionIn, IsAdviceFor, AreNamedTwo, is_said, to_move}
+use Rattle.judge_spec.specs.Given.{Given}
+use Rattle.judge_spec.specs.Fault as untold
+use Rattle.judge_spec.specs.ToldClaims.{Told}
+use Rattle.judge_spec.specs.ToldFault.{Fault, Known, NotListed}
+use Rattle.judge_spec.specs.Why.{AnyRegion, IsNamed, IsRegionIn, IsAdviceFor, AreNamedTwo, is_said, to_move}
 use Rattle.pci_given.specs.declared.any_fault.AnyFault.{AnyFault}
 use Rattle.pci_given.specs.declared.any_fault.AnyFault.TheVariants as any
 use Rattle.pci_given.specs.AllLines.{plain_fault}

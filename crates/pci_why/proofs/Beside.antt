@@ -6,8 +6,8 @@ use Rattle.pci_spec.specs.Slot.{Slot}
 use Rattle.pci_spec.specs.System.{System, Space}
 use Rattle.pci_spec.specs.Bus.{IsNested}
 use Rattle.pci_spec.specs.Fault.{address_in, named_region}
-use Rattle.given_spec.specs.Given.{Given, starts}
-use Rattle.given_spec.specs.ToldClaims.{Told, ClaimsOnBus}
+use Rattle.judge_spec.specs.Given.{Given, starts}
+use Rattle.judge_spec.specs.ToldClaims.{Told, ClaimsOnBus}
 use Rattle.pci_claims.specs.Claim.{Claimed}
 use Rattle.pci_claims.specs.AllClaims.{AreClaimsOn}
 use Rattle.pci_claims.specs.RootClaims.{AreClaimsOver}

@@ -27,11 +27,11 @@ use Rattle.pci_why.specs.Lines.{Appends}
 use Rattle.pci_why.proofs.Evidences.{on_the_way, bridge_in}
 use Rattle.pci_claims.proofs.Runs.{runs_of}
 use Rattle.pci_why.proofs.Texts.{three_appended}
-use Rattle.given_spec.specs.Given.{Given, is_cut}
-use Rattle.given_spec.specs.Claims.{passes, Own as OwnPart}
-use Rattle.given_spec.specs.ToldClaims.{Told, ClaimsOnBus}
-use Rattle.given_spec.specs.ToldFault.{IsUnreached}
-use Rattle.given_spec.specs.Why.{AnyRegion, Own, Legacy, Palette, OfLine, space_of, bus_of, is_prefetchable, Holds, IsNamed, isa_words, unclaimed_words, legacy_words, region_line, bridge_line, IsBehindUnreached, Misses}
+use Rattle.judge_spec.specs.Given.{Given, is_cut}
+use Rattle.judge_spec.specs.Claims.{passes, Own as OwnPart}
+use Rattle.judge_spec.specs.ToldClaims.{Told, ClaimsOnBus}
+use Rattle.judge_spec.specs.ToldFault.{IsUnreached}
+use Rattle.judge_spec.specs.Why.{AnyRegion, Own, Legacy, Palette, OfLine, space_of, bus_of, is_prefetchable, Holds, IsNamed, isa_words, unclaimed_words, legacy_words, region_line, bridge_line, IsBehindUnreached, Misses}
 use Rattle.pci_claims.specs.Passed.{ArePassed, passes_with}
 use Rattle.pci_claims.proofs.Linking.{passes_same}
 use Rattle.pci_why.specs.declared.named.Shown.{Shown}

@@ -14,10 +14,10 @@ use Rattle.pci_tree.specs.declared.region.Region.{Region}
 use Rattle.pci_tree.specs.declared.region.Part.{Part}
 use Rattle.pci_tree.specs.Regions.{IsRegionOf, is_of_window, name_of}
 use Rattle.pci_tree.proofs.RegionParts.{window_named}
-use Rattle.given_spec.specs.Given.{Given, is_cut}
-use Rattle.given_spec.specs.Claims.{is_cut_of}
-use Rattle.given_spec.specs.Why.{Own, isa_words, isa_words_of}
-use Rattle.given_spec.specs.Why.{region_line as given_region_line}
+use Rattle.judge_spec.specs.Given.{Given, is_cut}
+use Rattle.judge_spec.specs.Claims.{is_cut_of}
+use Rattle.judge_spec.specs.Why.{Own, isa_words, isa_words_of}
+use Rattle.judge_spec.specs.Why.{region_line as given_region_line}
 use Rattle.pci_claims.specs.Claim.{is_cut_from}
 use Rattle.pci_why.specs.RegionLines.{words_of, window_at, given_line_of, isa_words_at}
 use Rattle.pci_claims.specs.Found.{bounds_range, region_of_found}

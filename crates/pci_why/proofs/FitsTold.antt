@@ -26,11 +26,11 @@ use Rattle.pci_tree.specs.declared.region.Part.TheVariants as parts
 use Rattle.pci_tree.specs.Outline.{Tree, RiseBySlot}
 use Rattle.pci_tree.proofs.Lifting.{Has, function_for, same_slot_of, one_function}
 use Rattle.pci_tree.specs.Trees.{HasTree}
-use Rattle.given_spec.specs.Given.{Given}
-use Rattle.given_spec.specs.ToldClaims.{Told}
-use Rattle.given_spec.specs.ToldRegion.{ToldRegion, IsToldIn}
-use Rattle.given_spec.proofs.Reasons.{low_register}
-use Rattle.given_spec.specs.Why.{Own, Legacy, Palette, OfLine, IsPlaceFor, IsLeastPlace, IsFit, IsFitBehind, is_said}
+use Rattle.judge_spec.specs.Given.{Given}
+use Rattle.judge_spec.specs.ToldClaims.{Told}
+use Rattle.judge_spec.specs.ToldRegion.{ToldRegion, IsToldIn}
+use Rattle.judge_spec.proofs.Reasons.{low_register}
+use Rattle.judge_spec.specs.Why.{Own, Legacy, Palette, OfLine, IsPlaceFor, IsLeastPlace, IsFit, IsFitBehind, is_said}
 use Rattle.pci_claims.proofs.RegionClaims.{not_legacy, not_palette}
 use Rattle.pci_claims.specs.Found.{NoneClaims, IsFoundIn, region_of_found}
 use Rattle.pci_why.specs.Lines.{Appends}

@@ -20,12 +20,12 @@ use Rattle.pci_tree.specs.Ranges.{Holds, Covers}
 use Rattle.pci_tree.specs.Trees.{HasTree}
 use Rattle.pci_tree.specs.declared.region.Region as outline
 use Rattle.pci_tree.specs.Regions.{IsRegionOf}
-use Rattle.given_spec.specs.Given.{Given, palette_claims, is_cut}
-use Rattle.given_spec.specs.Claims.{Gets, IsPassedTo, passes, passes_else, forwards, forwards_else}
-use Rattle.given_spec.specs.Claims as untold
-use Rattle.given_spec.specs.Told.{ToldRange}
-use Rattle.given_spec.specs.ToldClaims.{Told, is_held, is_held_from, is_marked_held, may_share}
-use Rattle.given_spec.specs.Why.{IsTakenBeside}
+use Rattle.judge_spec.specs.Given.{Given, palette_claims, is_cut}
+use Rattle.judge_spec.specs.Claims.{Gets, IsPassedTo, passes, passes_else, forwards, forwards_else}
+use Rattle.judge_spec.specs.Claims as untold
+use Rattle.judge_spec.specs.Told.{ToldRange}
+use Rattle.judge_spec.specs.ToldClaims.{Told, is_held, is_held_from, is_marked_held, may_share}
+use Rattle.judge_spec.specs.Why.{IsTakenBeside}
 use Rattle.pci_claims.specs.Claim.{Claimed}
 use Rattle.pci_claims.specs.Gathered.{IsGathered, IsCommon}
 use Rattle.pci_claims.specs.Reached.{AreReached, IsStartedReachTo}

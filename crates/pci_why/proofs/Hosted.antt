@@ -17,12 +17,12 @@ use Rattle.pci_tree.specs.Outline.{Tree, IsPathTo}
 use Rattle.pci_tree.specs.Trees.{HasTree}
 use Rattle.pci_why.specs.Lines.{Appends}
 use Rattle.pci_why.proofs.Bridged.{named_space, named_bus}
-use Rattle.given_spec.specs.Given.{Given, HostRange, ranges_said, starts, starts_in, is_cut}
-use Rattle.given_spec.specs.Claims.{Own as OwnPart}
-use Rattle.given_spec.specs.ToldClaims.{Told, ClaimsOnBus}
-use Rattle.given_spec.specs.ToldFault.{IsOutside}
-use Rattle.given_spec.specs.ToldNumbered.{AreListedIn}
-use Rattle.given_spec.specs.Why.{AnyRegion, space_of, region_line, ranges_for, ranges_words, host_line}
+use Rattle.judge_spec.specs.Given.{Given, HostRange, ranges_said, starts, starts_in, is_cut}
+use Rattle.judge_spec.specs.Claims.{Own as OwnPart}
+use Rattle.judge_spec.specs.ToldClaims.{Told, ClaimsOnBus}
+use Rattle.judge_spec.specs.ToldFault.{IsOutside}
+use Rattle.judge_spec.specs.ToldNumbered.{AreListedIn}
+use Rattle.judge_spec.specs.Why.{AnyRegion, space_of, region_line, ranges_for, ranges_words, host_line}
 use Rattle.pci_why.specs.declared.named.Shown.{Shown}
 use Rattle.pci_why.specs.Named.{shown_line, IsNamedIn}
 use Rattle.pci_claims.specs.Outside.{IsRootOfPath}

@@ -26,16 +26,16 @@ use Rattle.pci_claims.specs.Found.{region_of_found, IsFoundIn}
 use Rattle.pci_claims.specs.Found as found
 use Rattle.pci_why.proofs.Evidences.{cut_of_part, given_line_same}
 use Rattle.pci_claims.proofs.Founds.{region_in}
-use Rattle.given_spec.specs.Given.{Given, legacy_holds, is_palette_at, palette_claims}
-use Rattle.given_spec.specs.Claims.{Own as OwnPart, Legacy as LegacyPart, Palette as PalettePart, LegacyClaims, PaletteClaims}
-use Rattle.given_spec.specs.Claims as untold
-use Rattle.given_spec.specs.Told.{ToldRange, IsTold, IsToldRange, is_name_byte}
-use Rattle.given_spec.specs.ToldClaims.{Told, ClaimsOnBus, IsRangeAt, RangeClaimsOnBus, is_range_on}
-use Rattle.given_spec.specs.ToldRegion.{ToldRegion, told_words}
-use Rattle.given_spec.specs.Why.{Own, Legacy, Palette, OfLine, is_narrow, is_narrow_among}
-use Rattle.given_spec.proofs.Naming.{named_register}
-use Rattle.given_spec.proofs.Snoop.{palette_has_no_memory}
-use Rattle.given_spec.proofs.ToldNames.{one_range}
+use Rattle.judge_spec.specs.Given.{Given, legacy_holds, is_palette_at, palette_claims}
+use Rattle.judge_spec.specs.Claims.{Own as OwnPart, Legacy as LegacyPart, Palette as PalettePart, LegacyClaims, PaletteClaims}
+use Rattle.judge_spec.specs.Claims as untold
+use Rattle.judge_spec.specs.Told.{ToldRange, IsTold, IsToldRange, is_name_byte}
+use Rattle.judge_spec.specs.ToldClaims.{Told, ClaimsOnBus, IsRangeAt, RangeClaimsOnBus, is_range_on}
+use Rattle.judge_spec.specs.ToldRegion.{ToldRegion, told_words}
+use Rattle.judge_spec.specs.Why.{Own, Legacy, Palette, OfLine, is_narrow, is_narrow_among}
+use Rattle.judge_spec.proofs.Naming.{named_register}
+use Rattle.judge_spec.proofs.Snoop.{palette_has_no_memory}
+use Rattle.judge_spec.proofs.ToldNames.{one_range}
 use Rattle.pci_spec.specs.Listing.{inner_line}
 use Rattle.pci_claims.specs.Passed.{is_piece_at, legacy_passes}
 use Rattle.pci_claims.specs.Claim.{AreAddressesOf, IsLegacyOf, IsPaletteOf}

@@ -9,10 +9,10 @@ use Rattle.pci_spec.specs.System.{System, Function, Space, is_space_on}
 use Rattle.pci_spec.specs.Decoded.{Range, DecodedBar, Record, HasRecords, record_of, decoded_bars}
 use Rattle.pci_spec.specs.Listing.{words, kind_space}
 use Rattle.pci_spec.specs.Why.{place_words, off_line}
-use Rattle.given_spec.specs.Told.{ToldRange}
-use Rattle.given_spec.specs.ToldClaims.{Told}
-use Rattle.given_spec.specs.ToldRegion.{off_ranges}
-use Rattle.given_spec.specs.Why.{range_off_line, all_off_lines_of, all_off_lines}
+use Rattle.judge_spec.specs.Told.{ToldRange}
+use Rattle.judge_spec.specs.ToldClaims.{Told}
+use Rattle.judge_spec.specs.ToldRegion.{off_ranges}
+use Rattle.judge_spec.specs.Why.{range_off_line, all_off_lines_of, all_off_lines}
 use Rattle.pci_tree.proofs.Regions.{on_same}
 use Rattle.pci_why.specs.RegionLines.{bar_words}
 use Rattle.pci_why.specs.Off.{off_of_bars, off_of_record, off_with, AreRangesOffTold, AreOffTold}

@@ -9,12 +9,12 @@ use Rattle.std.proofs.lemmas.Grind.{flat_map-append}
 use Rattle.pci_spec.specs.Slot.{Slot, IsSlot, same_slot, slot_number}
 use Rattle.pci_spec.specs.System.{System}
 use Rattle.pci_spec.proofs.Regions.{slot_number-same}
-use Rattle.given_spec.specs.Told.{ToldRange, IsTold}
-use Rattle.given_spec.specs.ToldForm.{blank}
-use Rattle.given_spec.specs.ToldClaims.{Told, is_range_on}
-use Rattle.given_spec.specs.ToldRegion.{ToldRegion, regions_from, told_regions, is_off_at, off_ranges}
-use Rattle.given_spec.specs.Why.{range_off_line}
-use Rattle.given_spec.proofs.Judging.{slots_same}
+use Rattle.judge_spec.specs.Told.{ToldRange, IsTold}
+use Rattle.judge_spec.specs.ToldForm.{blank}
+use Rattle.judge_spec.specs.ToldClaims.{Told, is_range_on}
+use Rattle.judge_spec.specs.ToldRegion.{ToldRegion, regions_from, told_regions, is_off_at, off_ranges}
+use Rattle.judge_spec.specs.Why.{range_off_line}
+use Rattle.judge_spec.proofs.Judging.{slots_same}
 use Rattle.pci_why.specs.Off.{range_off_text, AreFlagged, AreRangesOffTold}
 
 -- ---- told ranges by slot

@@ -5,9 +5,9 @@ use Rattle.pci_spec.specs.System.{System, Space, Io, Memory, IsAddress}
 use Rattle.pci_spec.specs.Why.{Region, address_count, place_end}
 use Rattle.pci_base.specs.declared.range.Range.{Range}
 use Rattle.pci_tree.specs.Ranges.{Covers}
-use Rattle.given_spec.specs.Given.{Given}
-use Rattle.given_spec.specs.ToldClaims.{Told}
-use Rattle.given_spec.specs.Why.{IsPlaceFor, IsLeastPlace}
+use Rattle.judge_spec.specs.Given.{Given}
+use Rattle.judge_spec.specs.ToldClaims.{Told}
+use Rattle.judge_spec.specs.Why.{IsPlaceFor, IsLeastPlace}
 use Rattle.pci_why.specs.Places.{IsPlaceReached, IsLeastPlaceFrom}
 use Rattle.pci_why.specs.Free.{IsFreeFor}
 

@@ -7,12 +7,12 @@ use Rattle.pci_spec.specs.Mark.{AssumedRegister}
 use Rattle.pci_spec.proofs.Members.{in_head}
 use Rattle.pci_tree.specs.Outline.{Tree}
 use Rattle.pci_tree.specs.Trees.{HasTree}
-use Rattle.given_spec.specs.Given.{Given}
-use Rattle.given_spec.specs.ToldClaims.{Told}
-use Rattle.given_spec.specs.ToldFault.{Fault}
-use Rattle.given_spec.specs.ToldLine.{fault_line}
-use Rattle.given_spec.specs.Why.{all_off_lines}
-use Rattle.given_spec.specs.FaultsText.{yes_line, IsBehind, AreReasoned}
+use Rattle.judge_spec.specs.Given.{Given}
+use Rattle.judge_spec.specs.ToldClaims.{Told}
+use Rattle.judge_spec.specs.ToldFault.{Fault}
+use Rattle.judge_spec.specs.ToldLine.{fault_line}
+use Rattle.judge_spec.specs.Why.{all_off_lines}
+use Rattle.judge_spec.specs.FaultsText.{yes_line, IsBehind, AreReasoned}
 use Rattle.pci_why.specs.Whys.{IsWhyTold}
 use Rattle.pci_why.specs.Lists.{AreReasonedTold, IsReasonedTextOf}
 

@@ -4,8 +4,8 @@ use Rattle.std.specs.Prelude.{MatchOption}
 use Rattle.pci_spec.specs.Slot.{Slot}
 use Rattle.pci_spec.specs.System.{Space, Io, Memory, window_space}
 use Rattle.pci_spec.specs.Window.{WindowKind}
-use Rattle.given_spec.specs.Given.{Given}
-use Rattle.given_spec.specs.ToldClaims.{Told}
+use Rattle.judge_spec.specs.Given.{Given}
+use Rattle.judge_spec.specs.ToldClaims.{Told}
 use Rattle.pci_base.specs.Space.{kind_in}
 use Rattle.pci_base.specs.declared.range.Range.{Range}
 use Rattle.pci_tree.specs.Outline.{Tree}

@@ -2,7 +2,7 @@
 use Rattle.std.proofs.Common.{◌≡◌, ℕ, List, [], ◌∷◌, ◌++◌, ap, refl, sym, ◌∙◌}
 use Rattle.std.proofs.lemmas.List.{append_assoc}
 use Rattle.pci_spec.specs.Listing.{words}
-use Rattle.given_spec.specs.ToldRegion.{name_words}
+use Rattle.judge_spec.specs.ToldRegion.{name_words}
 use Rattle.pci_why.specs.Lines.{spaced, ended}
 use Rattle.pci_why.proofs.LegacyWords.{words_spaced}
 

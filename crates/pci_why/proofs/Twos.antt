@@ -11,9 +11,9 @@ use Rattle.pci_tree.specs.Ranges.{Covers}
 use Rattle.pci_why.specs.Lines.{Appends}
 use Rattle.pci_claims.proofs.Runs.{runs_of}
 use Rattle.pci_why.proofs.Texts.{three_appended}
-use Rattle.given_spec.specs.Given.{Given}
-use Rattle.given_spec.specs.ToldClaims.{Told, ClaimsOnBus}
-use Rattle.given_spec.specs.Why.{Holds, region_line, AreNamedTwo}
+use Rattle.judge_spec.specs.Given.{Given}
+use Rattle.judge_spec.specs.ToldClaims.{Told, ClaimsOnBus}
+use Rattle.judge_spec.specs.Why.{Holds, region_line, AreNamedTwo}
 use Rattle.pci_claims.specs.Gathered.{IsCommon}
 use Rattle.pci_claims.proofs.Gathering.{none_covered}
 use Rattle.pci_why.specs.declared.named.Shown.{Shown}

@@ -15,10 +15,10 @@ use Rattle.pci_tree.specs.Outline.{Tree}
 use Rattle.pci_tree.specs.Trees.{HasTree}
 use Rattle.pci_why.specs.Missed.{IsWithout}
 use Rattle.pci_why.specs.Lines.{Appends}
-use Rattle.given_spec.specs.Given.{Given}
-use Rattle.given_spec.specs.ToldClaims.{Told}
-use Rattle.given_spec.specs.ToldFault.{IsUnreached}
-use Rattle.given_spec.specs.Why.{AnyRegion, IsNamed, isa_words, unclaimed_words, legacy_words, IsBehindUnreached}
+use Rattle.judge_spec.specs.Given.{Given}
+use Rattle.judge_spec.specs.ToldClaims.{Told}
+use Rattle.judge_spec.specs.ToldFault.{IsUnreached}
+use Rattle.judge_spec.specs.Why.{AnyRegion, IsNamed, isa_words, unclaimed_words, legacy_words, IsBehindUnreached}
 use Rattle.pci_claims.specs.Passed.{ArePassed}
 
 -- what the line of a bridge tells before its end

@@ -7,9 +7,9 @@ use Rattle.pci_spec.specs.System as system
 use Rattle.pci_spec.specs.Bus.{IsNested}
 use Rattle.pci_spec.specs.Mark.{AssumedRegister}
 use Rattle.pci_spec.specs.Fault.{RegionName}
-use Rattle.given_spec.specs.Given.{Given}
-use Rattle.given_spec.specs.ToldClaims.{Told}
-use Rattle.given_spec.specs.Why.{AnyRegion, IsNamed, IsRegionIn, IsPlaceFor, IsLeastPlace, IsFitBehind}
+use Rattle.judge_spec.specs.Given.{Given}
+use Rattle.judge_spec.specs.ToldClaims.{Told}
+use Rattle.judge_spec.specs.Why.{AnyRegion, IsNamed, IsRegionIn, IsPlaceFor, IsLeastPlace, IsFitBehind}
 use Rattle.pci_base.specs.Space.{kind_in}
 use Rattle.pci_why.specs.Free.{AreFreeFor}
 use Rattle.pci_why.specs.Rooms.{RoomValue, IsRoomOfBus, IsRoomFor}

@@ -7,10 +7,10 @@ use Rattle.pci_spec.specs.System as system
 use Rattle.pci_spec.specs.Bus.{IsNested}
 use Rattle.pci_spec.specs.Why.{Region as RegionValue}
 use Rattle.pci_spec.specs.Fault.{Address, RegionName, address_in, named_region}
-use Rattle.given_spec.specs.Given.{Given, starts}
-use Rattle.given_spec.specs.Claims.{Gets, IsPassedTo, may_share}
-use Rattle.given_spec.specs.ToldClaims.{Told, ClaimsOnBus, is_held}
-use Rattle.given_spec.specs.Why.{IsTakenBeside}
+use Rattle.judge_spec.specs.Given.{Given, starts}
+use Rattle.judge_spec.specs.Claims.{Gets, IsPassedTo, may_share}
+use Rattle.judge_spec.specs.ToldClaims.{Told, ClaimsOnBus, is_held}
+use Rattle.judge_spec.specs.Why.{IsTakenBeside}
 use Rattle.pci_base.specs.declared.range.Range.{Range}
 use Rattle.pci_tree.specs.declared.region.Region.{Region}
 use Rattle.pci_tree.specs.Ranges.{Covers}

@@ -7,11 +7,11 @@ use Rattle.pci_spec.specs.Fault.{RegionName, address_in}
 use Rattle.pci_tree.specs.Outline.{Tree}
 use Rattle.pci_tree.specs.Trees.{HasTree}
 use Rattle.pci_why.specs.Lines.{Appends}
-use Rattle.given_spec.specs.Given.{Given}
-use Rattle.given_spec.specs.ToldClaims.{Told}
-use Rattle.given_spec.specs.ToldFault.{IsOutside}
-use Rattle.given_spec.specs.ToldNumbered.{AreListedIn}
-use Rattle.given_spec.specs.Why.{AnyRegion, IsNamed, IsBehindOutside}
+use Rattle.judge_spec.specs.Given.{Given}
+use Rattle.judge_spec.specs.ToldClaims.{Told}
+use Rattle.judge_spec.specs.ToldFault.{IsOutside}
+use Rattle.judge_spec.specs.ToldNumbered.{AreListedIn}
+use Rattle.judge_spec.specs.Why.{AnyRegion, IsNamed, IsBehindOutside}
 
 -- bridges lead from the root to the bus of the slot, in each system with the tree
 abbrev pub IsRootAbove : Tree → Slot → ℕ → Type 0

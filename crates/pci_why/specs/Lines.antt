@@ -6,8 +6,8 @@ use Rattle.pci_spec.specs.Registers.{BRIDGE_CONTROL, COMMAND}
 use Rattle.pci_spec.specs.Text.{hex_byte, slot_text}
 use Rattle.pci_spec.specs.System.{Space}
 use Rattle.pci_spec.specs.Listing.{inner_line}
-use Rattle.given_spec.specs.Given.{Given}
-use Rattle.given_spec.specs.Why.{legacy_text, palette_text}
+use Rattle.judge_spec.specs.Given.{Given}
+use Rattle.judge_spec.specs.Why.{legacy_text, palette_text}
 
 -- lines of which P holds were appended
 pub record Appends (P : List ℕ → Type 0) (old new : List ℕ) : Type 0 where

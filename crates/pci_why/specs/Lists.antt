@@ -6,11 +6,11 @@ use Rattle.pci_spec.specs.Mark.{AssumedRegister}
 use Rattle.pci_tree.specs.Outline.{Tree}
 use Rattle.pci_tree.specs.Trees.{HasTree}
 use Rattle.pci_why.specs.Lines.{Appends}
-use Rattle.given_spec.specs.Given.{Given}
-use Rattle.given_spec.specs.ToldClaims.{Told}
-use Rattle.given_spec.specs.ToldFault.{Fault, IsIn}
-use Rattle.given_spec.specs.ToldNumbered.{AreListedIn}
-use Rattle.given_spec.specs.FaultsText.{AreReasoned, is_judged, IsReasonedText}
+use Rattle.judge_spec.specs.Given.{Given}
+use Rattle.judge_spec.specs.ToldClaims.{Told}
+use Rattle.judge_spec.specs.ToldFault.{Fault, IsIn}
+use Rattle.judge_spec.specs.ToldNumbered.{AreListedIn}
+use Rattle.judge_spec.specs.FaultsText.{AreReasoned, is_judged, IsReasonedText}
 
 -- the faults are there
 abbrev pub AreIn : Told → Given → Tree → System → List Fault → Type 0

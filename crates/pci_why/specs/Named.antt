@@ -8,11 +8,11 @@ use Rattle.pci_tree.specs.Ranges.{Covers}
 use Rattle.pci_tree.specs.Outline.{Tree}
 use Rattle.pci_tree.specs.Trees.{HasTree}
 use Rattle.pci_why.specs.RegionLines.{given_line_of}
-use Rattle.given_spec.specs.Given.{Given}
-use Rattle.given_spec.specs.Told.{IsToldRange}
-use Rattle.given_spec.specs.ToldClaims.{Told, ClaimsOnBus}
-use Rattle.given_spec.specs.ToldRegion.{told_words}
-use Rattle.given_spec.specs.Why.{AnyRegion, Holds, IsRegionIn, IsNamed, is_prefetchable, region_line}
+use Rattle.judge_spec.specs.Given.{Given}
+use Rattle.judge_spec.specs.Told.{IsToldRange}
+use Rattle.judge_spec.specs.ToldClaims.{Told, ClaimsOnBus}
+use Rattle.judge_spec.specs.ToldRegion.{told_words}
+use Rattle.judge_spec.specs.Why.{AnyRegion, Holds, IsRegionIn, IsNamed, is_prefetchable, region_line}
 use Rattle.pci_spec.specs.Listing.{inner_line}
 use Rattle.pci_why.specs.Lines.{legacy_line, palette_line}
 use Rattle.pci_why.specs.declared.named.Shown.{Shown}

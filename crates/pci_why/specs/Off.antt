@@ -6,10 +6,10 @@ use Rattle.pci_spec.specs.System.{System}
 use Rattle.pci_spec.specs.Decoded.{DecodedBar, Record}
 use Rattle.pci_spec.specs.Listing.{kind_space}
 use Rattle.pci_spec.specs.Why.{off_line}
-use Rattle.given_spec.specs.Told.{ToldRange}
-use Rattle.given_spec.specs.ToldClaims.{Told, is_range_on}
-use Rattle.given_spec.specs.ToldRegion.{ToldRegion, off_ranges}
-use Rattle.given_spec.specs.Why.{range_off_line}
+use Rattle.judge_spec.specs.Told.{ToldRange}
+use Rattle.judge_spec.specs.ToldClaims.{Told, is_range_on}
+use Rattle.judge_spec.specs.ToldRegion.{ToldRegion, off_ranges}
+use Rattle.judge_spec.specs.Why.{range_off_line}
 use Rattle.pci_base.specs.Space.{is_on}
 
 -- the line of a BAR, where it is off

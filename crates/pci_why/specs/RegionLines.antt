@@ -10,9 +10,9 @@ use Rattle.pci_tree.specs.declared.region.Part.{Part}
 use Rattle.pci_tree.specs.declared.region.Part.TheVariants.{Bar, Rom, Window}
 use Rattle.pci_tree.specs.declared.region.Region.{Region}
 use Rattle.pci_tree.specs.Regions.{is_of_window}
-use Rattle.given_spec.specs.Given.{Given}
+use Rattle.judge_spec.specs.Given.{Given}
 use Rattle.pci_why.specs.Lines.{ended}
-use Rattle.given_spec.specs.Why.{isa_words}
+use Rattle.judge_spec.specs.Why.{isa_words}
 use Rattle.pci_claims.specs.Found.{bounds_range}
 
 abbrev pub bar_words : Space → Bool → List ℕ

@@ -4,9 +4,9 @@ use Rattle.std.specs.List.{Contains}
 use Rattle.pci_spec.specs.Slot.{Slot}
 use Rattle.pci_spec.specs.System.{window_space}
 use Rattle.pci_spec.specs.Window.{WindowKind, IoWindow, MemoryWindow, PrefetchWindow}
-use Rattle.given_spec.specs.Given.{Given}
-use Rattle.given_spec.specs.Told.{IsTold}
-use Rattle.given_spec.specs.ToldClaims.{Told}
+use Rattle.judge_spec.specs.Given.{Given}
+use Rattle.judge_spec.specs.Told.{IsTold}
+use Rattle.judge_spec.specs.ToldClaims.{Told}
 use Rattle.pci_base.specs.declared.range.Range.{Range}
 use Rattle.pci_tree.specs.Outline.{Tree}
 use Rattle.pci_claims.specs.Claim.{Claimed}

@@ -5,9 +5,9 @@ use Rattle.pci_spec.specs.Fault.{TwoRegions, address_in}
 use Rattle.pci_tree.specs.Outline.{Tree}
 use Rattle.pci_tree.specs.Trees.{HasTree}
 use Rattle.pci_why.specs.Lines.{Appends}
-use Rattle.given_spec.specs.Given.{Given}
-use Rattle.given_spec.specs.ToldClaims.{Told, ClaimsOnBus}
-use Rattle.given_spec.specs.Why.{AreNamedTwo}
+use Rattle.judge_spec.specs.Given.{Given}
+use Rattle.judge_spec.specs.ToldClaims.{Told, ClaimsOnBus}
+use Rattle.judge_spec.specs.Why.{AreNamedTwo}
 
 -- in each system with the tree where both claim some address
 abbrev pub AreTwoTold : Told → Given → Tree → Space → TwoRegions → List ℕ → List ℕ → Type 0

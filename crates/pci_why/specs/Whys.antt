@@ -6,13 +6,13 @@ use Rattle.pci_spec.specs.Mark.{AssumedRegister}
 use Rattle.pci_tree.specs.Outline.{Tree}
 use Rattle.pci_tree.specs.Trees.{HasTree}
 use Rattle.pci_why.specs.Lines.{Appends}
-use Rattle.given_spec.specs.Given.{Given}
-use Rattle.given_spec.specs.ToldClaims.{Told}
-use Rattle.given_spec.specs.ToldFault.{Fault, Known, NotListed, IsIn}
-use Rattle.given_spec.specs.ToldNumbered.{AreListedIn}
+use Rattle.judge_spec.specs.Given.{Given}
+use Rattle.judge_spec.specs.ToldClaims.{Told}
+use Rattle.judge_spec.specs.ToldFault.{Fault, Known, NotListed, IsIn}
+use Rattle.judge_spec.specs.ToldNumbered.{AreListedIn}
 use Rattle.pci_why.specs.Fits.{IsFitTold}
-use Rattle.given_spec.specs.Why.{IsEvidence, IsAdvice}
-use Rattle.given_spec.specs.FaultsText.{IsBehind}
+use Rattle.judge_spec.specs.Why.{IsEvidence, IsAdvice}
+use Rattle.judge_spec.specs.FaultsText.{IsBehind}
 
 -- 34 has no lines
 abbrev pub IsEvidenceOf : Told → Given → List ℕ → System → Fault → List ℕ → Type 0

@@ -3,7 +3,7 @@ ghost use Rattle.std.specs.Prelude.{◌≡◌, ◌++◌, OnOk};
 ghost use Rattle.std.specs.String.{string_bytes};
 ghost use Rattle.pci_spec.specs.Listing.{words};
 ghost use Rattle.pci_base.specs.Space.{space_of};
-ghost use Rattle.given_spec.specs.Why.{isa_words};
+ghost use Rattle.judge_spec.specs.Why.{isa_words};
 ghost use Rattle.pci_claims.specs.Values.{given_value};
 ghost use Rattle.pci_why.specs.Lines.{spaced};
 

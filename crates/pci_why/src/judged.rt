@@ -1,7 +1,7 @@
 //! What was judged, and how a fault names regions of it.
 ghost use Rattle.std.specs.Prelude.{◌≡◌};
 ghost use Rattle.pci_spec.specs.Fault.{named_region, named_regions};
-ghost use Rattle.given_spec.specs.Why.{to_move};
+ghost use Rattle.judge_spec.specs.Why.{to_move};
 
 use pci_base::slot::Slot;
 use pci_base::space::Space;

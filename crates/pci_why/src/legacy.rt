@@ -3,7 +3,7 @@ ghost use Rattle.std.specs.Prelude.{◌≡◌, ◌&&◌, ◌++◌, map, not, OnO
 ghost use Rattle.std.specs.String.{string_bytes};
 ghost use Rattle.pci_spec.specs.Slot.{same_slot};
 ghost use Rattle.pci_base.specs.Space.{space_of};
-ghost use Rattle.given_spec.specs.Why.{is_narrow_among, has_legacy_part, legacy_words, legacy_text, palette_text};
+ghost use Rattle.judge_spec.specs.Why.{is_narrow_among, has_legacy_part, legacy_words, legacy_text, palette_text};
 ghost use Rattle.pci_claims.specs.Values.{given_value, legacy_value};
 ghost use Rattle.pci_why.specs.Lines.{spaced, fixed_line, legacy_line, palette_line};
 

@@ -1,9 +1,9 @@
 //! What there is on a bus for a region that would move. It is listed once for the regions of a bus that follow each other in
 //! a list of faults.
 ghost use Rattle.std.specs.Prelude.{◌≡◌, ◌↔◌, IsTrue, IfOk, OnOk, MatchOption};
-ghost use Rattle.given_spec.specs.Given.{Given as GivenValue};
-ghost use Rattle.given_spec.specs.Told.{IsTold};
-ghost use Rattle.given_spec.specs.ToldClaims.{Told as ToldValue};
+ghost use Rattle.judge_spec.specs.Given.{Given as GivenValue};
+ghost use Rattle.judge_spec.specs.Told.{IsTold};
+ghost use Rattle.judge_spec.specs.ToldClaims.{Told as ToldValue};
 ghost use Rattle.pci_base.specs.Space.{space_of, kind_in};
 ghost use Rattle.pci_tree.specs.Outline.{Tree};
 ghost use Rattle.pci_claims.specs.Values.{given_value, told_value};

@@ -1,8 +1,8 @@
 //! The told range that a slot and a register name.
 ghost use Rattle.std.specs.Prelude.{◌≡◌, ◌↔◌, IsTrue, MatchOption};
 ghost use Rattle.pci_spec.specs.Fault.{named_region};
-ghost use Rattle.given_spec.specs.Told.{ToldRange as RangeValue};
-ghost use Rattle.given_spec.specs.ToldClaims.{IsRangeAt};
+ghost use Rattle.judge_spec.specs.Told.{ToldRange as RangeValue};
+ghost use Rattle.judge_spec.specs.ToldClaims.{IsRangeAt};
 ghost use Rattle.pci_base.specs.Space.{space_of};
 ghost use Rattle.pci_claims.specs.Values.{told_value};
 

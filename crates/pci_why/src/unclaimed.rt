@@ -2,7 +2,7 @@
 ghost use Rattle.std.specs.Prelude.{◌≡◌, ◌++◌, OnOk};
 ghost use Rattle.std.specs.String.{string_bytes};
 ghost use Rattle.pci_spec.specs.Slot.{same_slot};
-ghost use Rattle.given_spec.specs.Why.{unclaimed_words};
+ghost use Rattle.judge_spec.specs.Why.{unclaimed_words};
 ghost use Rattle.pci_claims.specs.Values.{given_value};
 ghost use Rattle.pci_why.specs.Lines.{spaced, is_taking};
 

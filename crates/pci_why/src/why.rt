@@ -4,7 +4,7 @@ ghost use Rattle.std.specs.String.{string_bytes};
 ghost use Rattle.pci_spec.specs.Text.{IsDump};
 ghost use Rattle.pci_spec.specs.Mark.{all_named};
 ghost use Rattle.pci_spec.specs.Fault.{named_region};
-ghost use Rattle.given_spec.specs.Told.{IsTold};
+ghost use Rattle.judge_spec.specs.Told.{IsTold};
 ghost use Rattle.pci_base.specs.Space.{space_of};
 ghost use Rattle.pci_claims.specs.Values.{given_value, told_value};
 ghost use Rattle.pci_given.specs.AllLines.{fault_of, IsResolved};

@@ -8,14 +8,14 @@ use Rattle.pci_spec.specs.Slot.{Slot}
 use Rattle.pci_spec.specs.Text.{Block, IsDump, IsTextOf}
 use Rattle.pci_spec.proofs.Members.{in_head}
 use Rattle.pci_spec.proofs.Spelling.{text_same}
-use Rattle.given_spec.specs.Fault as untold
-use Rattle.given_spec.specs.Given.{Given}
-use Rattle.given_spec.specs.Told.{ToldRange}
-use Rattle.given_spec.specs.ToldClaims.{Told}
-use Rattle.given_spec.specs.ToldFault.{Fault, Known, NotListed}
-use Rattle.given_spec.specs.ToldFaultLines.{AreOfSlots, IsEarlyThere}
-use Rattle.given_spec.specs.ToldText.{told_text}
-use Rattle.given_spec.proofs.DeterminedTexts.{same_slots}
+use Rattle.judge_spec.specs.Fault as untold
+use Rattle.judge_spec.specs.Given.{Given}
+use Rattle.judge_spec.specs.Told.{ToldRange}
+use Rattle.judge_spec.specs.ToldClaims.{Told}
+use Rattle.judge_spec.specs.ToldFault.{Fault, Known, NotListed}
+use Rattle.judge_spec.specs.ToldFaultLines.{AreOfSlots, IsEarlyThere}
+use Rattle.judge_spec.specs.ToldText.{told_text}
+use Rattle.judge_spec.proofs.DeterminedTexts.{same_slots}
 use Rattle.pci_function.specs.declared.fault.Fault as code
 use Rattle.pci_function.specs.Fault.{fault_of}
 use Rattle.pci_given.specs.Every.{AreBefore, AreReady}

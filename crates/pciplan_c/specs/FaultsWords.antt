@@ -1,7 +1,7 @@
 -- What words of C say that is given beside two texts whose faults are to be listed.
 use Rattle.std.specs.Prelude.{◌≡◌, ◌⊎◌, ℕ, List, [], ◌∷◌, Option, None, Some, codes}
 use Rattle.std.specs.Global.{Vec}
-use Rattle.model_spec.specs.Words as model
+use Rattle.judge_spec.specs.ModelWords as model
 use Rattle.pci_base.specs.declared.memory.Refused.{Refused}
 use Rattle.pci_base.specs.declared.memory.Refused.TheVariants as refused
 use Rattle.pci_base.specs.declared.range.RootRange.{RootRange}

@@ -3,8 +3,8 @@ use Rattle.std.specs.Prelude.{◌≡◌, ◌⊎◌, ℕ, ◌==◌, Bool, not, Li
 use Rattle.std.specs.Option.{option_map}
 use Rattle.pci_spec.specs.Slot.{Slot}
 use Rattle.pci_spec.specs.Text.{Block}
-use Rattle.given_spec.specs.Told.{ToldRange}
-use Rattle.given_spec.specs.ToldText.{IsToldTextOf}
+use Rattle.judge_spec.specs.Told.{ToldRange}
+use Rattle.judge_spec.specs.ToldText.{IsToldTextOf}
 use Rattle.settle_spec.specs.Lists.{Lists, Request}
 use Rattle.pci_base.specs.declared.memory.Refused.{Refused}
 use Rattle.pci_base.specs.declared.memory.Refused.TheVariants as refused

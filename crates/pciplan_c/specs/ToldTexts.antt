@@ -3,13 +3,13 @@ use Rattle.std.specs.Prelude.{◌≡◌, ◌⊎◌, ℕ, ◌<◌, List, [], ◌�
 use Rattle.pci_spec.specs.Text.{Block, IsTextOf}
 use Rattle.pci_spec.specs.Line as plain
 use Rattle.pci_spec.specs.Order.{Judging, phase_key, phase_of}
-use Rattle.given_spec.specs.Fault as untold
-use Rattle.given_spec.specs.Given.{nothing_given}
-use Rattle.given_spec.specs.Told.{ToldRange}
-use Rattle.given_spec.specs.ToldClaims.{Told}
-use Rattle.given_spec.specs.ToldFault.{Fault}
-use Rattle.given_spec.specs.ToldFault as told_fault
-use Rattle.given_spec.specs.ToldText.{IsToldTextOf}
+use Rattle.judge_spec.specs.Fault as untold
+use Rattle.judge_spec.specs.Given.{nothing_given}
+use Rattle.judge_spec.specs.Told.{ToldRange}
+use Rattle.judge_spec.specs.ToldClaims.{Told}
+use Rattle.judge_spec.specs.ToldFault.{Fault}
+use Rattle.judge_spec.specs.ToldFault as told_fault
+use Rattle.judge_spec.specs.ToldText.{IsToldTextOf}
 use Rattle.pci_base.specs.declared.memory.Refused.{Refused}
 use Rattle.pci_base.specs.declared.memory.Refused.TheVariants as refused
 use Rattle.pci_dump.specs.declared.read_fault.ReadFault.{ReadFault}

@@ -1,6 +1,6 @@
 //! The ranges that a third text tells of, beside a dump and its probe.
 ghost use Rattle.std.specs.Prelude.{◌≡◌, ℕ, List, map, IfOk, IfErr, MatchOption};
-ghost use Rattle.given_spec.specs.ToldText.{IsToldTextOf};
+ghost use Rattle.judge_spec.specs.ToldText.{IsToldTextOf};
 ghost use Rattle.pci_given.specs.AllLines.{fault_of};
 ghost use Rattle.pci_given.specs.Every.{AreReady};
 ghost use Rattle.pci_told.specs.Faults.{IsToldTextFault};

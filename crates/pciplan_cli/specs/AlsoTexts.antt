@@ -1,7 +1,7 @@
 -- The third text of a command line, which tells of ranges: its path, and what it says.
 use Rattle.std.specs.Prelude.{◌≡◌, ℕ, List, [], Option, None, Some, option_map}
-use Rattle.given_spec.specs.Told.{ToldRange}
-use Rattle.given_spec.specs.ToldText.{IsToldTextOf}
+use Rattle.judge_spec.specs.Told.{ToldRange}
+use Rattle.judge_spec.specs.ToldText.{IsToldTextOf}
 use Rattle.pci_told.specs.Faults.{IsToldTextFault}
 use Rattle.pciplan_words.specs.declared.asked.Asked.{Asked}
 use Rattle.pciplan_words.specs.declared.asked.Asked.TheVariants as asked

@@ -2,7 +2,7 @@
 use Rattle.std.specs.Prelude.{◌≡◌, ◌⊎◌, ℕ, ◌∷◌, [], List, Option, None, Some}
 use Rattle.std.specs.Borrow.{Bor}
 use Rattle.std.specs.Global.{Vec}
-use Rattle.model_spec.specs.Words as model
+use Rattle.judge_spec.specs.ModelWords as model
 use Rattle.pci_base.specs.declared.range.RootRange.{RootRange}
 use Rattle.pci_base.specs.declared.space.Space.{Space}
 use Rattle.pci_model.specs.declared.words.Words.{Words}

@@ -2,8 +2,8 @@
 use Rattle.std.proofs.Common.{refl}
 use Rattle.pci_spec.specs.ProbeOf as probes
 use Rattle.pci_spec.specs.Fault as plain
-use Rattle.given_spec.specs.Fault.{Known, Outside}
-use Rattle.given_spec.specs.ToldFault as told
+use Rattle.judge_spec.specs.Fault.{Known, Outside}
+use Rattle.judge_spec.specs.ToldFault as told
 use Rattle.plan_spec.specs.Plan as plans
 use Rattle.pciplan_explain.specs.declared.fault.Fault.TheVariants as faults
 use Rattle.pciplan_explain.specs.declared.command.Command.TheVariants as commands

@@ -1,10 +1,10 @@
 -- Laws of what is explained: every fault that is printed is found by what is printed of it.
 use Rattle.std.specs.Prelude.{◌≡◌, List, ℕ, Some}
 use Rattle.pci_spec.specs.ProbeOf.{ProbeFault, probe_fault_text}
-use Rattle.given_spec.specs.Fault as given
-use Rattle.given_spec.specs.Line as given_line
-use Rattle.given_spec.specs.ToldFault as told
-use Rattle.given_spec.specs.ToldLine as told_line
+use Rattle.judge_spec.specs.Fault as given
+use Rattle.judge_spec.specs.Line as given_line
+use Rattle.judge_spec.specs.ToldFault as told
+use Rattle.judge_spec.specs.ToldLine as told_line
 use Rattle.plan_spec.specs.Plan.{PlanFault}
 use Rattle.plan_spec.specs.PlanLine.{plan_fault_text}
 use Rattle.pciplan_explain.specs.declared.fault.Fault.{Fault}

@@ -3,7 +3,7 @@ use Rattle.std.specs.Prelude.{◌≡◌, List, [], Option, None, Some, true}
 use Rattle.pci_spec.specs.Text.{Block, text_of}
 use Rattle.pci_spec.specs.NoProbe.{Any}
 use Rattle.pci_spec.specs.ProbeOf.{ProbeFault, probe_fault, probe_fault_text, probe_of}
-use Rattle.model_spec.specs.Words.{all_words}
+use Rattle.judge_spec.specs.ModelWords.{all_words}
 use Rattle.pci_model.specs.WordsValue.{words_value}
 use Rattle.pci_model.specs.declared.words.Words as model
 use Rattle.pci_here.specs.Words.{domain_line}

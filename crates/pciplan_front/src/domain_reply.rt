@@ -1,6 +1,6 @@
 //! What `here` answers of a domain.
 ghost use Rattle.std.specs.Prelude.{◌≡◌, IfOk};
-ghost use Rattle.model_spec.specs.Words.{all_words};
+ghost use Rattle.judge_spec.specs.ModelWords.{all_words};
 ghost use Rattle.pci_model.specs.WordsValue.{words_value};
 ghost use Rattle.pciplan_tasks.specs.Answers.{answer_of};
 ghost use Rattle.pciplan_front.specs.DomainAnswers.{IsBesideOf, IsJudgedBy, IsToldAs, what_judged};

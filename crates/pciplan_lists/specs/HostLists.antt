@@ -1,7 +1,7 @@
 -- Lists of the addresses that the host sends to its root buses.
 use Rattle.std.specs.Prelude.{◌≡◌, ℕ, ◌<◌, ◌≤◌, List, Option, Some, IsTrue, slice_get}
 use Rattle.std.specs.List.{Contains}
-use Rattle.given_spec.specs.Given.{HostRange, is_for, sends}
+use Rattle.judge_spec.specs.Given.{HostRange, is_for, sends}
 use Rattle.pci_base.specs.declared.range.RootRange.{RootRange}
 
 -- a range as the definitions of what is given have it

@@ -1,6 +1,6 @@
 -- The words of `--model`.
 use Rattle.std.specs.Prelude.{◌≡◌, ◌⊎◌, ℕ, List, ◌∷◌, codes}
-use Rattle.model_spec.specs.Words.{Words, Name, name_text, AreNames, all_words}
+use Rattle.judge_spec.specs.ModelWords.{Words, Name, name_text, AreNames, all_words}
 use Rattle.pciplan_lists.specs.Joined.{AreJoined}
 
 abbrev pub IsNameWord : List ℕ → Name → Type 0

@@ -1,6 +1,6 @@
 -- What a word of `--model` names, as the code has it, and words with one more.
 use Rattle.std.specs.Prelude.{◌≡◌, ◌⊎◌, ◌↔◌}
-use Rattle.model_spec.specs.Words as model
+use Rattle.judge_spec.specs.ModelWords as model
 use Rattle.pci_model.specs.WordsValue.{vga_value}
 use Rattle.pciplan_lists.specs.declared.model_words.Name.{Name}
 use Rattle.pciplan_lists.specs.declared.model_words.Name.TheVariants as names

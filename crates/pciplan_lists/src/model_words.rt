@@ -1,6 +1,6 @@
 //! The words by which functions are taken, among the words.
 ghost use Rattle.std.specs.Prelude.{◌≡◌, ◌↔◌, Some, true, false, option_map, IsSomeAnd, IsTrue, IsFalse, MatchOption};
-ghost use Rattle.model_spec.specs.Words as model;
+ghost use Rattle.judge_spec.specs.ModelWords as model;
 ghost use Rattle.pci_model.specs.WordsValue.{words_value};
 ghost use Rattle.pciplan_lists.specs.ModelWords.{IsModelWord, IsWordList};
 ghost use Rattle.pciplan_lists.specs.NameWords.{name_value, IsNameAdded, IsTooMuch};

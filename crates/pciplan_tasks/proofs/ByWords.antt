@@ -13,12 +13,12 @@ use Rattle.pci_spec.specs.Registers.{COMMAND}
 use Rattle.pci_spec.specs.System.{IsSystem, System, system_of}
 use Rattle.pci_spec.specs.Text.{Block, IsDump, slots_of}
 use Rattle.pci_spec.proofs.Pairing.{IsSystem-of_dumps}
-use Rattle.given_spec.specs.Given.{Given, LegacyBridge, TakingBridge, nothing_given}
-use Rattle.given_spec.specs.Words.{VgaWord}
-use Rattle.given_spec.specs.ToldClaims.{Told}
-use Rattle.given_spec.specs.ToldFault.{Fault}
-use Rattle.given_spec.specs.ToldFaultLines.{AreAllFaults}
-use Rattle.given_spec.specs.UnclaimedLaws.{with_taking}
+use Rattle.judge_spec.specs.Given.{Given, LegacyBridge, TakingBridge, nothing_given}
+use Rattle.judge_spec.specs.Words.{VgaWord}
+use Rattle.judge_spec.specs.ToldClaims.{Told}
+use Rattle.judge_spec.specs.ToldFault.{Fault}
+use Rattle.judge_spec.specs.ToldFaultLines.{AreAllFaults}
+use Rattle.judge_spec.specs.UnclaimedLaws.{with_taking}
 use Rattle.settle_spec.specs.Sparing.{without_slots}
 use Rattle.pci_base.specs.declared.memory.Refused.TheVariants as refusal
 use Rattle.pci_given.specs.Every.{AreBefore, AreSound}
@@ -27,7 +27,7 @@ use Rattle.pci_model_settle.specs.ClaimLines.{AreBySlot, Kept, Line, kept_lines}
 use Rattle.pci_model_settle.specs.Listed.{blocks_after, command_at, listed_write}
 use Rattle.pci_model_settle.specs.OffDevices.{blocks_without, device_lines, left_out}
 use Rattle.pci_model_settle.proofs.HeldLines.{lines_length}
-use Rattle.given_spec.specs.Told.{IsTold, ToldRange}
+use Rattle.judge_spec.specs.Told.{IsTold, ToldRange}
 use Rattle.pci_model_settle.proofs.BridgesBySlot.{legacy_by_slot, palette_by_slot}
 use Rattle.pci_plan.specs.Writes.{is_two_or_four, write_value}
 use Rattle.pci_plan.specs.declared.write.Write.{Write as CodeWrite}

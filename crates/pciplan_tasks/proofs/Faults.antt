@@ -12,16 +12,16 @@ use Rattle.pci_spec.specs.Mark.{AssumedRegister, all_named}
 use Rattle.pci_spec.proofs.Members.{in_nil, in_cons_cases, in_head, in_tail}
 use Rattle.pci_tree.specs.Admission.{Admission, IsOutlineFor}
 use Rattle.pci_tree.specs.Outline.{Tree}
-use Rattle.given_spec.specs.Given.{Given}
-use Rattle.given_spec.specs.Fault as untold
-use Rattle.given_spec.specs.ToldClaims.{Told}
-use Rattle.given_spec.specs.ToldFault.{Fault, Known, NotListed, IsIn}
-use Rattle.given_spec.specs.ToldAllFaults.{IsNamed}
-use Rattle.given_spec.specs.ToldFaultLines.{AreAllFaults, AreOfSlots, AreJudged}
-use Rattle.given_spec.specs.ToldLine.{fault_line, list_text}
-use Rattle.given_spec.specs.Why.{IsWhy, all_off_lines}
-use Rattle.given_spec.specs.FaultsText.{IsBehind, AreReasoned, is_of_judging, is_judged, IsReasonedText, IsFaultsText}
-use Rattle.given_spec.proofs.DeterminedTexts.{same_slots}
+use Rattle.judge_spec.specs.Given.{Given}
+use Rattle.judge_spec.specs.Fault as untold
+use Rattle.judge_spec.specs.ToldClaims.{Told}
+use Rattle.judge_spec.specs.ToldFault.{Fault, Known, NotListed, IsIn}
+use Rattle.judge_spec.specs.ToldAllFaults.{IsNamed}
+use Rattle.judge_spec.specs.ToldFaultLines.{AreAllFaults, AreOfSlots, AreJudged}
+use Rattle.judge_spec.specs.ToldLine.{fault_line, list_text}
+use Rattle.judge_spec.specs.Why.{IsWhy, all_off_lines}
+use Rattle.judge_spec.specs.FaultsText.{IsBehind, AreReasoned, is_of_judging, is_judged, IsReasonedText, IsFaultsText}
+use Rattle.judge_spec.proofs.DeterminedTexts.{same_slots}
 use Rattle.pci_given.specs.Every.{AreBefore, AreSound}
 use Rattle.pciplan_tasks.specs.Answers.{Answer}
 use Rattle.pciplan_tasks.specs.FaultsAnswers.{IsListText, list_answer, AreTold}

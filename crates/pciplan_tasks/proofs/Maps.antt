@@ -7,13 +7,13 @@ use Rattle.pci_spec.specs.Fault.{Orphan}
 use Rattle.pci_tree.specs.Admission.{IsOutlineFor}
 use Rattle.pci_tree.specs.Outline.{Tree}
 use Rattle.pci_tree.specs.Trees.{HasTree}
-use Rattle.given_spec.specs.Given.{Given, TakingBridge}
-use Rattle.given_spec.specs.ToldClaims.{Told}
-use Rattle.given_spec.specs.ToldFault.{Fault}
-use Rattle.given_spec.specs.ToldNumbered.{AreListedIn}
-use Rattle.given_spec.specs.Unclaimed.{AreTaking}
-use Rattle.given_spec.specs.UnclaimedLaws.{with_taking}
-use Rattle.map_spec.specs.MapText.{IsMapText}
+use Rattle.judge_spec.specs.Given.{Given, TakingBridge}
+use Rattle.judge_spec.specs.ToldClaims.{Told}
+use Rattle.judge_spec.specs.ToldFault.{Fault}
+use Rattle.judge_spec.specs.ToldNumbered.{AreListedIn}
+use Rattle.judge_spec.specs.Unclaimed.{AreTaking}
+use Rattle.judge_spec.specs.UnclaimedLaws.{with_taking}
+use Rattle.judge_spec.specs.MapText.{IsMapText}
 use Rattle.pci_given.specs.Every.{AreFound, AreReady}
 use Rattle.pciplan_tasks.specs.Answers.{Answer, done}
 use Rattle.pciplan_tasks.specs.MapAnswers.{IsFirstLine, IsMapped}

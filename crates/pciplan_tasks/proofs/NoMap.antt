@@ -9,16 +9,16 @@ use Rattle.pci_spec.specs.Line as plain_line
 use Rattle.pci_spec.specs.Order.{phase_of}
 use Rattle.pci_spec.proofs.Members.{in_nil, in_head}
 use Rattle.std.specs.List.{Contains}
-use Rattle.given_spec.specs.Given.{Given}
-use Rattle.given_spec.specs.Fault as untold
-use Rattle.given_spec.specs.ToldClaims.{nothing_told}
-use Rattle.given_spec.specs.ToldFault.{Fault, Known}
-use Rattle.given_spec.specs.ToldFaultLines.{IsEarlyThere, HasNotListed, AreAllFaults}
-use Rattle.given_spec.specs.ToldLine.{fault_text}
-use Rattle.given_spec.specs.Laws.{plain_known}
-use Rattle.given_spec.proofs.DeterminedTexts.{same_slots}
-use Rattle.given_spec.proofs.NothingToldLists.{same_told_list}
-use Rattle.given_spec.proofs.PlainLists.{first_of_list_is_first}
+use Rattle.judge_spec.specs.Given.{Given}
+use Rattle.judge_spec.specs.Fault as untold
+use Rattle.judge_spec.specs.ToldClaims.{nothing_told}
+use Rattle.judge_spec.specs.ToldFault.{Fault, Known}
+use Rattle.judge_spec.specs.ToldFaultLines.{IsEarlyThere, HasNotListed, AreAllFaults}
+use Rattle.judge_spec.specs.ToldLine.{fault_text}
+use Rattle.judge_spec.specs.Laws.{plain_known}
+use Rattle.judge_spec.proofs.DeterminedTexts.{same_slots}
+use Rattle.judge_spec.proofs.NothingToldLists.{same_told_list}
+use Rattle.judge_spec.proofs.PlainLists.{first_of_list_is_first}
 use Rattle.pci_given.specs.Every.{AreBefore}
 use Rattle.pciplan_tasks.specs.Answers.{Answer, fault_answer_line, refused}
 use Rattle.pciplan_tasks.specs.FaultsLaws.{NoMapNamesTheFirst}

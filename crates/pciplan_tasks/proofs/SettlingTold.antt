@@ -7,9 +7,9 @@ use Rattle.pci_spec.specs.Text.{Block}
 use Rattle.pci_spec.specs.System.{system_of}
 use Rattle.pci_spec.specs.Sound.{IsSound}
 use Rattle.pci_spec.specs.Machine.{Write}
-use Rattle.given_spec.specs.Given.{nothing_given}
-use Rattle.given_spec.specs.Told.{ToldRange}
-use Rattle.given_spec.specs.ToldFault.{Fault}
+use Rattle.judge_spec.specs.Given.{nothing_given}
+use Rattle.judge_spec.specs.Told.{ToldRange}
+use Rattle.judge_spec.specs.ToldFault.{Fault}
 use Rattle.settle_spec.specs.Sparing.{without_slots}
 use Rattle.pci_base.specs.declared.memory.Refused.TheVariants as refusal
 use Rattle.pci_given.specs.Every.{AreBefore}

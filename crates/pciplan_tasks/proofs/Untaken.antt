@@ -8,15 +8,15 @@ use Rattle.pci_spec.specs.Fault.{SlotsDiffer}
 use Rattle.pci_spec.specs.Fault as plain
 use Rattle.pci_spec.specs.Order.{Judging, phase_key, phase_of}
 use Rattle.pci_spec.proofs.Members.{in_head}
-use Rattle.given_spec.specs.Given.{Given, TakingBridge}
-use Rattle.given_spec.specs.ToldClaims.{Told}
-use Rattle.given_spec.specs.ToldFault.{Fault}
-use Rattle.given_spec.specs.ToldFaultLines.{AreAllFaults, AreJudged, AreListed, HasNotListed, IsEarlyLine, IsEarlyThere}
-use Rattle.given_spec.specs.Unclaimed.{AreTaking}
-use Rattle.given_spec.specs.UnclaimedLaws.{with_taking}
-use Rattle.given_spec.proofs.DeterminedTexts.{same_slots}
-use Rattle.model_spec.specs.Taken.{takes_by}
-use Rattle.model_spec.specs.Words as model
+use Rattle.judge_spec.specs.Given.{Given, TakingBridge}
+use Rattle.judge_spec.specs.ToldClaims.{Told}
+use Rattle.judge_spec.specs.ToldFault.{Fault}
+use Rattle.judge_spec.specs.ToldFaultLines.{AreAllFaults, AreJudged, AreListed, HasNotListed, IsEarlyLine, IsEarlyThere}
+use Rattle.judge_spec.specs.Unclaimed.{AreTaking}
+use Rattle.judge_spec.specs.UnclaimedLaws.{with_taking}
+use Rattle.judge_spec.proofs.DeterminedTexts.{same_slots}
+use Rattle.judge_spec.specs.Taken.{takes_by}
+use Rattle.judge_spec.specs.ModelWords as model
 use Rattle.pci_given.specs.Every.{AreBefore, AreReady}
 use Rattle.pci_model.specs.WordsValue.{words_value}
 use Rattle.pciplan_tasks.specs.FaultsAnswers.{AreTold}

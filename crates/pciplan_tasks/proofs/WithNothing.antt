@@ -9,20 +9,20 @@ use Rattle.pci_spec.specs.FaultLines as plain_lines
 use Rattle.pci_spec.specs.Mark.{all_named}
 use Rattle.pci_spec.proofs.Pairing.{IsSystem-of_dumps}
 use Rattle.pci_check.specs.Audits as plain_sound
-use Rattle.given_spec.specs.Given.{nothing_given}
-use Rattle.given_spec.specs.Fault as untold
-use Rattle.given_spec.specs.Told.{ToldRange, IsTold}
-use Rattle.given_spec.specs.ToldClaims.{nothing_told}
-use Rattle.given_spec.specs.ToldFault.{Fault, Known, NotListed, IsIn}
-use Rattle.given_spec.specs.ToldFaultLines.{AreAllFaults}
-use Rattle.given_spec.specs.Laws.{plain_known}
-use Rattle.given_spec.proofs.Judging.{same_sound, sound_without_faults}
-use Rattle.given_spec.proofs.NothingTold.{same_told_faults, none_not_listed}
-use Rattle.given_spec.proofs.NothingToldLists.{known_twice, same_told_list}
-use Rattle.given_spec.proofs.PlainLists.{same_list, first_of_list_is_first}
-use Rattle.given_spec.proofs.PlainTexts.{same_text_of_all}
-use Rattle.given_spec.proofs.ToldDetermined.{told_list_is_determined}
-use Rattle.given_spec.proofs.ToldSounding.{told_sound_without_faults}
+use Rattle.judge_spec.specs.Given.{nothing_given}
+use Rattle.judge_spec.specs.Fault as untold
+use Rattle.judge_spec.specs.Told.{ToldRange, IsTold}
+use Rattle.judge_spec.specs.ToldClaims.{nothing_told}
+use Rattle.judge_spec.specs.ToldFault.{Fault, Known, NotListed, IsIn}
+use Rattle.judge_spec.specs.ToldFaultLines.{AreAllFaults}
+use Rattle.judge_spec.specs.Laws.{plain_known}
+use Rattle.judge_spec.proofs.Judging.{same_sound, sound_without_faults}
+use Rattle.judge_spec.proofs.NothingTold.{same_told_faults, none_not_listed}
+use Rattle.judge_spec.proofs.NothingToldLists.{known_twice, same_told_list}
+use Rattle.judge_spec.proofs.PlainLists.{same_list, first_of_list_is_first}
+use Rattle.judge_spec.proofs.PlainTexts.{same_text_of_all}
+use Rattle.judge_spec.proofs.ToldDetermined.{told_list_is_determined}
+use Rattle.judge_spec.proofs.ToldSounding.{told_sound_without_faults}
 use Rattle.pci_given.specs.Every.{AreSound}
 use Rattle.pci_claims.specs.Values.{host_value}
 use Rattle.pciplan_tasks.specs.FaultsAnswers.{isa_by, legacy_by, list_answer, palette_by, vga_of}

@@ -1,6 +1,6 @@
 -- What a third text tells of ranges, as a task has it.
 use Rattle.std.specs.Prelude.{◌≡◌, List, []}
-use Rattle.given_spec.specs.Told.{ToldRange}
+use Rattle.judge_spec.specs.Told.{ToldRange}
 use Rattle.pci_dump.specs.declared.read_fault.ReadFault.{ReadFault}
 use Rattle.pci_dump.specs.declared.read_fault.ReadFault.TheVariants.{Io}
 use Rattle.pciplan_tasks.specs.declared.task.Also.{Also}

@@ -4,15 +4,15 @@ use Rattle.pci_spec.specs.Slot.{Slot}
 use Rattle.pci_spec.specs.Text.{Block}
 use Rattle.pci_spec.specs.System.{System, system_of}
 use Rattle.pci_spec.specs.Mark.{AssumedRegister, all_named}
-use Rattle.given_spec.specs.Given.{Given, LegacyBridge, TakingBridge}
-use Rattle.given_spec.specs.ToldClaims.{Told}
-use Rattle.given_spec.specs.ToldFault.{Fault}
-use Rattle.given_spec.specs.ToldFaultLines.{AreAllFaults}
-use Rattle.given_spec.specs.ToldLine.{list_text}
-use Rattle.given_spec.specs.FaultsText.{IsFaultsText}
-use Rattle.given_spec.specs.UnclaimedLaws.{with_taking}
-use Rattle.given_spec.specs.Words.{VgaWord, isa_bridges, legacy_bridges, palette_bridges}
-use Rattle.model_spec.specs.Taken.{taking_by}
+use Rattle.judge_spec.specs.Given.{Given, LegacyBridge, TakingBridge}
+use Rattle.judge_spec.specs.ToldClaims.{Told}
+use Rattle.judge_spec.specs.ToldFault.{Fault}
+use Rattle.judge_spec.specs.ToldFaultLines.{AreAllFaults}
+use Rattle.judge_spec.specs.ToldLine.{list_text}
+use Rattle.judge_spec.specs.FaultsText.{IsFaultsText}
+use Rattle.judge_spec.specs.UnclaimedLaws.{with_taking}
+use Rattle.judge_spec.specs.Words.{VgaWord, isa_bridges, legacy_bridges, palette_bridges}
+use Rattle.judge_spec.specs.Taken.{taking_by}
 use Rattle.pci_claims.specs.Values.{host_value}
 use Rattle.pci_given.specs.Every.{AreReady, AreSound, AreTakenFor}
 use Rattle.pci_tree.specs.Outline.{Tree}

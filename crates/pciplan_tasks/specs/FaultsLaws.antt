@@ -9,8 +9,8 @@ use Rattle.pci_spec.specs.FaultsText.{IsFaultsText}
 use Rattle.pci_spec.specs.Order.{IsFirstThere}
 use Rattle.pci_spec.specs.Mark.{all_named}
 use Rattle.pci_check.specs.Audits.{AreSound}
-use Rattle.given_spec.specs.Given.{Given, nothing_given}
-use Rattle.given_spec.specs.ToldClaims.{Told, nothing_told}
+use Rattle.judge_spec.specs.Given.{Given, nothing_given}
+use Rattle.judge_spec.specs.ToldClaims.{Told, nothing_told}
 use Rattle.pciplan_tasks.specs.Answers.{Answer}
 use Rattle.pci_model.specs.declared.words.Words.{Words}
 use Rattle.pciplan_tasks.specs.FaultsAnswers.{AreTold, AreToldTaking, given_of, isa_of, list_answer, snoop_of, taking_of, unclaimed_of, vga_of}

@@ -3,14 +3,14 @@ use Rattle.std.specs.Prelude.{◌≡◌, ◌⊎◌, ℕ, List, [], ◌∷◌}
 use Rattle.pci_spec.specs.Slot.{Slot}
 use Rattle.pci_spec.specs.Text.{Block}
 use Rattle.pci_spec.specs.System.{system_of}
-use Rattle.given_spec.specs.Given.{Given, TakingBridge}
-use Rattle.given_spec.specs.ToldClaims.{Told}
-use Rattle.given_spec.specs.ToldFault.{Fault, IsHeldOrphan}
-use Rattle.given_spec.specs.ToldFaultLines.{AreListed}
-use Rattle.given_spec.specs.ToldLine.{fault_text}
-use Rattle.given_spec.specs.Unclaimed.{AreTaking}
-use Rattle.given_spec.specs.UnclaimedLaws.{with_taking}
-use Rattle.map_spec.specs.MapText.{IsMapText}
+use Rattle.judge_spec.specs.Given.{Given, TakingBridge}
+use Rattle.judge_spec.specs.ToldClaims.{Told}
+use Rattle.judge_spec.specs.ToldFault.{Fault, IsHeldOrphan}
+use Rattle.judge_spec.specs.ToldFaultLines.{AreListed}
+use Rattle.judge_spec.specs.ToldLine.{fault_text}
+use Rattle.judge_spec.specs.Unclaimed.{AreTaking}
+use Rattle.judge_spec.specs.UnclaimedLaws.{with_taking}
+use Rattle.judge_spec.specs.MapText.{IsMapText}
 use Rattle.pci_given.specs.Every.{AreBefore}
 use Rattle.pci_tree.specs.Admission.{IsAdmitted}
 use Rattle.pciplan_tasks.specs.Answers.{Answer, done, fault_answer_line, refused}

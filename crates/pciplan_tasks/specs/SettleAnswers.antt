@@ -8,9 +8,9 @@ use Rattle.pci_spec.specs.System.{system_of}
 use Rattle.pci_spec.specs.Sound.{IsSound}
 use Rattle.pci_spec.specs.Machine.{Write}
 use Rattle.pci_spec.specs.Line.{region_field, write_line}
-use Rattle.given_spec.specs.Given.{nothing_given}
-use Rattle.given_spec.specs.ToldClaims.{Told}
-use Rattle.given_spec.specs.ToldFault.{Fault}
+use Rattle.judge_spec.specs.Given.{nothing_given}
+use Rattle.judge_spec.specs.ToldClaims.{Told}
+use Rattle.judge_spec.specs.ToldFault.{Fault}
 use Rattle.settle_spec.specs.Lists.{Lists, Request}
 use Rattle.settle_spec.specs.Sparing.{without_slots}
 use Rattle.pci_settle.specs.Lists.{root_range_value}

@@ -1,7 +1,7 @@
 -- What is answered to a dump and its probe as words take them.
 use Rattle.std.specs.Prelude.{◌≡◌, List, Option, None, Some}
 use Rattle.pci_spec.specs.Text.{Block}
-use Rattle.model_spec.specs.TakenDumps.{AreTakenAs}
+use Rattle.judge_spec.specs.TakenDumps.{AreTakenAs}
 use Rattle.pci_model.specs.declared.words.Words.{Words}
 use Rattle.pci_model.specs.WordsValue.{words_value}
 use Rattle.pciplan_tasks.specs.Answers.{Answer}

@@ -4,14 +4,14 @@ use Rattle.pci_spec.specs.Slot.{Slot}
 use Rattle.pci_spec.specs.Text.{Block, slots_of}
 use Rattle.pci_spec.specs.System.{system_of}
 use Rattle.pci_spec.specs.Machine.{Write}
-use Rattle.given_spec.specs.Given.{TakingBridge, nothing_given}
-use Rattle.given_spec.specs.Told.{IsTold, ToldRange}
-use Rattle.given_spec.specs.ToldClaims.{Told}
-use Rattle.given_spec.specs.ToldFault.{Fault}
-use Rattle.given_spec.specs.ToldFaultLines.{AreAllFaults}
-use Rattle.given_spec.specs.ToldLine.{fault_text}
-use Rattle.given_spec.specs.UnclaimedLaws.{with_taking}
-use Rattle.model_spec.specs.TakenDumps.{AreTakenAs}
+use Rattle.judge_spec.specs.Given.{TakingBridge, nothing_given}
+use Rattle.judge_spec.specs.Told.{IsTold, ToldRange}
+use Rattle.judge_spec.specs.ToldClaims.{Told}
+use Rattle.judge_spec.specs.ToldFault.{Fault}
+use Rattle.judge_spec.specs.ToldFaultLines.{AreAllFaults}
+use Rattle.judge_spec.specs.ToldLine.{fault_text}
+use Rattle.judge_spec.specs.UnclaimedLaws.{with_taking}
+use Rattle.judge_spec.specs.TakenDumps.{AreTakenAs}
 use Rattle.settle_spec.specs.Sparing.{without_slots}
 use Rattle.pci_base.specs.declared.memory.Refused.TheVariants as refusal
 use Rattle.pci_given.specs.Every.{AreBefore, AreSound}

@@ -1,6 +1,6 @@
 //! Prints the map of a dump and its probe.
 ghost use Rattle.std.specs.Prelude.{◌≡◌, [], map, IfOk};
-ghost use Rattle.given_spec.specs.Told.{IsTold};
+ghost use Rattle.judge_spec.specs.Told.{IsTold};
 ghost use Rattle.pci_tree.specs.Roots.{buses_of};
 ghost use Rattle.pci_claims.specs.Values.{given_value, told_value};
 ghost use Rattle.pci_given.specs.AllLines.{fault_of};

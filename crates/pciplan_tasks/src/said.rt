@@ -1,7 +1,7 @@
 //! What is said beside a dump and its probe, as judging and mapping take it.
 ghost use Rattle.std.specs.Prelude.{◌≡◌, map, option_map, IfOk};
 ghost use Rattle.pci_spec.specs.System.{system_of};
-ghost use Rattle.given_spec.specs.Told.{IsTold};
+ghost use Rattle.judge_spec.specs.Told.{IsTold};
 ghost use Rattle.pci_claims.specs.Values.{given_value, host_value, legacy_value, told_value};
 ghost use Rattle.pciplan_tasks.specs.Also.{ranges_told};
 ghost use Rattle.pciplan_tasks.specs.FaultsAnswers.{given_with, isa_by, isa_of, legacy_by, palette_by, snoop_of, taking_of, vga_of};

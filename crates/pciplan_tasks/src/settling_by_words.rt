@@ -4,7 +4,7 @@ ghost use Rattle.pci_base.specs.declared.memory.Refused.TheVariants as RefusedVa
 ghost use Rattle.std.specs.List.{All};
 ghost use Rattle.pci_spec.specs.Slot.{Slot as SlotValue};
 ghost use Rattle.pci_spec.specs.Text.{slots_of};
-ghost use Rattle.given_spec.specs.Told.{IsTold};
+ghost use Rattle.judge_spec.specs.Told.{IsTold};
 ghost use Rattle.pci_claims.specs.Values.{given_value, legacy_value, told_value};
 ghost use Rattle.pci_given.specs.AllLines.{fault_of};
 ghost use Rattle.pci_model_settle.specs.LineValues.{AreToldInOrder, line_value};

@@ -1,6 +1,6 @@
 //! The tasks.
 ghost use Rattle.std.specs.Prelude.{◌≡◌, [], MatchOption};
-ghost use Rattle.given_spec.specs.Told.{IsTold as AreRanges};
+ghost use Rattle.judge_spec.specs.Told.{IsTold as AreRanges};
 ghost use Rattle.pciplan_tasks.specs.Also.{IsTold, ranges_told};
 ghost use Rattle.pciplan_tasks.specs.declared.task.Also.{Also};
 

@@ -14,13 +14,13 @@ use Rattle.pci_spec.specs.Sound as plain
 use Rattle.pci_spec.proofs.BusRanges.{all_from, all_gives, root_means}
 use Rattle.plan_spec.proofs.PlanningLaws.{profile_decodes}
 use Rattle.plan_spec.proofs.Planning.Kept.{images_of}
-use Rattle.given_spec.specs.Given.{is_cut, legacy_claims, palette_claims, starts, takes}
-use Rattle.given_spec.specs.Claims.{Legacy, Own, Palette, forwards_else, may_share, passes_else}
-use Rattle.given_spec.specs.Claims as host
-use Rattle.given_spec.specs.Sound as given
-use Rattle.given_spec.proofs.Isa.{not_cut}
-use Rattle.given_spec.proofs.Judging.{home_without}
-use Rattle.given_spec.proofs.Nothing.{not_at_command, not_at_control, not_shared}
+use Rattle.judge_spec.specs.Given.{is_cut, legacy_claims, palette_claims, starts, takes}
+use Rattle.judge_spec.specs.Claims.{Legacy, Own, Palette, forwards_else, may_share, passes_else}
+use Rattle.judge_spec.specs.Claims as host
+use Rattle.judge_spec.specs.Sound as given
+use Rattle.judge_spec.proofs.Isa.{not_cut}
+use Rattle.judge_spec.proofs.Judging.{home_without}
+use Rattle.judge_spec.proofs.Nothing.{not_at_command, not_at_control, not_shared}
 use Rattle.settle_spec.specs.Lists.{Request}
 use Rattle.settle_spec.specs.Parts.{FunctionPart, system_parts, addresses}
 use Rattle.settle_spec.specs.Stands.{is_part_on, part_space}

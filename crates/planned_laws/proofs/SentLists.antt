@@ -10,7 +10,7 @@ use Rattle.pci_spec.specs.System.{Space, Io, Memory}
 use Rattle.pci_spec.proofs.Members.{in_map_to, in_map_from, in_filter_to, in_filter_from, IsMade}
 use Rattle.plan_spec.specs.Planning.Layout.{IsInside}
 use Rattle.plan_spec.proofs.Planning.Behind.{Passes, any_gives, any_from}
-use Rattle.given_spec.specs.Given.{is_for, sends, starts}
+use Rattle.judge_spec.specs.Given.{is_for, sends, starts}
 use Rattle.settle_spec.specs.Lists.{RootRange, Request, is_had_by, list_of, class_ranges}
 use Rattle.settle_spec.specs.Parts.{lies_within}
 use Rattle.settle_spec.specs.Stands.{is_listed, is_in_lists}

@@ -19,7 +19,7 @@ use Rattle.plan_spec.proofs.Planning.AboveBuses.{above_to, all_above as all_over
 use Rattle.plan_spec.proofs.Planning.Behind.{Passes, any_gives}
 use Rattle.plan_spec.proofs.Planning.ShownSystem.{zip_by}
 use Rattle.plan_spec.proofs.Planning.Writes.{same_fields}
-use Rattle.given_spec.specs.ToldRegion.{ToldRegion, told_regions}
+use Rattle.judge_spec.specs.ToldRegion.{ToldRegion, told_regions}
 use Rattle.settle_spec.specs.FirstPlace.{ranges_are_apart}
 use Rattle.settle_spec.specs.Lines.{line_bus, line_range, is_command_line}
 use Rattle.settle_spec.specs.Lists.{Request}

@@ -6,8 +6,8 @@ use Rattle.pci_spec.specs.Decoded.{Range, InRange}
 use Rattle.pci_spec.specs.System.{System, Function, IsSystem, Space, Io, Memory, is_space_on, is_window}
 use Rattle.pci_spec.specs.Bus.{is_root}
 use Rattle.pci_spec.specs.Sound as plain
-use Rattle.given_spec.specs.Given.{Given, HostRange, starts}
-use Rattle.given_spec.specs.Sound as given
+use Rattle.judge_spec.specs.Given.{Given, HostRange, starts}
+use Rattle.judge_spec.specs.Sound as given
 use Rattle.settle_spec.specs.Lists.{RootRange, Request, is_had_by, are_bad_lists}
 use Rattle.settle_spec.specs.Parts.{FunctionPart, system_parts, addresses, has_left}
 use Rattle.settle_spec.specs.Stands.{is_part_on, part_space, is_in_lists}

@@ -17,10 +17,10 @@ use Rattle.pci_spec.proofs.Members.{in_filter_from, in_filter_to, in_head, in_ma
 use Rattle.plan_spec.specs.Plan.{IsMoved}
 use Rattle.plan_spec.proofs.Planning.Moved.{kind_fields, layout_same, low_same}
 use Rattle.plan_spec.proofs.Planning.SameBytes.{number_same}
-use Rattle.model_spec.specs.Bytes.{cleared, width_of, without_bars}
-use Rattle.model_spec.specs.Taken.{compatible_bars, is_compatible, without_channels}
-use Rattle.model_spec.proofs.Changes.{length_cleared}
-use Rattle.model_spec.proofs.NoEnables.{bars_stay}
+use Rattle.judge_spec.specs.Bytes.{cleared, width_of, without_bars}
+use Rattle.judge_spec.specs.Taken.{compatible_bars, is_compatible, without_channels}
+use Rattle.judge_spec.proofs.Changes.{length_cleared}
+use Rattle.judge_spec.proofs.NoEnables.{bars_stay}
 use Rattle.settle_answer_laws.proofs.DeviceFields.{no_fields, same_fields, same_writable}
 use Rattle.settle_answer_laws.proofs.Stripped.{AreBoth, IsStripped, one_stripped}
 use Rattle.settle_answer_laws.proofs.WithoutRegisters.{cleared_other, cleared_zero, number_zero}

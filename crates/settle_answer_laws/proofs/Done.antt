@@ -1,8 +1,8 @@
 -- An answer of status 0 is one of a settling.
 use Rattle.std.proofs.Common.{◌≡◌, ◌⊎◌, ℕ, inl, inr, List, [], ◌∷◌, arith, refl, sym, ◌∙◌, ap}
 use Rattle.pci_spec.specs.Text.{Block}
-use Rattle.given_spec.specs.Told.{IsTold}
-use Rattle.given_spec.specs.ToldFault.{Fault}
+use Rattle.judge_spec.specs.Told.{IsTold}
+use Rattle.judge_spec.specs.ToldFault.{Fault}
 use Rattle.pci_model.specs.declared.words.Words.{Words}
 use Rattle.pci_tree.specs.Admission.{IsAdmitted}
 use Rattle.pci_tree.specs.Roots.{buses_of}

@@ -18,8 +18,8 @@ use Rattle.plan_spec.proofs.Planning.Kept.{images_of}
 use Rattle.plan_spec.proofs.Planning.Moved.{bridge_same, layout_same}
 use Rattle.plan_spec.proofs.Planning.Profile.{control_same, snoop_same}
 use Rattle.plan_spec.proofs.Planning.Settled.{function_after, function_moved, system_by_function}
-use Rattle.given_spec.specs.Given.{Given}
-use Rattle.given_spec.specs.Words.{VGA_16_BIT_DECODE, VgaWord, has_isa_enable, has_legacy, has_palette, is_wide_by, legacy_bridge, palette_word}
+use Rattle.judge_spec.specs.Given.{Given}
+use Rattle.judge_spec.specs.Words.{VGA_16_BIT_DECODE, VgaWord, has_isa_enable, has_legacy, has_palette, is_wide_by, legacy_bridge, palette_word}
 use Rattle.pci_model.specs.declared.words.Words.{Words}
 use Rattle.pci_model.specs.WordsValue.{words_value}
 use Rattle.pci_model_settle.specs.Listed.{blocks_after, listed_write}

@@ -16,13 +16,13 @@ use Rattle.plan_spec.specs.Plan.{IsMoved, bridges_above}
 use Rattle.plan_spec.proofs.Planning.AboveBuses.{above_from}
 use Rattle.plan_spec.proofs.Planning.Kept.{images_of}
 use Rattle.plan_spec.proofs.Planning.Moved.{bridge_same, layout_same}
-use Rattle.given_spec.specs.Given.{Given, legacy_claims, palette_claims}
-use Rattle.given_spec.specs.Claims.{Own, Legacy, Palette, forwards, passes, Gets, IsPassedTo, is_cut_of}
-use Rattle.given_spec.specs.Sound as untold
-use Rattle.given_spec.specs.Told.{ToldRange}
-use Rattle.given_spec.specs.ToldClaims.{Told, ClaimsOnBus, is_range_on}
-use Rattle.given_spec.specs.ToldFault.{HasToBeReached}
-use Rattle.given_spec.specs.ToldSound.{IsSingle, IsHome}
+use Rattle.judge_spec.specs.Given.{Given, legacy_claims, palette_claims}
+use Rattle.judge_spec.specs.Claims.{Own, Legacy, Palette, forwards, passes, Gets, IsPassedTo, is_cut_of}
+use Rattle.judge_spec.specs.Sound as untold
+use Rattle.judge_spec.specs.Told.{ToldRange}
+use Rattle.judge_spec.specs.ToldClaims.{Told, ClaimsOnBus, is_range_on}
+use Rattle.judge_spec.specs.ToldFault.{HasToBeReached}
+use Rattle.judge_spec.specs.ToldSound.{IsSingle, IsHome}
 use Rattle.settle_laws.proofs.Images.{function_at}
 use Rattle.settle_laws.proofs.Left.{IsLeft, register_by, on_way, way_before, way_after, all_over}
 use Rattle.settle_laws.proofs.Told.On.{range_on_more}

@@ -8,8 +8,8 @@ use Rattle.pci_spec.specs.Window.{IoWindow, MemoryWindow, PrefetchWindow, holds}
 use Rattle.pci_spec.specs.Decoded.{Range}
 use Rattle.pci_spec.specs.System.{Function, Space, Io, Memory, is_bridge, is_space_on, window_claims}
 use Rattle.pci_spec.specs.System as system
-use Rattle.given_spec.specs.Given.{Given, LegacyBridge, TakingBridge, is_cut, legacy_claims, legacy_holds, palette_claims, palette_holds, ranges_of, takes}
-use Rattle.given_spec.specs.Claims.{forwards, forwards_else, passes, passes_else}
+use Rattle.judge_spec.specs.Given.{Given, LegacyBridge, TakingBridge, is_cut, legacy_claims, legacy_holds, palette_claims, palette_holds, ranges_of, takes}
+use Rattle.judge_spec.specs.Claims.{forwards, forwards_else, passes, passes_else}
 
 -- a bridge that passes an address by a window has the space on
 passes_on : (space : Space) (prefetchable : Bool) (a : ℕ) (b : Function) → system.passes space prefetchable a b ≡ true → is_space_on b space ≡ true

@@ -21,12 +21,12 @@ use Rattle.plan_spec.proofs.Planning.Fit.{moved_itself}
 use Rattle.plan_spec.proofs.Planning.Kept.{images_of}
 use Rattle.plan_spec.proofs.Planning.Settled.{function_after, function_moved, system_by_function}
 use Rattle.plan_spec.proofs.Planning.Whole.{kept}
-use Rattle.given_spec.specs.Given.{Given}
-use Rattle.given_spec.specs.Told.{ToldRange, Mark, Command, Always, Held}
-use Rattle.given_spec.specs.ToldClaims.{Told, IsRangeAt, is_asleep, is_enabled_at, is_marked_held, is_on_by, told_register}
-use Rattle.given_spec.specs.ToldFault.{HasToBeReached}
-use Rattle.given_spec.specs.ToldRegion.{ToldRegion, told_regions}
-use Rattle.given_spec.specs.ToldSound.{IsSound}
+use Rattle.judge_spec.specs.Given.{Given}
+use Rattle.judge_spec.specs.Told.{ToldRange, Mark, Command, Always, Held}
+use Rattle.judge_spec.specs.ToldClaims.{Told, IsRangeAt, is_asleep, is_enabled_at, is_marked_held, is_on_by, told_register}
+use Rattle.judge_spec.specs.ToldFault.{HasToBeReached}
+use Rattle.judge_spec.specs.ToldRegion.{ToldRegion, told_regions}
+use Rattle.judge_spec.specs.ToldSound.{IsSound}
 use Rattle.settle_spec.specs.Kept.{Kept}
 use Rattle.settle_spec.specs.Lines.{line_bus, line_range, is_marked_always, is_marked_command}
 use Rattle.settle_spec.specs.Lists.{Request}

@@ -18,7 +18,7 @@ use Rattle.pci_spec.proofs.Chains.{chain_without_faults}
 use Rattle.pci_spec.proofs.Members.{in_cons_cases, in_head, in_nil}
 use Rattle.pci_spec.proofs.Walks.{chain-no_cut_body, chain-no_loop, chain-no_low_place, pointer-ended}
 use Rattle.plan_spec.proofs.Planning.SameBytes.{bounds_same, number_same}
-use Rattle.model_spec.specs.Taken.{HasNoOwnFaultBefore, IsAsleep}
+use Rattle.judge_spec.specs.Taken.{HasNoOwnFaultBefore, IsAsleep}
 
 -- they differ in the interface at most
 pub record IsButInterface (x y : Function) : Type 0 where

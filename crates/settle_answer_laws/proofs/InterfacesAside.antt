@@ -7,9 +7,9 @@ use Rattle.pci_spec.specs.Number.{IsImage, byte_at}
 use Rattle.pci_spec.specs.Registers.{ISA_ENABLE, VGA_ENABLE}
 use Rattle.pci_spec.specs.Fault.{controls_bridge}
 use Rattle.pci_spec.specs.System.{Function, System}
-use Rattle.given_spec.specs.Words.{is_alone, isa_aside, snoop_aside, unclaimed_aside, vga_aside}
-use Rattle.model_spec.specs.Words.{Words}
-use Rattle.model_spec.specs.Taken.{IsAsleepBy, first_aside, isa_aside_by, snoop_aside_by, vga_aside_by, windows_aside}
+use Rattle.judge_spec.specs.Words.{is_alone, isa_aside, snoop_aside, unclaimed_aside, vga_aside}
+use Rattle.judge_spec.specs.ModelWords.{Words}
+use Rattle.judge_spec.specs.Taken.{IsAsleepBy, first_aside, isa_aside_by, snoop_aside_by, vga_aside_by, windows_aside}
 use Rattle.settle_answer_laws.proofs.Interfaces.{IsButInterface, asleep_but, control_but}
 use Rattle.settle_answer_laws.proofs.SetAside.{no_isa, no_snoop, no_vga}
 use Rattle.settle_answer_laws.proofs.TakenAlong.{AreWindowsShown, aside_is}

@@ -11,9 +11,9 @@ use Rattle.pci_spec.specs.Text.{Block, slots_of}
 use Rattle.pci_spec.proofs.Members.{in_map_from, in_map_to, in_nil}
 use Rattle.pci_spec.proofs.Nesting.{led_where_nested}
 use Rattle.pci_spec.proofs.Pairing.{slots-system_of}
-use Rattle.given_spec.specs.Told.{ToldRange}
-use Rattle.given_spec.specs.ToldClaims.{Told, is_marked_held}
-use Rattle.given_spec.specs.ToldFault.{IsHeldOrphan, IsNotListed}
+use Rattle.judge_spec.specs.Told.{ToldRange}
+use Rattle.judge_spec.specs.ToldClaims.{Told, is_marked_held}
+use Rattle.judge_spec.specs.ToldFault.{IsHeldOrphan, IsNotListed}
 use Rattle.pci_model.specs.declared.words.Words.{Words}
 use Rattle.pci_model_settle.specs.ClaimLines.{lines_with, own_lines}
 use Rattle.pci_model_settle.specs.OffDevices.{device_lines, functions_without}

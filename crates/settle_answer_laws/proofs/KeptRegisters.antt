@@ -8,10 +8,10 @@ use Rattle.pci_spec.specs.Registers.{BRIDGE_CONTROL, COMMAND, INTERFACE, ISA_ENA
 use Rattle.pci_spec.specs.Slot.{Slot}
 use Rattle.pci_spec.specs.System.{Function, System}
 use Rattle.pci_spec.specs.Fault.{controls_bridge, is_subtractive_bridge}
-use Rattle.given_spec.specs.Words.{is_alone, isa_aside, snoop_aside, unclaimed_aside, vga_aside}
-use Rattle.model_spec.specs.Words.{Words}
-use Rattle.model_spec.specs.Bytes.{out_of_reset, positive}
-use Rattle.model_spec.specs.Taken.{bridge_aside, first_aside, function_with_image, is_anyone_behind, isa_aside_by, reset_aside, vga_aside_by, windows_aside}
+use Rattle.judge_spec.specs.Words.{is_alone, isa_aside, snoop_aside, unclaimed_aside, vga_aside}
+use Rattle.judge_spec.specs.ModelWords.{Words}
+use Rattle.judge_spec.specs.Bytes.{out_of_reset, positive}
+use Rattle.judge_spec.specs.Taken.{bridge_aside, first_aside, function_with_image, is_anyone_behind, isa_aside_by, reset_aside, vga_aside_by, windows_aside}
 
 -- the bytes of registers that settling writes besides Command are the same
 abbrev pub AreRegistersKept : Function → Function → Type 0

@@ -16,11 +16,11 @@ use Rattle.pci_spec.specs.Sound.{HasChains, IsInProfile}
 use Rattle.pci_spec.specs.Capability.{HasChain}
 use Rattle.pci_spec.specs.Fault.{Address, RegionName, address_in, NoVendor, HeaderKind, BarType, BarMask, BarPair, RomMask, WindowMask, CapRange, CapLoop, CapCut, SlotsDiffer, StrayProbe, LoneFunction, PaletteSnoop, VgaEnable, IsaEnable, Subtractive, InReset, PowerState, BusRange, Orphan, Unreached, Clash, Split, SomeAt, HasBarFault, HasRomFault, HasWindowFault, IsNotInD0, controls_bridge, has_function_zero, has_no_vendor, has_other_layout, is_in_address_register, is_stray, is_subtractive_bridge}
 use Rattle.pci_spec.proofs.Pairs.{member_back, member_forth}
-use Rattle.given_spec.specs.Given.{Given, is_legacy_at, is_palette_at}
-use Rattle.given_spec.specs.Claims.{Part, Own, Legacy, Palette, Claims, Gets, IsPassedTo}
-use Rattle.given_spec.specs.Told.{ToldRange}
-use Rattle.given_spec.specs.ToldClaims.{Told, ClaimsOnBus, RangeClaims, is_asleep, is_enabled_at, is_on_by}
-use Rattle.given_spec.specs.ToldSound.{IsSound}
+use Rattle.judge_spec.specs.Given.{Given, is_legacy_at, is_palette_at}
+use Rattle.judge_spec.specs.Claims.{Part, Own, Legacy, Palette, Claims, Gets, IsPassedTo}
+use Rattle.judge_spec.specs.Told.{ToldRange}
+use Rattle.judge_spec.specs.ToldClaims.{Told, ClaimsOnBus, RangeClaims, is_asleep, is_enabled_at, is_on_by}
+use Rattle.judge_spec.specs.ToldSound.{IsSound}
 use Rattle.pci_model_settle.specs.OffDevices.{is_off_device}
 use Rattle.settle_answer_laws.specs.LeftOutLaws.{HasLawfulRegisters}
 use Rattle.settle_answer_laws.proofs.WithoutRegisters.{AgreeBeside, asleep_beside, beside_or_in, chain_beside}

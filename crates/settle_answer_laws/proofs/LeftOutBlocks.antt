@@ -9,7 +9,7 @@ use Rattle.pci_spec.specs.System.{Function, System, function_of, system_of}
 use Rattle.pci_spec.specs.Text.{Block, slots_of}
 use Rattle.pci_spec.proofs.Members.{in_cons_cases, in_head, in_nil, in_tail}
 use Rattle.pci_spec.proofs.Nesting.{one_function}
-use Rattle.model_spec.specs.Bytes.{without_registers}
+use Rattle.judge_spec.specs.Bytes.{without_registers}
 use Rattle.pci_model_settle.specs.OffDevices.{block_without, blocks_without, function_without, functions_without, is_left_out, is_off_device, left_out}
 use Rattle.pci_model_settle.specs.Unmoved.{is_among}
 use Rattle.settle_answer_laws.specs.LeftOutLaws.{BlocksWithout, LeftOutAreOff}

@@ -7,9 +7,9 @@ use Rattle.pci_spec.specs.Slot.{Slot}
 use Rattle.pci_spec.specs.System.{Function, Memory, System, system_of}
 use Rattle.pci_spec.specs.Text.{Block}
 use Rattle.pci_spec.proofs.Members.{in_cons_cases, in_filter_to, in_flat_map_to, in_head, in_map_to, in_nil, in_tail}
-use Rattle.given_spec.specs.Given.{LegacyBridge}
-use Rattle.given_spec.specs.Told.{Command, Held, ToldRange}
-use Rattle.given_spec.specs.Words.{VgaWord, has_legacy, has_palette, legacy_bridge, palette_word}
+use Rattle.judge_spec.specs.Given.{LegacyBridge}
+use Rattle.judge_spec.specs.Told.{Command, Held, ToldRange}
+use Rattle.judge_spec.specs.Words.{VgaWord, has_legacy, has_palette, legacy_bridge, palette_word}
 use Rattle.pci_base.specs.declared.range.Range.{Range}
 use Rattle.pci_claims.specs.Legacy.{blocks_of, palette_high, palette_low, vga_high, vga_low}
 use Rattle.pci_claims.specs.declared.legacy.FixedPart.{FixedPart}

@@ -16,7 +16,7 @@ use Rattle.plan_spec.specs.Plan.{IsMoved}
 use Rattle.plan_spec.proofs.Planning.Asleep.{asleep_before}
 use Rattle.plan_spec.proofs.Planning.Faults.{fault_before}
 use Rattle.plan_spec.proofs.Planning.Moved.{chain_same, layout_same}
-use Rattle.model_spec.specs.Taken.{HasNoOwnFaultBefore, IsAsleep}
+use Rattle.judge_spec.specs.Taken.{HasNoOwnFaultBefore, IsAsleep}
 use Rattle.settle_answer_laws.proofs.Along.{fields_same}
 
 -- what moved from a function moves back to it

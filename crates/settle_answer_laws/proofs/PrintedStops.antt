@@ -26,8 +26,8 @@ use Rattle.plan_spec.proofs.Planning.Settled.{function_after, system_by_function
 use Rattle.plan_spec.proofs.Planning.Writes.{byte_outside, write_elsewhere, write_here}
 use Rattle.settle_spec.specs.Registers as settling
 use Rattle.settle_laws.proofs.Numbers.{with_elsewhere, with_image, with_inside}
-use Rattle.model_spec.specs.Words.{Words}
-use Rattle.model_spec.specs.Windows.{with_number}
+use Rattle.judge_spec.specs.ModelWords.{Words}
+use Rattle.judge_spec.specs.Windows.{with_number}
 use Rattle.pci_model_settle.specs.Listed.{block_after, blocks_after}
 use Rattle.settle_answer_laws.proofs.AddressBits.{address_bits_writable}
 use Rattle.settle_answer_laws.proofs.Along.{IsAs, clears_same, enables_may, may_set, fields_same}

@@ -14,10 +14,10 @@ use Rattle.pci_spec.specs.System.{Function, is_bridge}
 use Rattle.pci_spec.specs.Fault.{controls_bridge, is_subtractive_bridge}
 use Rattle.pci_spec.specs.Machine.{in_fields, address_fields, writable_by}
 use Rattle.pci_spec.proofs.WritableBits.{has_bit-writable_bits}
-use Rattle.given_spec.specs.Words.{isa_aside, snoop_aside, vga_aside}
-use Rattle.model_spec.specs.Words.{Words}
-use Rattle.model_spec.specs.Bytes.{out_of_reset, positive}
-use Rattle.model_spec.specs.Taken.{function_with_image, is_anyone_behind, isa_aside_by, reset_aside, snoop_aside_by, subtractive_aside, vga_aside_by}
+use Rattle.judge_spec.specs.Words.{isa_aside, snoop_aside, vga_aside}
+use Rattle.judge_spec.specs.ModelWords.{Words}
+use Rattle.judge_spec.specs.Bytes.{out_of_reset, positive}
+use Rattle.judge_spec.specs.Taken.{function_with_image, is_anyone_behind, isa_aside_by, reset_aside, snoop_aside_by, subtractive_aside, vga_aside_by}
 use Rattle.plan_spec.specs.Plan.{IsMoved}
 use Rattle.plan_spec.proofs.Planning.Moved.{bridge_same, secondary_same, subordinate_same}
 use Rattle.plan_spec.proofs.Planning.Profile.{class_same, control_same}

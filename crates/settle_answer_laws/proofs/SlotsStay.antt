@@ -4,7 +4,7 @@ use Rattle.std.specs.Prelude.{if◌then◌else◌}
 use Rattle.pci_spec.specs.Machine.{Write}
 use Rattle.pci_spec.specs.Slot.{same_slot}
 use Rattle.pci_spec.specs.Text.{Block, slots_of}
-use Rattle.model_spec.specs.Windows.{with_number}
+use Rattle.judge_spec.specs.Windows.{with_number}
 use Rattle.pci_model_settle.specs.Listed.{block_after, blocks_after}
 
 slot_of_either : (t : Bool) (b : Block) (image : List ℕ) → (if t then record b { image = image } else b).slot ≡ b.slot

@@ -11,9 +11,9 @@ use Rattle.pci_spec.specs.Rom.{rom_at}
 use Rattle.pci_spec.specs.System.{Function, is_bridge}
 use Rattle.pci_spec.specs.Machine.{address_fields, in_fields}
 use Rattle.plan_spec.proofs.Planning.Moved.{kind_fields}
-use Rattle.model_spec.specs.Bytes.{as_bare_device, cleared, without_registers}
-use Rattle.model_spec.specs.Taken.{without_socket}
-use Rattle.model_spec.proofs.Changes.{bare_is_device}
+use Rattle.judge_spec.specs.Bytes.{as_bare_device, cleared, without_registers}
+use Rattle.judge_spec.specs.Taken.{without_socket}
+use Rattle.judge_spec.proofs.Changes.{bare_is_device}
 use Rattle.settle_answer_laws.proofs.DeviceFields.{no_fields, same_fields, same_writable}
 use Rattle.settle_answer_laws.proofs.Stripped.{AreBoth, IsStripped, one_stripped}
 use Rattle.settle_answer_laws.proofs.WithoutRegisters.{IsBeside, IsOfRegister, number_zero, without_agrees, without_zero}

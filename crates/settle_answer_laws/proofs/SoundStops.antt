@@ -15,13 +15,13 @@ use Rattle.pci_spec.specs.System.{Function, System, system_of}
 use Rattle.pci_spec.specs.Text.{Block}
 use Rattle.pci_spec.proofs.Members.{in_map_from, in_map_to}
 use Rattle.plan_spec.proofs.Planning.Settled.{function_after, system_by_function}
-use Rattle.given_spec.specs.Given.{Given}
-use Rattle.given_spec.specs.ToldClaims.{Told}
-use Rattle.given_spec.specs.ToldSound.{IsSound}
+use Rattle.judge_spec.specs.Given.{Given}
+use Rattle.judge_spec.specs.ToldClaims.{Told}
+use Rattle.judge_spec.specs.ToldSound.{IsSound}
 use Rattle.settle_spec.specs.Lists.{Request}
 use Rattle.settle_laws.specs.SparingLaws.{sparing_closings}
-use Rattle.model_spec.specs.Words.{Words}
-use Rattle.model_spec.specs.Taken.{AreFunctionsTakenAs, unclaimed_aside_by}
+use Rattle.judge_spec.specs.ModelWords.{Words}
+use Rattle.judge_spec.specs.Taken.{AreFunctionsTakenAs, unclaimed_aside_by}
 use Rattle.pci_model_settle.specs.OffDevices.{function_without, functions_without}
 use Rattle.pci_model_settle.specs.Unmoved.{is_among}
 use Rattle.settle_answer_laws.specs.LeftOutLaws.{AreLawful, AreOff, HasLawfulRegisters}

@@ -6,14 +6,14 @@ use Rattle.pci_spec.specs.Machine.{Write}
 use Rattle.pci_spec.specs.Slot.{Slot}
 use Rattle.pci_spec.specs.System.{System, system_of}
 use Rattle.pci_spec.specs.Text.{Block, slots_of}
-use Rattle.given_spec.specs.Given.{Given}
-use Rattle.given_spec.specs.ToldClaims.{Told}
+use Rattle.judge_spec.specs.Given.{Given}
+use Rattle.judge_spec.specs.ToldClaims.{Told}
 use Rattle.settle_spec.specs.Lists.{Request}
 use Rattle.settle_spec.specs.Sparing.{settle_sparing}
 use Rattle.settle_laws.specs.SparingLaws.{sparing_closings}
 use Rattle.settle_laws.specs.ToldSoundLaws.{CanAskTold}
-use Rattle.model_spec.specs.Taken.{AreFunctionsTakenAs}
-use Rattle.model_spec.specs.TakenDumps.{AreTakenAs}
+use Rattle.judge_spec.specs.Taken.{AreFunctionsTakenAs}
+use Rattle.judge_spec.specs.TakenDumps.{AreTakenAs}
 use Rattle.pci_model.specs.declared.words.Words.{Words}
 use Rattle.pci_model.specs.WordsValue.{words_value}
 use Rattle.pci_model_settle.specs.Listed.{blocks_after, listed_write}

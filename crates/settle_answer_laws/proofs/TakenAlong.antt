@@ -16,12 +16,12 @@ use Rattle.plan_spec.specs.Plan.{IsMoved}
 use Rattle.plan_spec.proofs.Planning.Moved.{bridge_same, layout_same, secondary_same}
 use Rattle.plan_spec.proofs.Planning.Profile.{class_same}
 use Rattle.plan_spec.proofs.Planning.OtherRules.{window_rule_same}
-use Rattle.model_spec.specs.Words.{Words}
-use Rattle.model_spec.specs.Windows.{shown_nibble, window_as_shown, windows_as_shown, with_nibble}
-use Rattle.model_spec.specs.Taken.{FixedParts, HasNoOwnFaultBefore, IsAsleepBy, IsTakenAs, IsWhere, bridge_aside, cardbus_aside, compatible_bars, first_aside, fixed_parts_by, has_numbers, is_cardbus, is_ide, is_unnumbered, is_unnumbered_bridge, isa_aside_by, may_have_parts_by, parts_aside, reset_aside, vga_aside_by, windows_aside, without_buses, without_channels, without_socket}
-use Rattle.model_spec.proofs.Changes.{device_is_device, device_is_none}
-use Rattle.model_spec.proofs.Kept.{unnumbered_is_bridge}
-use Rattle.model_spec.proofs.NoEnables.{bars_stay, is_controller}
+use Rattle.judge_spec.specs.ModelWords.{Words}
+use Rattle.judge_spec.specs.Windows.{shown_nibble, window_as_shown, windows_as_shown, with_nibble}
+use Rattle.judge_spec.specs.Taken.{FixedParts, HasNoOwnFaultBefore, IsAsleepBy, IsTakenAs, IsWhere, bridge_aside, cardbus_aside, compatible_bars, first_aside, fixed_parts_by, has_numbers, is_cardbus, is_ide, is_unnumbered, is_unnumbered_bridge, isa_aside_by, may_have_parts_by, parts_aside, reset_aside, vga_aside_by, windows_aside, without_buses, without_channels, without_socket}
+use Rattle.judge_spec.proofs.Changes.{device_is_device, device_is_none}
+use Rattle.judge_spec.proofs.Kept.{unnumbered_is_bridge}
+use Rattle.judge_spec.proofs.NoEnables.{bars_stay, is_controller}
 use Rattle.settle_answer_laws.proofs.Along.{IsAlong, along_itself, along_through}
 use Rattle.settle_answer_laws.proofs.KeptRegisters.{AreRegistersKept, bridge_kept, first_kept}
 use Rattle.settle_answer_laws.proofs.OwnFaults.{asleep_later, moves_back, own_later}

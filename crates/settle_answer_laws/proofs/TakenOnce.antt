@@ -5,8 +5,8 @@ use Rattle.std.specs.List.{AllZip}
 use Rattle.pci_spec.specs.Slot.{Slot}
 use Rattle.pci_spec.specs.System.{Function, System}
 use Rattle.pci_spec.specs.Order.{Place}
-use Rattle.model_spec.specs.Words.{Words}
-use Rattle.model_spec.specs.Taken.{HasNoOwnFaultBefore, IsTakenAs, IsWhere, bridge_aside, cardbus_aside, fixed_parts_by, may_have_parts_by, parts_aside}
+use Rattle.judge_spec.specs.ModelWords.{Words}
+use Rattle.judge_spec.specs.Taken.{HasNoOwnFaultBefore, IsTakenAs, IsWhere, bridge_aside, cardbus_aside, fixed_parts_by, may_have_parts_by, parts_aside}
 
 same_where : (Condition : Type 0) (f changed g h : Function) → IsWhere Condition f changed g → IsWhere Condition f changed h → g ≡ h
 same_where Condition f changed g h (inl (holds, one)) (inl (again, other)) = one ∙ sym other

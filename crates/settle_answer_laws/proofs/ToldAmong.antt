@@ -3,7 +3,7 @@ use Rattle.std.proofs.Common.{◌≡◌, ℕ, inl, inr, Bool, true, false, List,
 use Rattle.std.specs.Prelude.{nat_le, if◌then◌else◌}
 use Rattle.std.specs.List.{Contains}
 use Rattle.pci_spec.proofs.Members.{in_nil, in_cons_cases, in_head, in_map_from, in_tail}
-use Rattle.given_spec.specs.Told.{ToldRange}
+use Rattle.judge_spec.specs.Told.{ToldRange}
 use Rattle.pci_model_settle.specs.ClaimLines.{Line, claim_line, line_key, lines_with, merged, own_lines, told_line_of, told_lines}
 use Rattle.settle_answer_laws.specs.StopLaws.{HasRange}
 

@@ -14,7 +14,7 @@ use Rattle.pci_spec.specs.Fault.{IsNotInD0, is_in_address_register}
 use Rattle.pci_spec.specs.System.{Function}
 use Rattle.pci_spec.proofs.BusRanges.{any_from}
 use Rattle.pci_spec.proofs.Walks.{pointer-ended}
-use Rattle.model_spec.specs.Bytes.{cleared, without_registers}
+use Rattle.judge_spec.specs.Bytes.{cleared, without_registers}
 use Rattle.settle_answer_laws.specs.LeftOutLaws.{HasLawfulRegisters}
 
 -- ---- bytes that are cleared

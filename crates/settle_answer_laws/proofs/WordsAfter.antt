@@ -14,14 +14,14 @@ use Rattle.pci_spec.specs.System.{Function, IsFunction, IsSystem, System, is_bri
 use Rattle.pci_spec.specs.Machine.{Write, system_after, write_function}
 use Rattle.pci_spec.proofs.Members.{in_head, in_tail}
 use Rattle.pci_spec.proofs.Pairs.{member_forth}
-use Rattle.given_spec.specs.Words.{is_alone, is_rival, taken_by_unclaimed, unclaimed_aside}
+use Rattle.judge_spec.specs.Words.{is_alone, is_rival, taken_by_unclaimed, unclaimed_aside}
 use Rattle.plan_spec.specs.Plan.{IsMoved}
 use Rattle.plan_spec.specs.Planning.Fitting.{IsFitting}
 use Rattle.plan_spec.proofs.Planning.Fit.{moved_itself}
 use Rattle.plan_spec.proofs.Planning.Settled.{function_after, system_by_function}
 use Rattle.plan_spec.proofs.Planning.Writes.{write_elsewhere}
-use Rattle.model_spec.specs.Words.{Words}
-use Rattle.model_spec.specs.Taken.{AreFunctionsTakenAs, IsTakenAs, unclaimed_aside_by, without_channels, without_socket}
+use Rattle.judge_spec.specs.ModelWords.{Words}
+use Rattle.judge_spec.specs.Taken.{AreFunctionsTakenAs, IsTakenAs, unclaimed_aside_by, without_channels, without_socket}
 use Rattle.settle_answer_laws.proofs.ChannelsAside.{channels_after, channels_out, channels_stripped}
 use Rattle.settle_answer_laws.proofs.DeviceWrites.{IsDeviceWrite}
 use Rattle.settle_answer_laws.proofs.Along.{IsAlong, IsAs, along_itself, as_through, one_along}

@@ -19,12 +19,12 @@ use Rattle.plan_spec.proofs.Planning.OwnMachine.{own_machine}
 use Rattle.plan_spec.proofs.Planning.Writes.{same_fields, same_number}
 use Rattle.settle_spec.specs.Lists.{Request}
 use Rattle.settle_laws.proofs.Told.Settling.{fixed_is_not_written}
-use Rattle.model_spec.specs.Bytes.{without_registers}
-use Rattle.model_spec.specs.Words.{Words}
-use Rattle.model_spec.specs.Asleep.{AreSlotsWhere}
-use Rattle.model_spec.specs.Taken.{AreFunctionsTakenAs, IsAsleepBy, IsTakenAs}
-use Rattle.model_spec.proofs.Kept.{slots_same}
-use Rattle.given_spec.specs.Words.{is_alone, unclaimed_aside}
+use Rattle.judge_spec.specs.Bytes.{without_registers}
+use Rattle.judge_spec.specs.ModelWords.{Words}
+use Rattle.judge_spec.specs.Asleep.{AreSlotsWhere}
+use Rattle.judge_spec.specs.Taken.{AreFunctionsTakenAs, IsAsleepBy, IsTakenAs}
+use Rattle.judge_spec.proofs.Kept.{slots_same}
+use Rattle.judge_spec.specs.Words.{is_alone, unclaimed_aside}
 use Rattle.pci_spec.specs.Registers.{SECONDARY_BUS_RESET}
 use Rattle.pci_spec.specs.Fault.{controls_bridge}
 use Rattle.pci_spec.specs.Window.{WindowKind, IoWindow, MemoryWindow, PrefetchWindow, bounds_at, breaks_window_rule, is_optional, is_zero, shows_window}

@@ -4,11 +4,11 @@ use Rattle.std.specs.List.{Contains}
 use Rattle.pci_spec.specs.Slot.{Slot}
 use Rattle.pci_spec.specs.System.{IsSystem, system_of}
 use Rattle.pci_spec.specs.Text.{Block, slots_of}
-use Rattle.given_spec.specs.Given.{Given}
-use Rattle.given_spec.specs.Told.{IsTold}
-use Rattle.given_spec.specs.ToldClaims.{Told}
-use Rattle.given_spec.specs.UnclaimedLaws.{with_taking}
-use Rattle.model_spec.specs.TakenDumps.{AreTakenAs}
+use Rattle.judge_spec.specs.Given.{Given}
+use Rattle.judge_spec.specs.Told.{IsTold}
+use Rattle.judge_spec.specs.ToldClaims.{Told}
+use Rattle.judge_spec.specs.UnclaimedLaws.{with_taking}
+use Rattle.judge_spec.specs.TakenDumps.{AreTakenAs}
 use Rattle.settle_spec.specs.Lists.{RootRange}
 use Rattle.pci_model.specs.declared.words.Words.{Words}
 use Rattle.pci_model.specs.WordsValue.{words_value}

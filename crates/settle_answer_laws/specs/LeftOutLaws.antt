@@ -7,9 +7,9 @@ use Rattle.pci_spec.specs.Bar.{bar_fault}
 use Rattle.pci_spec.specs.Rom.{breaks_rom_rule}
 use Rattle.pci_spec.specs.Text.{Block, slots_of}
 use Rattle.pci_spec.specs.System.{Function, IsSystem, System, system_of}
-use Rattle.given_spec.specs.Given.{Given}
-use Rattle.given_spec.specs.ToldClaims.{Told}
-use Rattle.given_spec.specs.ToldSound.{IsSound}
+use Rattle.judge_spec.specs.Given.{Given}
+use Rattle.judge_spec.specs.ToldClaims.{Told}
+use Rattle.judge_spec.specs.ToldSound.{IsSound}
 use Rattle.pci_model_settle.specs.OffDevices.{blocks_without, functions_without, is_off_device, left_out}
 
 -- each function of a system at one of some slots is a device that decodes nothing

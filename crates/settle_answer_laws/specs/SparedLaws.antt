@@ -4,7 +4,7 @@ use Rattle.std.specs.List.{Contains}
 use Rattle.pci_spec.specs.Slot.{Slot}
 use Rattle.pci_spec.specs.Text.{Block}
 use Rattle.pci_spec.specs.Machine.{Write}
-use Rattle.given_spec.specs.Told.{IsTold}
+use Rattle.judge_spec.specs.Told.{IsTold}
 use Rattle.settle_spec.specs.Lists.{RootRange, Request}
 use Rattle.settle_spec.specs.Keeping.Writes.{settle_writes}
 use Rattle.settle_spec.specs.Sparing.{granted_beside, settle_sparing}

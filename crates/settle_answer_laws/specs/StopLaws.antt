@@ -4,10 +4,10 @@ use Rattle.std.specs.Prelude.{◌≡◌, ◌⊎◌, ◌≤◌, ℕ, List, length
 use Rattle.std.specs.List.{Contains}
 use Rattle.pci_spec.specs.System.{System}
 use Rattle.pci_spec.specs.Machine.{Write, system_after}
-use Rattle.given_spec.specs.Given.{Given}
-use Rattle.given_spec.specs.Told.{ToldRange}
-use Rattle.given_spec.specs.ToldClaims.{Told}
-use Rattle.given_spec.specs.ToldSound.{IsSound}
+use Rattle.judge_spec.specs.Given.{Given}
+use Rattle.judge_spec.specs.Told.{ToldRange}
+use Rattle.judge_spec.specs.ToldClaims.{Told}
+use Rattle.judge_spec.specs.ToldSound.{IsSound}
 use Rattle.settle_spec.specs.Lists.{Request}
 use Rattle.settle_spec.specs.Writes.{Settled}
 use Rattle.settle_spec.specs.Kept.{Kept}

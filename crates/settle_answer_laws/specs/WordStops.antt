@@ -6,16 +6,16 @@ use Rattle.pci_spec.specs.Machine.{Write, after_writes, system_after, target_of}
 use Rattle.pci_spec.specs.Slot.{Slot}
 use Rattle.pci_spec.specs.System.{IsSystem, System, system_of}
 use Rattle.pci_spec.specs.Text.{Block}
-use Rattle.given_spec.specs.Given.{Given}
-use Rattle.given_spec.specs.ToldClaims.{Told}
-use Rattle.given_spec.specs.ToldSound.{IsSound}
+use Rattle.judge_spec.specs.Given.{Given}
+use Rattle.judge_spec.specs.ToldClaims.{Told}
+use Rattle.judge_spec.specs.ToldSound.{IsSound}
 use Rattle.settle_spec.specs.Lists.{Request}
 use Rattle.settle_spec.specs.Sparing.{settle_sparing}
 use Rattle.settle_spec.specs.Writes.{Settled}
 use Rattle.settle_laws.specs.SparingLaws.{sparing_closings}
 use Rattle.settle_laws.specs.ToldSoundLaws.{CanAskTold}
-use Rattle.model_spec.specs.Words.{Words}
-use Rattle.model_spec.specs.Taken.{AreFunctionsTakenAs}
+use Rattle.judge_spec.specs.ModelWords.{Words}
+use Rattle.judge_spec.specs.Taken.{AreFunctionsTakenAs}
 use Rattle.pci_model_settle.specs.Listed.{blocks_after, listed_write}
 use Rattle.pci_model_settle.specs.Unmoved.{AreUnmoved}
 use Rattle.pci_model_settle.specs.OffDevices.{functions_without}

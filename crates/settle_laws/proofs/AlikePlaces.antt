@@ -19,7 +19,7 @@ use Rattle.settle_spec.specs.Keeping.Places.{space_items, placing_within, placin
 use Rattle.std.proofs.Math.Path.{fun_ext}
 use Rattle.std.proofs.lemmas.Bool.{both_ways, cases_Bool}
 use Rattle.pci_spec.proofs.Members.{in_head, in_tail}
-use Rattle.given_spec.specs.ToldRegion.{ToldRegion, told_regions}
+use Rattle.judge_spec.specs.ToldRegion.{ToldRegion, told_regions}
 use Rattle.settle_spec.specs.Lines.{line_bus, line_range, is_line_behind, lines_behind, lines_on}
 use Rattle.settle_laws.proofs.Anew.{new_ranges, ranges_anew}
 use Rattle.settle_laws.proofs.ItemForms.{IsPlaceable, IsOwnPart, IsNewWindow}

@@ -19,7 +19,7 @@ use Rattle.plan_spec.proofs.Planning.Safe.{lower_bus, order_of, slots_of}
 use Rattle.settle_spec.specs.Lists.{Request}
 use Rattle.settle_spec.specs.Parts.{FunctionPart, is_empty, is_left, is_part, header_bars, header_parts, has_left, are_same_space}
 use Rattle.settle_spec.specs.Stands.{part_space}
-use Rattle.given_spec.specs.ToldRegion.{told_regions}
+use Rattle.judge_spec.specs.ToldRegion.{told_regions}
 use Rattle.settle_spec.specs.Registers.{is_answered_by, has_own}
 use Rattle.settle_spec.proofs.Nested.{behind_outer}
 

@@ -12,7 +12,7 @@ use Rattle.settle_spec.specs.Items.{has_room_behind, stays, place_in}
 use Rattle.settle_spec.specs.Kept.{stays_growing, range_growing, as_it_stands, growing}
 use Rattle.settle_spec.proofs.Grown.{growth_holds_all, only_windows_grow}
 use Rattle.plan_spec.specs.Planning.Layout.{LieApart}
-use Rattle.given_spec.specs.ToldRegion.{ToldRegion, told_regions}
+use Rattle.judge_spec.specs.ToldRegion.{ToldRegion, told_regions}
 use Rattle.settle_spec.specs.Lines.{line_range, can_keep_off}
 use Rattle.settle_spec.proofs.Reaching.{within_from, window_first, window_last}
 use Rattle.stand_laws.specs.Reach.{WindowsAreLow}

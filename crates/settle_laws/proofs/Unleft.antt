@@ -20,7 +20,7 @@ use Rattle.settle_laws.proofs.Kept.{one_space}
 use Rattle.settle_laws.proofs.Told.Reached.{range_unleft}
 use Rattle.plan_spec.proofs.Planning.Writes.{same_fields}
 use Rattle.pci_spec.specs.Slot.{Slot, same_slot}
-use Rattle.given_spec.specs.ToldRegion.{told_regions}
+use Rattle.judge_spec.specs.ToldRegion.{told_regions}
 use Rattle.settle_spec.specs.Lines.{is_command_line}
 
 memory_is_no_io : (io : Bool) → are_same_space Io (if io then Io else Memory) ≡ true → io ≡ true

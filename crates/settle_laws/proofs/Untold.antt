@@ -7,8 +7,8 @@ use Rattle.pci_spec.proofs.Members.{in_nil}
 use Rattle.pci_spec.specs.Bus.{are_siblings}
 use Rattle.pci_spec.specs.Window.{WindowKind}
 use Rattle.pci_spec.specs.System.{System, Function, Space, is_window, window_space}
-use Rattle.given_spec.specs.ToldClaims.{told_register}
-use Rattle.given_spec.specs.ToldRegion.{ToldRegion, regions_from, told_regions}
+use Rattle.judge_spec.specs.ToldClaims.{told_register}
+use Rattle.judge_spec.specs.ToldRegion.{ToldRegion, regions_from, told_regions}
 use Rattle.settle_spec.specs.FirstPlace.{first_place}
 use Rattle.settle_spec.specs.Lines.{line_range, is_line_of, is_line_behind, lines_on, taken_for}
 use Rattle.settle_spec.specs.Lists.{Request, are_bad_lists}

@@ -7,7 +7,7 @@ use Rattle.pci_spec.specs.System.{System, Function, IsSystem, has_part, is_bridg
 use Rattle.pci_spec.specs.Bus.{is_root, secondary, IsNested, LeadsTo}
 use Rattle.pci_spec.specs.Sound.{IsInProfile}
 use Rattle.plan_spec.specs.Planning.Layout.{IsInside, LieApart}
-use Rattle.given_spec.specs.ToldRegion.{ToldRegion, told_regions}
+use Rattle.judge_spec.specs.ToldRegion.{ToldRegion, told_regions}
 use Rattle.settle_spec.specs.Lists.{Request}
 use Rattle.settle_spec.specs.Parts.{FunctionPart, system_parts, addresses, lies_within}
 use Rattle.settle_spec.specs.Stands.{is_fixed_part, rank, part_space, are_beside, is_in_lists, window_part}

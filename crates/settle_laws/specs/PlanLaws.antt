@@ -15,7 +15,7 @@ use Rattle.settle_spec.specs.Items.{new_window}
 use Rattle.settle_spec.specs.Keeping.Places.{lacking}
 use Rattle.settle_laws.specs.Keeping.PlacesLaws.{CanSettle}
 use Rattle.settle_spec.specs.Kept.{as_it_stands}
-use Rattle.given_spec.specs.ToldClaims.{nothing_told}
+use Rattle.judge_spec.specs.ToldClaims.{nothing_told}
 
 -- a pool that all roots have, as the one range of a list
 abbrev pub pool_list : Range → List RootRange

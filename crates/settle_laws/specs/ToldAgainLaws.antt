@@ -6,8 +6,8 @@ use Rattle.pci_spec.specs.Window.{WindowKind, has_window}
 use Rattle.pci_spec.specs.System.{System, Function, Part, has_part, window_space}
 use Rattle.pci_spec.specs.Bus.{secondary}
 use Rattle.pci_spec.specs.Machine.{Write, system_after}
-use Rattle.given_spec.specs.Told.{IsTold}
-use Rattle.given_spec.specs.ToldRegion.{ToldRegion, told_regions}
+use Rattle.judge_spec.specs.Told.{IsTold}
+use Rattle.judge_spec.specs.ToldRegion.{ToldRegion, told_regions}
 use Rattle.plan_spec.specs.Plan.{is_open}
 use Rattle.settle_spec.specs.FirstPlace.{Extent, first_place_in}
 use Rattle.settle_spec.specs.Growing.{settle_growing}

@@ -8,12 +8,12 @@ use Rattle.pci_spec.specs.Bus.{IsNested}
 use Rattle.pci_spec.specs.Machine.{Write, system_after}
 use Rattle.pci_spec.specs.Sound.{IsInProfile, HasChains}
 use Rattle.plan_spec.specs.Plan.{IsMoved, bridges_above}
-use Rattle.given_spec.specs.Given.{nothing_given}
-use Rattle.given_spec.specs.Told.{IsTold}
-use Rattle.given_spec.specs.ToldClaims.{is_enabled_at}
-use Rattle.given_spec.specs.ToldFault.{IsNotListed, IsHeldOrphan}
-use Rattle.given_spec.specs.ToldRegion.{ToldRegion, told_regions}
-use Rattle.given_spec.specs.ToldSound.{IsSound}
+use Rattle.judge_spec.specs.Given.{nothing_given}
+use Rattle.judge_spec.specs.Told.{IsTold}
+use Rattle.judge_spec.specs.ToldClaims.{is_enabled_at}
+use Rattle.judge_spec.specs.ToldFault.{IsNotListed, IsHeldOrphan}
+use Rattle.judge_spec.specs.ToldRegion.{ToldRegion, told_regions}
+use Rattle.judge_spec.specs.ToldSound.{IsSound}
 use Rattle.settle_spec.specs.Lists.{RootRange, Request}
 use Rattle.settle_spec.specs.Lines.{line_bus, line_range, is_held_line, is_command_line, is_always_line}
 use Rattle.settle_spec.specs.Stands.{is_line_on, range_stands}

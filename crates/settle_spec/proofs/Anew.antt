@@ -5,8 +5,8 @@ use Rattle.std.specs.List.{list_any, list_all}
 use Rattle.std.proofs.lemmas.Bool.{and_parts, or_cases, not-true, both_ways, false_from_ne_true}
 use Rattle.pci_spec.specs.System.{System}
 use Rattle.plan_spec.specs.Plan.{bridges_above}
-use Rattle.given_spec.specs.ToldClaims.{told_register}
-use Rattle.given_spec.specs.ToldRegion.{regions_from}
+use Rattle.judge_spec.specs.ToldClaims.{told_register}
+use Rattle.judge_spec.specs.ToldRegion.{regions_from}
 use Rattle.settle_spec.specs.Lists.{Request}
 use Rattle.settle_spec.specs.Parts.{FunctionPart, system_parts, class_in}
 use Rattle.settle_spec.specs.Stands.{window_part, leads_to_range, leads_to_told, stands_within}

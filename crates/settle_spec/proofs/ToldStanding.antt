@@ -4,7 +4,7 @@ use Rattle.std.specs.List.{Contains}
 use Rattle.std.proofs.lemmas.Bool.{and_parts, or_parts, or_cases, and_cases, not-true, not-false, false≢true, false_from_ne_true, both_ways}
 use Rattle.pci_spec.specs.System.{System, Function}
 use Rattle.pci_spec.proofs.BusRanges.{any_from}
-use Rattle.given_spec.specs.ToldRegion.{ToldRegion, told_regions}
+use Rattle.judge_spec.specs.ToldRegion.{ToldRegion, told_regions}
 use Rattle.settle_spec.specs.Lists.{Request}
 use Rattle.settle_spec.specs.Parts.{FunctionPart, system_parts, addresses, lies_within, bridge_over}
 use Rattle.settle_spec.specs.Stands.{window_part, is_in_window, is_line_on, range_class, precedes_off, is_kept_off_by, is_kept_off, stands_within, stands, are_bridges_on, is_range_in_place, is_range_kept_off, range_stands_within, range_stands}

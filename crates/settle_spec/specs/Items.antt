@@ -8,7 +8,7 @@ use Rattle.pci_spec.specs.System.{System, Function, Part, Bar, Window, window_sp
 use Rattle.pci_spec.specs.Bus.{secondary, is_behind, are_siblings}
 use Rattle.plan_spec.specs.Plan.{bridges_above, greatest, raised_to, same_class, size_of}
 use Rattle.plan_spec.specs.Place.{range_from}
-use Rattle.given_spec.specs.ToldRegion.{ToldRegion}
+use Rattle.judge_spec.specs.ToldRegion.{ToldRegion}
 use Rattle.settle_spec.specs.Lines.{line_bus, lines_on, taken_for}
 use Rattle.settle_spec.specs.FirstPlace.{Extent, least_number, first_spot, first_place}
 use Rattle.settle_spec.specs.Lists.{Request}

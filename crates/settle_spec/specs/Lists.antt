@@ -7,7 +7,7 @@ use Rattle.pci_spec.specs.Window.{WindowKind, IoWindow, MemoryWindow, PrefetchWi
 use Rattle.pci_spec.specs.Decoded.{Range}
 use Rattle.pci_spec.specs.Bus.{is_root}
 use Rattle.plan_spec.specs.Plan.{is_backward}
-use Rattle.given_spec.specs.ToldClaims.{Told}
+use Rattle.judge_spec.specs.ToldClaims.{Told}
 use Rattle.settle_spec.specs.FirstPlace.{ranges_are_apart}
 
 -- a range, and the root that alone has it: None where all have it

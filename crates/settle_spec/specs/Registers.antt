@@ -9,7 +9,7 @@ use Rattle.pci_spec.specs.System.{System, Function, Space, Part, Bar, Rom, Windo
 use Rattle.plan_spec.specs.Plan.{is_open}
 use Rattle.plan_spec.specs.Place.{nibble_of}
 use Rattle.plan_spec.specs.Planning.Showing.{bar_value, rom_value}
-use Rattle.given_spec.specs.ToldRegion.{ToldRegion, told_regions}
+use Rattle.judge_spec.specs.ToldRegion.{ToldRegion, told_regions}
 use Rattle.pci_spec.specs.Slot.{same_slot}
 use Rattle.settle_spec.specs.Lines.{is_command_line}
 use Rattle.settle_spec.specs.Lists.{Request}

@@ -9,8 +9,8 @@ use Rattle.pci_spec.specs.System.{System, Function, Space, Io, Memory, Part, Win
 use Rattle.pci_spec.specs.Bus.{is_behind, is_root, are_siblings}
 use Rattle.plan_spec.specs.Plan.{bridges_above, is_open, same_class}
 use Rattle.plan_spec.specs.Planning.Layout.{range_of}
-use Rattle.given_spec.specs.ToldClaims.{is_range_on}
-use Rattle.given_spec.specs.ToldRegion.{ToldRegion, told_regions}
+use Rattle.judge_spec.specs.ToldClaims.{is_range_on}
+use Rattle.judge_spec.specs.ToldRegion.{ToldRegion, told_regions}
 use Rattle.settle_spec.specs.FirstPlace.{ranges_are_apart}
 use Rattle.settle_spec.specs.Lists.{Request, class_ranges}
 use Rattle.settle_spec.specs.Parts.{FunctionPart, system_parts, addresses, is_part, lies_within, holds_range, class_in, bridge_over, are_same_space}

@@ -8,7 +8,7 @@ use Rattle.pci_spec.specs.System.{System, Function, Space, window_space}
 use Rattle.pci_spec.specs.Bus.{secondary, is_root, are_siblings}
 use Rattle.plan_spec.specs.Plan.{raised_to}
 use Rattle.plan_spec.specs.Place.{range_from}
-use Rattle.given_spec.specs.ToldRegion.{told_regions}
+use Rattle.judge_spec.specs.ToldRegion.{told_regions}
 use Rattle.settle_spec.specs.Lines.{keeps_off, lines_on, lines_behind}
 use Rattle.settle_spec.specs.FirstPlace.{Extent, ranges_are_apart, first_spot, first_place}
 use Rattle.settle_spec.specs.Lists.{Request, class_ranges}

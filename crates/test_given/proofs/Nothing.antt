@@ -1,6 +1,6 @@
 -- No told ranges.
 use Rattle.std.proofs.Common.{[], arith, lit≤}
-use Rattle.given_spec.specs.Told.{IsTold}
+use Rattle.judge_spec.specs.Told.{IsTold}
 
 pub nothing_told : IsTold []
 nothing_told = record {

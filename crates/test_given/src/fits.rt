@@ -1,5 +1,5 @@
 //! Where a region would fit, beside the ranges that the host sends and bridges with legacy parts.
-ghost use Rattle.given_spec.specs.Told.{IsTold};
+ghost use Rattle.judge_spec.specs.Told.{IsTold};
 
 use pci_base::memory::OutOfMemory;
 use pci_base::range::{Range, RootRange};

@@ -18,7 +18,7 @@ use Rattle.plan_spec.proofs.Planning.Behind.{Passes, any_gives, any_from}
 use Rattle.settle_spec.specs.Lists.{Request}
 use Rattle.settle_spec.specs.Parts.{FunctionPart, is_empty, is_left, is_part, header_bars, header_parts, has_left, are_same_space}
 use Rattle.settle_spec.specs.Stands.{part_space}
-use Rattle.given_spec.specs.ToldRegion.{told_regions}
+use Rattle.judge_spec.specs.ToldRegion.{told_regions}
 use Rattle.settle_spec.specs.Registers.{is_answered_by, has_own}
 use Rattle.settle_spec.specs.Writes.{is_cut_off_in}
 use Rattle.settle_spec.specs.Keeping.Writes.{has_moving, is_shut_itself, is_shut, is_left_on}

@@ -2,9 +2,9 @@
 use Rattle.std.proofs.Common.{◌≡◌, [], ◌∷◌, refl, true}
 use Rattle.pci_spec.specs.System.{System}
 use Rattle.pci_spec.proofs.Examples.Samples.{slot, device, write}
-use Rattle.given_spec.specs.Told.{Always, Held}
-use Rattle.given_spec.specs.ToldClaims.{Told}
-use Rattle.given_spec.proofs.Examples.ToldClaims.{told_memory, told_ranges}
+use Rattle.judge_spec.specs.Told.{Always, Held}
+use Rattle.judge_spec.specs.ToldClaims.{Told}
+use Rattle.judge_spec.proofs.Examples.ToldClaims.{told_memory, told_ranges}
 use Rattle.settle_spec.specs.Lists.{Request}
 use Rattle.settle_spec.specs.Items.{window_within, holds_within}
 use Rattle.settle_spec.specs.Stands.{stands_within, range_stands_within}

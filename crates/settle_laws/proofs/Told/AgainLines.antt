@@ -11,9 +11,9 @@ use Rattle.plan_spec.specs.Plan.{is_open, same_class}
 use Rattle.plan_spec.specs.Planning.Layout.{range_of}
 use Rattle.plan_spec.proofs.Planning.Behind.{Passes, any_from, any_gives}
 use Rattle.plan_spec.proofs.Planning.Writes.{same_fields}
-use Rattle.given_spec.specs.Told.{Mark, Command, Always, Held}
-use Rattle.given_spec.specs.ToldClaims.{is_asleep, is_enabled_at, is_on_by}
-use Rattle.given_spec.specs.ToldRegion.{ToldRegion, told_regions}
+use Rattle.judge_spec.specs.Told.{Mark, Command, Always, Held}
+use Rattle.judge_spec.specs.ToldClaims.{is_asleep, is_enabled_at, is_on_by}
+use Rattle.judge_spec.specs.ToldRegion.{ToldRegion, told_regions}
 use Rattle.settle_spec.specs.FirstPlace.{ranges_are_apart}
 use Rattle.settle_spec.specs.Kept.{Kept}
 use Rattle.settle_spec.specs.Lines.{line_bus, line_range, is_marked_command, is_held_line, is_command_line, is_line_of, can_keep_off, keeps_off, keeps_off_part}

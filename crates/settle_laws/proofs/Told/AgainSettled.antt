@@ -8,8 +8,8 @@ use Rattle.pci_spec.specs.Bus.{IsNested}
 use Rattle.pci_spec.proofs.Members.{in_map_from, in_map_to, IsMade}
 use Rattle.plan_spec.proofs.Planning.Behind.{Passes, any_from, any_gives}
 use Rattle.plan_spec.proofs.Planning.Writes.{same_fields}
-use Rattle.given_spec.specs.ToldClaims.{is_enabled_at}
-use Rattle.given_spec.specs.ToldRegion.{told_regions}
+use Rattle.judge_spec.specs.ToldClaims.{is_enabled_at}
+use Rattle.judge_spec.specs.ToldRegion.{told_regions}
 use Rattle.settle_spec.specs.Items.{stays}
 use Rattle.settle_spec.specs.Kept.{Kept, as_it_stands}
 use Rattle.settle_spec.specs.Lines.{is_command_line}

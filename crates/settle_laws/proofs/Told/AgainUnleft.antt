@@ -17,7 +17,7 @@ use Rattle.plan_spec.proofs.Planning.Behind.{Passes, all_gives, any_gives}
 use Rattle.plan_spec.proofs.Planning.LaidOut.{opening}
 use Rattle.plan_spec.proofs.Planning.Safe.{order_of}
 use Rattle.plan_spec.proofs.Planning.Writes.{same_fields}
-use Rattle.given_spec.specs.ToldRegion.{ToldRegion, told_regions}
+use Rattle.judge_spec.specs.ToldRegion.{ToldRegion, told_regions}
 use Rattle.settle_spec.specs.Lines.{line_bus, is_command_line}
 use Rattle.settle_spec.specs.Lists.{RootRange, Request, is_had_by}
 use Rattle.settle_spec.specs.Parts.{FunctionPart, system_parts, function_parts, addresses, lies_within, is_empty, is_left, is_part, header_bars, header_parts, has_left, class_in, are_same_space}

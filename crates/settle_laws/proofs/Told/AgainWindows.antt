@@ -13,7 +13,7 @@ use Rattle.plan_spec.specs.Planning.Layout.{range_of, IsInside, LieApart}
 use Rattle.plan_spec.proofs.Planning.AboveBuses.{above_from}
 use Rattle.plan_spec.proofs.Planning.Behind.{all_gives}
 use Rattle.plan_spec.proofs.Planning.Moved.{secondary_same}
-use Rattle.given_spec.specs.ToldRegion.{ToldRegion, told_regions}
+use Rattle.judge_spec.specs.ToldRegion.{ToldRegion, told_regions}
 use Rattle.settle_spec.specs.Kept.{Kept}
 use Rattle.settle_spec.specs.Lines.{line_bus, line_range}
 use Rattle.settle_spec.specs.Lists.{Request}

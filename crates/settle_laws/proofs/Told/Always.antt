@@ -6,10 +6,10 @@ use Rattle.pci_spec.specs.Slot.{Slot}
 use Rattle.pci_spec.specs.System.{Function, IsPassedTo}
 use Rattle.plan_spec.specs.Plan.{bridges_above}
 use Rattle.plan_spec.proofs.Planning.Settled.{function_after, system_by_function}
-use Rattle.given_spec.specs.Told.{Mark, Command, Always, Held}
-use Rattle.given_spec.specs.ToldRegion.{told_name}
-use Rattle.given_spec.specs.ToldClaims.{is_asleep, is_enabled_at, is_marked_held, is_on_by}
-use Rattle.given_spec.proofs.ToldNumbering.{regions_are_numbered}
+use Rattle.judge_spec.specs.Told.{Mark, Command, Always, Held}
+use Rattle.judge_spec.specs.ToldRegion.{told_name}
+use Rattle.judge_spec.specs.ToldClaims.{is_asleep, is_enabled_at, is_marked_held, is_on_by}
+use Rattle.judge_spec.proofs.ToldNumbering.{regions_are_numbered}
 use Rattle.settle_spec.specs.Lines.{line_bus, is_marked_always}
 use Rattle.settle_spec.specs.Stands.{is_line_on, range_stands}
 use Rattle.settle_spec.specs.Keeping.Writes.{settle_writes}

@@ -11,7 +11,7 @@ use Rattle.plan_spec.specs.Plan.{bridges_above, is_open, same_class}
 use Rattle.plan_spec.specs.Planning.Layout.{range_of}
 use Rattle.plan_spec.proofs.Planning.AboveBuses.{above_from, above_to, root_or_led}
 use Rattle.plan_spec.proofs.Planning.Safe.{order_of}
-use Rattle.given_spec.specs.ToldRegion.{ToldRegion, told_regions}
+use Rattle.judge_spec.specs.ToldRegion.{ToldRegion, told_regions}
 use Rattle.settle_spec.specs.FirstPlace.{ranges_are_apart}
 use Rattle.settle_spec.specs.Kept.{Kept}
 use Rattle.settle_spec.specs.Lines.{line_bus, line_range, is_held_line, is_always_line}

@@ -7,7 +7,7 @@ use Rattle.pci_spec.specs.Window.{WindowKind}
 use Rattle.pci_spec.specs.System.{System, Function, IsSystem, Space, Part, is_bridge, is_window, space_of, window_space}
 use Rattle.pci_spec.specs.Bus.{secondary, is_behind, are_siblings, IsNested}
 use Rattle.pci_spec.proofs.Members.{in_map_to, in_map_from, in_filter_to, in_filter_from, IsMade}
-use Rattle.given_spec.specs.ToldRegion.{ToldRegion, told_regions}
+use Rattle.judge_spec.specs.ToldRegion.{ToldRegion, told_regions}
 use Rattle.settle_spec.specs.Lines.{line_bus, line_range, is_line_of, is_line_behind, lines_on, lines_behind}
 use Rattle.settle_spec.specs.Lists.{Request}
 use Rattle.settle_spec.specs.Parts.{FunctionPart, are_same_space}

@@ -8,8 +8,8 @@ use Rattle.pci_spec.specs.System.{System}
 use Rattle.pci_spec.specs.Machine.{Write}
 use Rattle.plan_spec.specs.Plan.{bridges_above}
 use Rattle.plan_spec.proofs.Planning.Behind.{any_from}
-use Rattle.given_spec.specs.ToldClaims.{is_enabled_at}
-use Rattle.given_spec.specs.ToldRegion.{ToldRegion, told_regions}
+use Rattle.judge_spec.specs.ToldClaims.{is_enabled_at}
+use Rattle.judge_spec.specs.ToldRegion.{ToldRegion, told_regions}
 use Rattle.settle_spec.specs.Items.{Item, range_stays}
 use Rattle.settle_spec.specs.Kept.{Kept}
 use Rattle.settle_spec.specs.Lines.{line_bus, is_held_line, is_command_line, is_always_line}

@@ -6,7 +6,7 @@ use Rattle.pci_spec.specs.Slot.{same_slot}
 use Rattle.pci_spec.specs.Decoded.{Range}
 use Rattle.pci_spec.specs.System.{System, Function, Part, Bar, Rom, Window, has_part, space_of}
 use Rattle.plan_spec.specs.Planning.Layout.{LieApart}
-use Rattle.given_spec.specs.ToldRegion.{ToldRegion, told_regions}
+use Rattle.judge_spec.specs.ToldRegion.{ToldRegion, told_regions}
 use Rattle.settle_spec.specs.Lines.{line_range, is_held_line, is_line_of, can_keep_off}
 use Rattle.settle_spec.specs.Lists.{Request}
 use Rattle.settle_spec.specs.Parts.{FunctionPart}

@@ -11,9 +11,9 @@ use Rattle.pci_spec.proofs.Examples.Samples.{slot}
 use Rattle.pci_spec.proofs.Members.{in_nil, in_cons_cases, in_head, in_tail}
 use Rattle.plan_spec.proofs.Examples.Admitted.{tree_is_a_system, tree_is_nested, tree_is_in_profile, tree_has_chains}
 use Rattle.plan_spec.proofs.Examples.Placed.{start}
-use Rattle.given_spec.specs.Told.{Always, ToldRange, IsToldRange, is_name_byte}
-use Rattle.given_spec.specs.ToldClaims.{is_marked_held}
-use Rattle.given_spec.proofs.Examples.ToldClaims.{told_memory, told_ranges}
+use Rattle.judge_spec.specs.Told.{Always, ToldRange, IsToldRange, is_name_byte}
+use Rattle.judge_spec.specs.ToldClaims.{is_marked_held}
+use Rattle.judge_spec.proofs.Examples.ToldClaims.{told_memory, told_ranges}
 use Rattle.settle_spec.specs.Lists.{RootRange, Request}
 use Rattle.settle_spec.specs.Items.{window_within, holds_within}
 use Rattle.settle_spec.specs.Stands.{stands_within, range_stands_within}

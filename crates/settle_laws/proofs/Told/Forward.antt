@@ -3,9 +3,9 @@ use Rattle.std.proofs.Common.{ℕ, ◌+◌, inl, inr, List, [], ◌∷◌, subst
 use Rattle.std.specs.List.{Contains}
 use Rattle.std.proofs.lemmas.List.Elements.{All-contains}
 use Rattle.pci_spec.proofs.Members.{in_nil, in_head, in_tail, in_cons_cases}
-use Rattle.given_spec.specs.Told.{ToldRange, IsToldRange, IsTold}
-use Rattle.given_spec.specs.ToldClaims.{told_register}
-use Rattle.given_spec.specs.ToldRegion.{ToldRegion, regions_from}
+use Rattle.judge_spec.specs.Told.{ToldRange, IsToldRange, IsTold}
+use Rattle.judge_spec.specs.ToldClaims.{told_register}
+use Rattle.judge_spec.specs.ToldRegion.{ToldRegion, regions_from}
 use Rattle.settle_spec.specs.Lists.{Request}
 use Rattle.stand_laws.specs.Told.Kept.{LinesAreForward}
 

@@ -9,7 +9,7 @@ use Rattle.pci_spec.proofs.WindowLaws.{window_holds_its_pages}
 use Rattle.plan_spec.specs.Plan.{bridges_above}
 use Rattle.plan_spec.proofs.Planning.AboveBuses.{above_to}
 use Rattle.plan_spec.proofs.Planning.Behind.{all_gives}
-use Rattle.given_spec.specs.ToldRegion.{ToldRegion}
+use Rattle.judge_spec.specs.ToldRegion.{ToldRegion}
 use Rattle.settle_spec.specs.Lines.{line_bus, line_range}
 use Rattle.settle_spec.specs.Lists.{Request}
 use Rattle.settle_spec.specs.Parts.{addresses}

@@ -16,7 +16,7 @@ use Rattle.plan_spec.proofs.Planning.Fit.{moved_itself}
 use Rattle.plan_spec.proofs.Planning.Kept.{images_of}
 use Rattle.plan_spec.proofs.Planning.Moved.{bridge_same}
 use Rattle.plan_spec.proofs.Planning.Settled.{function_after, function_moved, function_parts, system_by_function}
-use Rattle.given_spec.specs.ToldRegion.{ToldRegion, told_regions}
+use Rattle.judge_spec.specs.ToldRegion.{ToldRegion, told_regions}
 use Rattle.settle_spec.specs.Items.{range_stays}
 use Rattle.settle_spec.specs.Kept.{Kept}
 use Rattle.settle_spec.specs.Lines.{line_bus, is_always_line}

@@ -16,14 +16,14 @@ use Rattle.plan_spec.specs.Plan.{IsMoved, bridges_above}
 use Rattle.plan_spec.proofs.Planning.AboveBuses.{above_from}
 use Rattle.plan_spec.proofs.Planning.Kept.{images_of}
 use Rattle.plan_spec.proofs.Planning.Moved.{layout_same}
-use Rattle.given_spec.specs.Given.{nothing_given, starts}
-use Rattle.given_spec.specs.Claims as untold
-use Rattle.given_spec.specs.Told.{ToldRange}
-use Rattle.given_spec.specs.ToldClaims.{is_range_on, ClaimsOnBus}
-use Rattle.given_spec.specs.ToldFault.{HasToBeReached}
-use Rattle.given_spec.specs.ToldRegion.{ToldRegion, told_regions}
-use Rattle.given_spec.specs.ToldSound.{IsSingle}
-use Rattle.given_spec.proofs.Nothing.{same_claims, same_gets, same_passed_to, no_legacy_claims, no_palette_claims}
+use Rattle.judge_spec.specs.Given.{nothing_given, starts}
+use Rattle.judge_spec.specs.Claims as untold
+use Rattle.judge_spec.specs.Told.{ToldRange}
+use Rattle.judge_spec.specs.ToldClaims.{is_range_on, ClaimsOnBus}
+use Rattle.judge_spec.specs.ToldFault.{HasToBeReached}
+use Rattle.judge_spec.specs.ToldRegion.{ToldRegion, told_regions}
+use Rattle.judge_spec.specs.ToldSound.{IsSingle}
+use Rattle.judge_spec.proofs.Nothing.{same_claims, same_gets, same_passed_to, no_legacy_claims, no_palette_claims}
 use Rattle.settle_spec.specs.Lines.{line_bus, line_range, is_held_line}
 use Rattle.settle_spec.specs.Lists.{Request}
 use Rattle.settle_laws.specs.ToldSoundLaws.{IsToldOf}

@@ -14,10 +14,10 @@ use Rattle.plan_spec.specs.Plan.{IsMoved}
 use Rattle.plan_spec.proofs.Planning.Moved.{bridge_same, secondary_same}
 use Rattle.plan_spec.proofs.Planning.Behind.{Passes, any_gives, any_from}
 use Rattle.plan_spec.proofs.Planning.Writes.{same_fields}
-use Rattle.given_spec.specs.Told.{ToldRange, IsTold}
-use Rattle.given_spec.specs.ToldClaims.{Told, told_register, IsRangeAt, is_marked_held, is_held_from, is_held}
-use Rattle.given_spec.specs.ToldRegion.{ToldRegion, regions_from, told_regions}
-use Rattle.given_spec.proofs.ToldNumbering.{regions_are_numbered, slot_itself}
+use Rattle.judge_spec.specs.Told.{ToldRange, IsTold}
+use Rattle.judge_spec.specs.ToldClaims.{Told, told_register, IsRangeAt, is_marked_held, is_held_from, is_held}
+use Rattle.judge_spec.specs.ToldRegion.{ToldRegion, regions_from, told_regions}
+use Rattle.judge_spec.proofs.ToldNumbering.{regions_are_numbered, slot_itself}
 use Rattle.settle_spec.specs.Lines.{is_held_line}
 use Rattle.settle_spec.specs.Lists.{Request}
 use Rattle.settle_laws.specs.ToldSoundLaws.{IsToldOf}

@@ -8,9 +8,9 @@ use Rattle.pci_spec.specs.Bus.{IsNested}
 use Rattle.plan_spec.specs.Plan.{bridges_above}
 use Rattle.plan_spec.proofs.Planning.AboveBuses.{above_to}
 use Rattle.plan_spec.proofs.Planning.Behind.{Passes, any_gives}
-use Rattle.given_spec.specs.Told.{Mark, Command, Always, Held}
-use Rattle.given_spec.specs.ToldClaims.{is_enabled_at, is_asleep, is_on_by, is_marked_held}
-use Rattle.given_spec.specs.ToldRegion.{ToldRegion, told_regions}
+use Rattle.judge_spec.specs.Told.{Mark, Command, Always, Held}
+use Rattle.judge_spec.specs.ToldClaims.{is_enabled_at, is_asleep, is_on_by, is_marked_held}
+use Rattle.judge_spec.specs.ToldRegion.{ToldRegion, told_regions}
 use Rattle.settle_spec.specs.Items.{range_stays, stays}
 use Rattle.settle_spec.specs.Kept.{Kept, as_it_stands, growing}
 use Rattle.settle_spec.specs.Lines.{line_bus, is_held_line, is_command_line, is_always_line, is_marked_command}

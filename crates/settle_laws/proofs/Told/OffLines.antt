@@ -9,7 +9,7 @@ use Rattle.pci_spec.specs.Slot.{same_slot}
 use Rattle.pci_spec.specs.System.{System, Function, Part, Bar, Rom, Window, has_part, is_bridge, space_of, window_space}
 use Rattle.pci_spec.proofs.Members.{in_map_from, in_filter_from}
 use Rattle.plan_spec.specs.Planning.Layout.{LieApart}
-use Rattle.given_spec.specs.ToldRegion.{ToldRegion, told_regions}
+use Rattle.judge_spec.specs.ToldRegion.{ToldRegion, told_regions}
 use Rattle.settle_spec.specs.FirstPlace.{ranges_are_apart, is_spot, ends_by}
 use Rattle.settle_spec.specs.Lines.{line_range, is_held_line, is_line_of, can_keep_off, keeps_off, keeps_off_part, lines_on}
 use Rattle.settle_spec.specs.Lists.{Request}

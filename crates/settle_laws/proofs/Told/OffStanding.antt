@@ -4,7 +4,7 @@ use Rattle.std.specs.List.{Contains}
 use Rattle.std.proofs.lemmas.Bool.{and_from, and_parts, both_ways, cases_Bool, not_from_false, or_cases}
 use Rattle.pci_spec.specs.System.{System}
 use Rattle.plan_spec.specs.Planning.Layout.{LieApart}
-use Rattle.given_spec.specs.ToldRegion.{ToldRegion, told_regions}
+use Rattle.judge_spec.specs.ToldRegion.{ToldRegion, told_regions}
 use Rattle.settle_spec.specs.FirstPlace.{ranges_are_apart}
 use Rattle.settle_spec.specs.Lines.{line_range, is_line_of, can_keep_off}
 use Rattle.settle_spec.specs.Lists.{Request}

@@ -9,10 +9,10 @@ use Rattle.plan_spec.specs.Plan.{IsMoved, bridges_above}
 use Rattle.plan_spec.proofs.Planning.AboveBuses.{above_to}
 use Rattle.plan_spec.proofs.Planning.Behind.{Passes, any_gives, any_from}
 use Rattle.plan_spec.proofs.Planning.Writes.{same_fields}
-use Rattle.given_spec.specs.Told.{ToldRange, Mark, Command, Always, Held}
-use Rattle.given_spec.specs.ToldClaims.{Told, is_asleep, is_enabled_at, is_on_by, is_range_on}
-use Rattle.given_spec.specs.ToldRegion.{ToldRegion, told_regions}
-use Rattle.given_spec.proofs.ToldNumbering.{slot_itself}
+use Rattle.judge_spec.specs.Told.{ToldRange, Mark, Command, Always, Held}
+use Rattle.judge_spec.specs.ToldClaims.{Told, is_asleep, is_enabled_at, is_on_by, is_range_on}
+use Rattle.judge_spec.specs.ToldRegion.{ToldRegion, told_regions}
+use Rattle.judge_spec.proofs.ToldNumbering.{slot_itself}
 use Rattle.settle_spec.specs.Lines.{line_bus, is_held_line, is_marked_command, is_marked_always, is_command_line, is_always_line}
 use Rattle.settle_spec.specs.Lists.{Request}
 use Rattle.settle_spec.specs.LiveLaws.{is_live, has_live_behind}

@@ -6,9 +6,9 @@ use Rattle.std.proofs.lemmas.Bool.{and_parts, and_right, both_ways, false_from_n
 use Rattle.pci_spec.specs.System.{System, Function, Space, is_window}
 use Rattle.pci_spec.proofs.Members.{in_head, in_nil, in_tail}
 use Rattle.plan_spec.specs.Plan.{bridges_above}
-use Rattle.given_spec.specs.Told.{Mark, Command, Always, Held}
-use Rattle.given_spec.specs.ToldClaims.{is_marked_held}
-use Rattle.given_spec.specs.ToldRegion.{ToldRegion, told_regions}
+use Rattle.judge_spec.specs.Told.{Mark, Command, Always, Held}
+use Rattle.judge_spec.specs.ToldClaims.{is_marked_held}
+use Rattle.judge_spec.specs.ToldRegion.{ToldRegion, told_regions}
 use Rattle.settle_spec.specs.Items.{has_room, has_room_behind, holds_within, stays}
 use Rattle.settle_spec.specs.Kept.{Kept}
 use Rattle.settle_spec.specs.Lines.{is_marked_always, is_marked_command, is_held_line, is_command_line, is_always_line}

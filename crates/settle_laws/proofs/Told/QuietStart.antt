@@ -10,11 +10,11 @@ use Rattle.pci_spec.proofs.BusRanges.{all_from}
 use Rattle.plan_spec.specs.Plan.{bridges_above}
 use Rattle.plan_spec.proofs.Planning.Behind.{Passes, any_from, any_gives}
 use Rattle.plan_spec.proofs.Planning.Writes.{same_fields}
-use Rattle.given_spec.specs.Told.{Mark, Command, Always, Held}
-use Rattle.given_spec.specs.ToldClaims.{is_asleep, is_enabled_at, is_on_by}
-use Rattle.given_spec.specs.ToldRegion.{ToldRegion, told_regions, told_name}
-use Rattle.given_spec.proofs.Nothing.{same_passed_to}
-use Rattle.given_spec.proofs.ToldNumbering.{regions_are_numbered, slot_itself}
+use Rattle.judge_spec.specs.Told.{Mark, Command, Always, Held}
+use Rattle.judge_spec.specs.ToldClaims.{is_asleep, is_enabled_at, is_on_by}
+use Rattle.judge_spec.specs.ToldRegion.{ToldRegion, told_regions, told_name}
+use Rattle.judge_spec.proofs.Nothing.{same_passed_to}
+use Rattle.judge_spec.proofs.ToldNumbering.{regions_are_numbered, slot_itself}
 use Rattle.settle_spec.specs.FirstPlace.{ranges_are_apart}
 use Rattle.settle_spec.specs.Lines.{line_bus, line_range, is_held_line, is_command_line, is_always_line, is_line_of, is_marked_always, keeps_off_part}
 use Rattle.settle_spec.specs.Lists.{Request}

@@ -5,7 +5,7 @@ use Rattle.std.specs.List.{Contains, list_all}
 use Rattle.std.proofs.lemmas.Bool.{cases_Bool, and_from, and_parts, both_ways, false_from_ne_true, ltb-true, not_from_false, not_from_true, not-true}
 use Rattle.pci_spec.specs.System.{System}
 use Rattle.pci_spec.proofs.BusRanges.{all_from}
-use Rattle.given_spec.specs.ToldRegion.{ToldRegion, told_regions}
+use Rattle.judge_spec.specs.ToldRegion.{ToldRegion, told_regions}
 use Rattle.settle_spec.specs.FirstPlace.{ranges_are_apart}
 use Rattle.settle_spec.specs.Kept.{Kept}
 use Rattle.settle_spec.specs.Lines.{line_bus, line_range, is_held_line, is_line_of, can_keep_off}

@@ -11,7 +11,7 @@ use Rattle.plan_spec.specs.Plan.{bridges_above}
 use Rattle.plan_spec.proofs.Planning.AboveBuses.{above_to, above_from, root_or_led}
 use Rattle.plan_spec.proofs.Planning.Behind.{all_gives, behind_range, bridge_between}
 use Rattle.plan_spec.proofs.Planning.Safe.{order_of}
-use Rattle.given_spec.specs.ToldRegion.{ToldRegion}
+use Rattle.judge_spec.specs.ToldRegion.{ToldRegion}
 use Rattle.settle_spec.specs.Lines.{line_bus, line_range, is_always_line}
 use Rattle.settle_spec.specs.Lists.{RootRange, Request, is_had_by}
 use Rattle.settle_spec.specs.Parts.{FunctionPart, system_parts, addresses, is_empty, lies_within, class_in, has_left, holds_range, bridge_over}

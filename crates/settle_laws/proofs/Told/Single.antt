@@ -13,16 +13,16 @@ use Rattle.pci_spec.proofs.BusRanges.{root_means}
 use Rattle.pci_spec.proofs.Members.{in_map_to, IsMade}
 use Rattle.plan_spec.specs.Planning.Layout.{LieApart}
 use Rattle.plan_spec.proofs.Planning.LaidOut.{place_of_claim}
-use Rattle.given_spec.specs.Given.{nothing_given, starts}
-use Rattle.given_spec.specs.Claims as untold
-use Rattle.given_spec.specs.Sound as untold_sound
-use Rattle.given_spec.specs.Told.{ToldRange}
-use Rattle.given_spec.specs.ToldClaims.{Told, is_range_on, is_held, is_held_beside, RangeClaimsOnBus, ClaimsOnBus, may_share}
-use Rattle.given_spec.specs.ToldRegion.{ToldRegion, told_regions}
-use Rattle.given_spec.specs.ToldSound.{MayBoth, IsSingle}
-use Rattle.given_spec.proofs.Judging.{same_sound}
-use Rattle.given_spec.proofs.Nothing.{no_legacy_claims, no_palette_claims}
-use Rattle.given_spec.proofs.ToldNumbering.{slot_itself}
+use Rattle.judge_spec.specs.Given.{nothing_given, starts}
+use Rattle.judge_spec.specs.Claims as untold
+use Rattle.judge_spec.specs.Sound as untold_sound
+use Rattle.judge_spec.specs.Told.{ToldRange}
+use Rattle.judge_spec.specs.ToldClaims.{Told, is_range_on, is_held, is_held_beside, RangeClaimsOnBus, ClaimsOnBus, may_share}
+use Rattle.judge_spec.specs.ToldRegion.{ToldRegion, told_regions}
+use Rattle.judge_spec.specs.ToldSound.{MayBoth, IsSingle}
+use Rattle.judge_spec.proofs.Judging.{same_sound}
+use Rattle.judge_spec.proofs.Nothing.{no_legacy_claims, no_palette_claims}
+use Rattle.judge_spec.proofs.ToldNumbering.{slot_itself}
 use Rattle.settle_spec.specs.Lines.{line_bus, line_range, is_held_line, is_line_of, can_keep_off}
 use Rattle.settle_spec.specs.FirstPlace.{ranges_are_apart}
 use Rattle.settle_spec.specs.Lists.{Request}

@@ -5,7 +5,7 @@ use Rattle.std.proofs.Math.Path.{fun_ext}
 use Rattle.pci_spec.specs.Slot.{Slot, same_slot}
 use Rattle.pci_spec.specs.System.{System, Function, Space, is_space_on, is_window}
 use Rattle.plan_spec.specs.Plan.{bridges_above}
-use Rattle.given_spec.specs.ToldRegion.{ToldRegion, told_regions}
+use Rattle.judge_spec.specs.ToldRegion.{ToldRegion, told_regions}
 use Rattle.settle_spec.specs.Lines.{is_held_line, is_command_line}
 use Rattle.settle_spec.specs.Lists.{Request}
 use Rattle.settle_spec.specs.Parts.{FunctionPart, system_parts, function_parts, are_same_space}

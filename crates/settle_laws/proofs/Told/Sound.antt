@@ -7,13 +7,13 @@ use Rattle.pci_spec.specs.Decoded.{InRange}
 use Rattle.pci_spec.specs.System.{System, Function, IsPassedTo, is_space_on}
 use Rattle.plan_spec.specs.Plan.{bridges_above}
 use Rattle.plan_spec.proofs.Planning.Kept.{images_of}
-use Rattle.given_spec.specs.Given.{nothing_given}
-use Rattle.given_spec.specs.Told.{Mark, Command, Always, Held}
-use Rattle.given_spec.specs.ToldClaims.{is_asleep, is_enabled_at, is_on_by, is_range_on, is_marked_held}
-use Rattle.given_spec.specs.ToldRegion.{ToldRegion, told_regions}
-use Rattle.given_spec.specs.ToldSound.{IsHome}
-use Rattle.given_spec.proofs.Judging.{same_sound}
-use Rattle.given_spec.proofs.Nothing.{same_passed_to}
+use Rattle.judge_spec.specs.Given.{nothing_given}
+use Rattle.judge_spec.specs.Told.{Mark, Command, Always, Held}
+use Rattle.judge_spec.specs.ToldClaims.{is_asleep, is_enabled_at, is_on_by, is_range_on, is_marked_held}
+use Rattle.judge_spec.specs.ToldRegion.{ToldRegion, told_regions}
+use Rattle.judge_spec.specs.ToldSound.{IsHome}
+use Rattle.judge_spec.proofs.Judging.{same_sound}
+use Rattle.judge_spec.proofs.Nothing.{same_passed_to}
 use Rattle.settle_spec.specs.Lines.{line_bus, line_range, is_held_line, is_marked_always, is_marked_command}
 use Rattle.settle_spec.specs.Lists.{Request}
 use Rattle.settle_spec.specs.Stands.{range_stands}

@@ -8,7 +8,7 @@ use Rattle.pci_spec.specs.Bus.{IsNested}
 use Rattle.pci_spec.proofs.BusRanges.{all_from, root_means}
 use Rattle.plan_spec.specs.Plan.{bridges_above}
 use Rattle.plan_spec.proofs.Planning.AboveBuses.{above_to, all_above, all_above_root}
-use Rattle.given_spec.specs.ToldRegion.{ToldRegion}
+use Rattle.judge_spec.specs.ToldRegion.{ToldRegion}
 use Rattle.settle_spec.specs.Items.{range_stays}
 use Rattle.settle_spec.specs.Kept.{Kept}
 use Rattle.settle_spec.specs.Lines.{line_bus}

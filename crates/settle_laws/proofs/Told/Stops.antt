@@ -16,14 +16,14 @@ use Rattle.plan_spec.proofs.Planning.AboveBuses.{IsBridgeAbove, above_to}
 use Rattle.plan_spec.proofs.Planning.Fit.{moved_itself}
 use Rattle.plan_spec.proofs.Planning.Kept.{images_of}
 use Rattle.plan_spec.proofs.Planning.Settled.{function_after, function_moved, system_by_function}
-use Rattle.given_spec.specs.Given.{nothing_given}
-use Rattle.given_spec.specs.Told.{Mark, Command, Always, Held}
-use Rattle.given_spec.specs.ToldClaims.{is_asleep, is_enabled_at, is_on_by, is_range_on, is_marked_held}
-use Rattle.given_spec.specs.ToldFault.{Known}
-use Rattle.given_spec.specs.ToldRegion.{ToldRegion, told_regions}
-use Rattle.given_spec.proofs.Judging.{same_sound, sound_without_faults}
-use Rattle.given_spec.proofs.ToldAdds.{told_only_adds}
-use Rattle.given_spec.proofs.ToldSounding.{told_sound_without_faults}
+use Rattle.judge_spec.specs.Given.{nothing_given}
+use Rattle.judge_spec.specs.Told.{Mark, Command, Always, Held}
+use Rattle.judge_spec.specs.ToldClaims.{is_asleep, is_enabled_at, is_on_by, is_range_on, is_marked_held}
+use Rattle.judge_spec.specs.ToldFault.{Known}
+use Rattle.judge_spec.specs.ToldRegion.{ToldRegion, told_regions}
+use Rattle.judge_spec.proofs.Judging.{same_sound, sound_without_faults}
+use Rattle.judge_spec.proofs.ToldAdds.{told_only_adds}
+use Rattle.judge_spec.proofs.ToldSounding.{told_sound_without_faults}
 use Rattle.settle_spec.specs.Lines.{line_bus, line_range, is_held_line, is_marked_command, is_marked_always}
 use Rattle.settle_spec.specs.Lists.{Request}
 use Rattle.settle_spec.specs.Stands.{is_line_on, range_stands}

@@ -7,7 +7,7 @@ use Rattle.std.proofs.lemmas.Bool.{cond_both}
 use Rattle.pci_spec.specs.System.{System, Function, passes}
 use Rattle.pci_spec.specs.Machine.{Write, system_after}
 use Rattle.plan_spec.specs.Plan.{bridges_above}
-use Rattle.given_spec.specs.ToldRegion.{ToldRegion, told_regions}
+use Rattle.judge_spec.specs.ToldRegion.{ToldRegion, told_regions}
 use Rattle.settle_spec.specs.Kept.{Kept}
 use Rattle.settle_spec.specs.Lines.{line_bus, is_always_line, keeps_off_part}
 use Rattle.settle_spec.specs.Lists.{Request, are_bad_lists}

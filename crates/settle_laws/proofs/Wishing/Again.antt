@@ -14,7 +14,7 @@ use Rattle.pci_spec.proofs.Members.{in_nil, in_cons_cases, in_head, in_tail, in_
 use Rattle.plan_spec.specs.Plan.{is_open}
 use Rattle.plan_spec.specs.Place.{range_from}
 use Rattle.settle_spec.specs.FirstPlace.{Extent, ends_by, first_spot, first_place_in}
-use Rattle.given_spec.specs.ToldRegion.{ToldRegion, told_regions}
+use Rattle.judge_spec.specs.ToldRegion.{ToldRegion, told_regions}
 use Rattle.settle_spec.specs.Growing.{finally_kept}
 use Rattle.settle_spec.specs.Lines.{lines_on}
 use Rattle.settle_spec.specs.Lists.{Request, wanted_in}

@@ -33,7 +33,7 @@ use Rattle.settle_spec.specs.Sparing.{without_slots, have_spares, placing_reques
 use Rattle.settle_spec.specs.SpareLaws.{kept_sparing, has_room_for, result_sparing, result_of}
 use Rattle.settle_laws.specs.SparingLaws.{SparesAreAnswered}
 use Rattle.settle_laws.proofs.Wishing.Room.{room_there}
-use Rattle.given_spec.specs.ToldRegion.{ToldRegion, told_regions}
+use Rattle.judge_spec.specs.ToldRegion.{ToldRegion, told_regions}
 use Rattle.settle_laws.proofs.Untold.{untold_forward}
 use Rattle.settle_laws.proofs.Wishing.Sparing.{placing_asked}
 

@@ -11,7 +11,7 @@ use Rattle.pci_spec.specs.Bus.{secondary, is_root, LeadsTo}
 use Rattle.plan_spec.specs.Place.{range_from}
 use Rattle.plan_spec.proofs.Planning.Placement.{IsMultiple}
 use Rattle.settle_spec.specs.FirstPlace.{Extent, is_place, first_spot, first_place}
-use Rattle.given_spec.specs.ToldRegion.{ToldRegion, told_regions}
+use Rattle.judge_spec.specs.ToldRegion.{ToldRegion, told_regions}
 use Rattle.settle_spec.specs.Lines.{lines_behind}
 use Rattle.settle_spec.specs.Lists.{Request, class_ranges}
 use Rattle.settle_spec.specs.Parts.{bridge_over}

@@ -18,7 +18,7 @@ use Rattle.plan_spec.specs.Place.{range_from}
 use Rattle.plan_spec.proofs.Planning.Behind.{all_gives}
 use Rattle.plan_spec.proofs.Planning.Moved.{secondary_same}
 use Rattle.settle_spec.specs.FirstPlace.{Extent, ranges_are_apart, first_place}
-use Rattle.given_spec.specs.ToldRegion.{ToldRegion, told_regions}
+use Rattle.judge_spec.specs.ToldRegion.{ToldRegion, told_regions}
 use Rattle.settle_spec.specs.Lines.{line_bus, line_range, lines_behind, lines_on}
 use Rattle.settle_spec.specs.Lists.{Request, class_ranges}
 use Rattle.settle_spec.specs.Parts.{FunctionPart, header_parts, bridge_over, is_part, are_same_space}

@@ -14,7 +14,7 @@ use Rattle.pci_spec.proofs.Members.{in_nil, in_cons_cases, in_filter_to, IsInPie
 use Rattle.plan_spec.specs.Planning.Layout.{IsInside, LieApart}
 use Rattle.plan_spec.proofs.Planning.Behind.{Passes, all_gives, any_from, any_gives}
 use Rattle.settle_spec.specs.FirstPlace.{Extent, ranges_are_apart}
-use Rattle.given_spec.specs.ToldRegion.{ToldRegion, told_regions}
+use Rattle.judge_spec.specs.ToldRegion.{ToldRegion, told_regions}
 use Rattle.settle_spec.specs.Lines.{line_range, can_keep_off, keeps_off, lines_on}
 use Rattle.settle_spec.specs.Lists.{Request, class_ranges}
 use Rattle.settle_spec.specs.Parts.{FunctionPart, bridge_over, are_same_space, lies_within}

@@ -19,7 +19,7 @@ use Rattle.plan_spec.proofs.Planning.Safe.{order_of}
 use Rattle.settle_spec.specs.FirstPlace.{Extent, is_place, first_place}
 use Rattle.pci_spec.specs.Slot.{same_slot}
 use Rattle.pci_spec.proofs.Members.{in_nil}
-use Rattle.given_spec.specs.ToldRegion.{ToldRegion, told_regions}
+use Rattle.judge_spec.specs.ToldRegion.{ToldRegion, told_regions}
 use Rattle.settle_spec.specs.Lines.{line_range, is_held_line, is_line_of, can_keep_off, lines_on, lines_behind}
 use Rattle.settle_spec.specs.Lists.{Request, class_ranges}
 use Rattle.settle_spec.specs.Parts.{FunctionPart, lies_within, class_in, bridge_over, are_same_space}

@@ -14,7 +14,7 @@ use Rattle.plan_spec.specs.Planning.Layout.{IsInside, LieApart, AreBeside, AreTw
 use Rattle.plan_spec.proofs.Planning.Behind.{all_gives}
 use Rattle.plan_spec.proofs.Planning.Room.{raised}
 use Rattle.plan_spec.proofs.Planning.Writes.{same_fields}
-use Rattle.given_spec.specs.ToldRegion.{ToldRegion, told_regions}
+use Rattle.judge_spec.specs.ToldRegion.{ToldRegion, told_regions}
 use Rattle.settle_spec.specs.Lines.{line_range, can_keep_off, keeps_off}
 use Rattle.settle_spec.specs.FirstPlace.{ranges_are_apart}
 use Rattle.settle_spec.specs.Lists.{Request}

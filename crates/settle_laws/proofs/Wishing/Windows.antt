@@ -9,7 +9,7 @@ use Rattle.pci_spec.specs.Bus.{are_siblings}
 use Rattle.pci_spec.proofs.Members.{in_head, in_filter_from, in_flat_map_from}
 use Rattle.plan_spec.specs.Planning.Layout.{IsInside, LieApart}
 use Rattle.plan_spec.proofs.Planning.Placement.{mod_of_multiple, multiple_of_mod, multiple_add}
-use Rattle.given_spec.specs.ToldRegion.{ToldRegion, told_regions}
+use Rattle.judge_spec.specs.ToldRegion.{ToldRegion, told_regions}
 use Rattle.settle_spec.specs.Lines.{line_range, can_keep_off}
 use Rattle.settle_spec.specs.Lists.{Request}
 use Rattle.settle_spec.specs.Parts.{FunctionPart, addresses, is_part, are_same_space}

@@ -3,7 +3,7 @@ use Rattle.std.specs.Prelude.{◌≡◌, ◌⊎◌, ◌<◌, Bool, ◌&&◌, not
 use Rattle.std.specs.List.{Contains}
 use Rattle.pci_spec.specs.System.{System}
 use Rattle.pci_spec.specs.Machine.{Write}
-use Rattle.given_spec.specs.ToldRegion.{ToldRegion, told_regions}
+use Rattle.judge_spec.specs.ToldRegion.{ToldRegion, told_regions}
 use Rattle.settle_spec.specs.FirstPlace.{ranges_are_apart}
 use Rattle.settle_spec.specs.Lines.{line_bus, line_range, is_held_line, is_line_of}
 use Rattle.settle_spec.specs.Lists.{Request}

@@ -4,9 +4,9 @@ use Rattle.std.specs.List.{Contains}
 use Rattle.pci_spec.specs.System.{System, Function, IsSystem, Space, Io, is_space_on}
 use Rattle.pci_spec.specs.Bus.{is_root, IsNested}
 use Rattle.plan_spec.specs.Plan.{is_open}
-use Rattle.given_spec.specs.Given.{nothing_given}
-use Rattle.given_spec.specs.ToldRegion.{ToldRegion, told_regions}
-use Rattle.given_spec.specs.ToldSound.{IsSound}
+use Rattle.judge_spec.specs.Given.{nothing_given}
+use Rattle.judge_spec.specs.ToldRegion.{ToldRegion, told_regions}
+use Rattle.judge_spec.specs.ToldSound.{IsSound}
 use Rattle.settle_spec.specs.Kept.{as_it_stands, growing}
 use Rattle.settle_spec.specs.Lines.{line_bus, line_range, is_held_line}
 use Rattle.settle_spec.specs.Lists.{Request, are_bad_lists}

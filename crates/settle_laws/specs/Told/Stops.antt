@@ -5,7 +5,7 @@ use Rattle.pci_spec.specs.Window.{WindowKind, holds}
 use Rattle.pci_spec.specs.System.{System, Function, is_bridge, passes}
 use Rattle.pci_spec.specs.Machine.{system_after}
 use Rattle.plan_spec.specs.Plan.{bridges_above}
-use Rattle.given_spec.specs.ToldRegion.{ToldRegion, told_regions}
+use Rattle.judge_spec.specs.ToldRegion.{ToldRegion, told_regions}
 use Rattle.settle_spec.specs.Kept.{Kept}
 use Rattle.settle_spec.specs.Lines.{line_bus, is_always_line}
 use Rattle.settle_spec.specs.Lists.{Request}

@@ -5,8 +5,8 @@ use Rattle.pci_spec.specs.Slot.{Slot}
 use Rattle.pci_spec.specs.System.{System, Function, Part, passes}
 use Rattle.pci_spec.specs.Machine.{Write, system_after}
 use Rattle.plan_spec.specs.Plan.{bridges_above}
-use Rattle.given_spec.specs.Told.{IsTold}
-use Rattle.given_spec.specs.ToldRegion.{ToldRegion, told_regions}
+use Rattle.judge_spec.specs.Told.{IsTold}
+use Rattle.judge_spec.specs.ToldRegion.{ToldRegion, told_regions}
 use Rattle.settle_spec.specs.Lines.{line_bus, is_always_line, keeps_off_part}
 use Rattle.settle_spec.specs.Lists.{Request, are_bad_lists}
 use Rattle.settle_spec.specs.Parts.{FunctionPart, system_parts}

@@ -5,7 +5,7 @@ use Rattle.pci_spec.specs.Window.{IoWindow, MemoryWindow}
 use Rattle.pci_spec.specs.System.{System, Function}
 use Rattle.pci_spec.proofs.Examples.Samples.{slot, device, bridge, write, range, host}
 use Rattle.plan_spec.proofs.Examples.Placed.{start}
-use Rattle.given_spec.specs.ToldClaims.{nothing_told}
+use Rattle.judge_spec.specs.ToldClaims.{nothing_told}
 use Rattle.settle_spec.specs.Lists.{Lists, RootRange, Spares, Request}
 use Rattle.settle_spec.specs.Stands.{stands_within}
 use Rattle.settle_spec.specs.Items.{window_within, holds_within}

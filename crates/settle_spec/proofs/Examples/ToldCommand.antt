@@ -2,8 +2,8 @@
 use Rattle.std.proofs.Common.{◌≡◌, ℕ, [], ◌∷◌, refl}
 use Rattle.pci_spec.specs.System.{System, Function}
 use Rattle.pci_spec.proofs.Examples.Samples.{slot, device, bridge, write}
-use Rattle.given_spec.specs.Told.{Command, Always}
-use Rattle.given_spec.proofs.Examples.ToldClaims.{told_memory, told_ranges}
+use Rattle.judge_spec.specs.Told.{Command, Always}
+use Rattle.judge_spec.proofs.Examples.ToldClaims.{told_memory, told_ranges}
 use Rattle.settle_spec.specs.Items.{window_within, holds_within}
 use Rattle.settle_spec.specs.Writes.{Settled, NotKept}
 use Rattle.settle_spec.specs.Stands.{stands_within, range_stands_within}

@@ -3,9 +3,9 @@ use Rattle.std.proofs.Common.{◌≡◌, ℕ, List, [], ◌∷◌, map, refl}
 use Rattle.pci_spec.specs.Slot.{Slot}
 use Rattle.pci_spec.specs.System.{System, register_of}
 use Rattle.pci_spec.proofs.Examples.Samples.{slot, write}
-use Rattle.given_spec.specs.Told.{Always, Held}
-use Rattle.given_spec.specs.ToldClaims.{Told}
-use Rattle.given_spec.proofs.Examples.ToldClaims.{told_memory, told_ranges}
+use Rattle.judge_spec.specs.Told.{Always, Held}
+use Rattle.judge_spec.specs.ToldClaims.{Told}
+use Rattle.judge_spec.proofs.Examples.ToldClaims.{told_memory, told_ranges}
 use Rattle.settle_spec.specs.Lists.{Request}
 use Rattle.settle_spec.specs.Spares.{doubled_in}
 use Rattle.settle_spec.specs.Items.{window_within, holds_within}

@@ -9,8 +9,8 @@ use Rattle.pci_spec.specs.Machine.{Write, without_low}
 use Rattle.plan_spec.specs.Plan.{bridges_above, is_open}
 use Rattle.plan_spec.specs.Place.{nibble_of}
 use Rattle.plan_spec.specs.Planning.PlanWrites.{Change, register_write}
-use Rattle.given_spec.specs.ToldRegion.{ToldRegion, told_regions}
-use Rattle.given_spec.specs.ToldClaims.{is_enabled_at}
+use Rattle.judge_spec.specs.ToldRegion.{ToldRegion, told_regions}
+use Rattle.judge_spec.specs.ToldClaims.{is_enabled_at}
 use Rattle.settle_spec.specs.Items.{range_stays}
 use Rattle.settle_spec.specs.Lines.{line_bus, is_held_line, is_command_line, is_always_line}
 use Rattle.settle_spec.specs.Lists.{Request, are_bad_lists}

@@ -9,8 +9,8 @@ use Rattle.pci_spec.specs.Decoded.{Range}
 use Rattle.pci_spec.specs.System.{System}
 use Rattle.pci_spec.proofs.BusRanges.{all_gives, all_from}
 use Rattle.pci_spec.proofs.Members.{in_nil, in_cons_cases, in_filter_to, in_filter_from, pairs_nil, pairs_cons, pairs_append, pairs_filter}
-use Rattle.given_spec.specs.Told.{ToldRange}
-use Rattle.given_spec.specs.ToldRegion.{ToldRegion, regions_from, told_regions}
+use Rattle.judge_spec.specs.Told.{ToldRange}
+use Rattle.judge_spec.specs.ToldRegion.{ToldRegion, regions_from, told_regions}
 use Rattle.settle_spec.specs.FirstPlace.{ranges_are_apart}
 use Rattle.settle_spec.specs.Lists.{Request}
 use Rattle.settle_spec.specs.Parts.{system_parts, addresses}

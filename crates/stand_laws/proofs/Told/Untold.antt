@@ -6,7 +6,7 @@ use Rattle.std.proofs.lemmas.List.{get_or_default}
 use Rattle.pci_spec.specs.System.{System, IsSystem, is_bridge}
 use Rattle.pci_spec.specs.Bus.{is_behind, IsNested}
 use Rattle.pci_spec.proofs.BusRanges.{all_from, any_gives}
-use Rattle.given_spec.specs.ToldRegion.{ToldRegion, told_regions}
+use Rattle.judge_spec.specs.ToldRegion.{ToldRegion, told_regions}
 use Rattle.settle_spec.specs.FirstPlace.{ranges_are_apart}
 use Rattle.settle_spec.specs.Lists.{Request}
 use Rattle.settle_spec.specs.Parts.{FunctionPart, system_parts, addresses, is_part}

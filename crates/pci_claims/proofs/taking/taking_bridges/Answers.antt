@@ -1,6 +1,6 @@
 use Rattle.std.proofs.Common.{List, [], ◌+◌, arith, subst, sym, take}
-use Rattle.given_spec.specs.Given as spec
-use Rattle.given_spec.specs.Unclaimed.{AreTaking}
+use Rattle.judge_spec.specs.Given as spec
+use Rattle.judge_spec.specs.Unclaimed.{AreTaking}
 use Rattle.pci_claims.specs.Values.{given_value, told_value}
 use Rattle.pci_claims.proofs.Unclaiming.{one_more_taking, all_taking}
 use Rattle.pci_claims.proofs.taking.taking_bridges.Goals as goal

@@ -1,7 +1,7 @@
 use Rattle.std.proofs.Common.{take}
 use Rattle.pci_spec.specs.System.{System}
 use Rattle.pci_tree.specs.Trees.{HasTree}
-use Rattle.given_spec.specs.Unclaimed.{AreTaking}
+use Rattle.judge_spec.specs.Unclaimed.{AreTaking}
 use Rattle.pci_claims.specs.Values.{given_value, told_value}
 use Rattle.pci_claims.proofs.taking.taking_bridges.Given as goal
 

@@ -1,6 +1,6 @@
 use Rattle.std.proofs.Common.{sym, ap, subst, arith, take, ◌+◌}
 use Rattle.std.proofs.lemmas.Bool.{both_ways}
-use Rattle.given_spec.specs.Told.{ToldRange}
+use Rattle.judge_spec.specs.Told.{ToldRange}
 use Rattle.pci_tree.specs.Roots.{buses_of}
 use Rattle.pci_given.specs.Before.{IsOfNoBus, IsSlotAdded, AreSlotsOf}
 use Rattle.pci_given.proofs.NamedSlots.{slots_less, slots_added}

@@ -1,7 +1,7 @@
 use Rattle.std.proofs.Common.{inr, ap, map}
 use Rattle.std.proofs.lemmas.Result.{IfOk-weaker}
 use Rattle.pci_tree.specs.Roots.{buses_of}
-use Rattle.given_spec.specs.UnclaimedLaws.{with_taking}
+use Rattle.judge_spec.specs.UnclaimedLaws.{with_taking}
 use Rattle.pci_claims.specs.Values.{given_value, told_value}
 use Rattle.pci_given.specs.AllLines.{fault_of}
 use Rattle.pci_given.proofs.EveryTold.{in_all, every_of_judged}

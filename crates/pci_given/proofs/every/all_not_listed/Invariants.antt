@@ -1,5 +1,5 @@
 use Rattle.std.proofs.Common.{◌≡◌, map, take}
-use Rattle.given_spec.specs.ToldFault.{NotListed}
+use Rattle.judge_spec.specs.ToldFault.{NotListed}
 use Rattle.pci_given.specs.AllLines.{fault_of}
 use Rattle.pci_given.proofs.every.all_not_listed.Given as goal
 

@@ -5,7 +5,7 @@ use Rattle.pci_spec.specs.Text.{Block}
 use Rattle.pci_tree.specs.Roots.{buses_of}
 use Rattle.pci_function.specs.declared.fault.Fault.{Fault}
 use Rattle.pci_function.specs.Fault as plain
-use Rattle.given_spec.specs.Given.{nothing_given}
+use Rattle.judge_spec.specs.Given.{nothing_given}
 use Rattle.pci_claims.specs.Values.{told_value}
 use Rattle.pci_given.specs.AllLines.{fault_of}
 use Rattle.pci_given.specs.Every.{AreEarlyWith}

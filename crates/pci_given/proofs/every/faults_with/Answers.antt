@@ -1,7 +1,7 @@
 use Rattle.std.proofs.Common.{◌≡◌, ◌∙◌, List, ap, map, subst}
 use Rattle.std.proofs.lemmas.Result.{IfOk-weaker}
-use Rattle.given_spec.specs.Given.{TakingBridge}
-use Rattle.given_spec.specs.UnclaimedLaws.{with_taking}
+use Rattle.judge_spec.specs.Given.{TakingBridge}
+use Rattle.judge_spec.specs.UnclaimedLaws.{with_taking}
 use Rattle.pci_claims.specs.declared.given.TakingBridge as claims
 use Rattle.pci_claims.specs.Values.{given_value, told_value, taking_value}
 use Rattle.pci_given.specs.AllLines.{AreAllLines}

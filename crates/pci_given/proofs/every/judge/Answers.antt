@@ -1,6 +1,6 @@
 use Rattle.std.proofs.Common.{List, refl, subst}
-use Rattle.given_spec.specs.Given.{TakingBridge}
-use Rattle.given_spec.specs.UnclaimedLaws.{with_taking}
+use Rattle.judge_spec.specs.Given.{TakingBridge}
+use Rattle.judge_spec.specs.UnclaimedLaws.{with_taking}
 use Rattle.pci_claims.specs.Values.{given_value, told_value}
 use Rattle.pci_given.specs.AllLines.{AreAllLines}
 use Rattle.pci_given.proofs.every.judge.Goals as goal

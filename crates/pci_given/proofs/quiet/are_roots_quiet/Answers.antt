@@ -4,7 +4,7 @@ use Rattle.std.specs.List.{Contains}
 use Rattle.std.proofs.lemmas.Result.{IfOk-weaker}
 use Rattle.pci_base.specs.Space.{space_of}
 use Rattle.pci_tree.specs.Roots.{buses_of}
-use Rattle.given_spec.specs.Told.{ToldRange}
+use Rattle.judge_spec.specs.Told.{ToldRange}
 use Rattle.pci_claims.specs.Values.{given_value, told_value}
 use Rattle.pci_given.proofs.Quieting.{quiet_untold}
 use Rattle.pci_given.proofs.quiet.are_roots_quiet.Goals as goal

@@ -3,7 +3,7 @@ use Rattle.std.specs.List.{Contains}
 use Rattle.std.proofs.lemmas.Bool.{iff_false}
 use Rattle.std.proofs.lemmas.List.{take_all}
 use Rattle.pci_tree.specs.Roots.{buses_of}
-use Rattle.given_spec.specs.Told.{ToldRange}
+use Rattle.judge_spec.specs.Told.{ToldRange}
 use Rattle.pci_given.proofs.Quieting.{NoneOnRoots, none_on_roots_yet, none_on_roots_more}
 use Rattle.pci_given.proofs.quiet.are_roots_untold.Goals as goal
 

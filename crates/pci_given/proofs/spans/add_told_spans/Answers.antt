@@ -2,7 +2,7 @@ use Rattle.std.proofs.Common.{[], ◌∷◌, ◌+◌, ◌++◌, get_or, ap, ◌�
 use Rattle.std.proofs.lemmas.Bool.{iff_false}
 use Rattle.std.proofs.lemmas.Option.{slice_get-get_or}
 use Rattle.pci_base.specs.Space.{space_of}
-use Rattle.given_spec.specs.Told.{ToldRange}
+use Rattle.judge_spec.specs.Told.{ToldRange}
 use Rattle.pci_given.specs.Spans.{told_span}
 use Rattle.pci_given.proofs.Spanning.{AreSpansBelow, spans_begin, spans_more, spans_less, spans_end}
 use Rattle.pci_given.proofs.spans.add_told_spans.Goals.{then-is_in+in_ok-push, else-is_in}

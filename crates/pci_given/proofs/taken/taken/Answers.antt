@@ -2,8 +2,8 @@ use Rattle.std.proofs.Common.{◌≡◌, List, [], Bool, subst, sym, ◌∙◌}
 use Rattle.std.proofs.lemmas.Bool.{eqb-true}
 use Rattle.std.proofs.lemmas.List.{nil_from_length}
 use Rattle.pci_spec.specs.Slot.{Slot}
-use Rattle.given_spec.specs.Given.{TakingBridge}
-use Rattle.given_spec.specs.Unclaimed.{AreTaking}
+use Rattle.judge_spec.specs.Given.{TakingBridge}
+use Rattle.judge_spec.specs.Unclaimed.{AreTaking}
 use Rattle.pci_claims.specs.Values.{given_value, told_value}
 use Rattle.pci_claims.specs.BusClaims.{AreBridgesOf}
 use Rattle.pci_claims.specs.ToldOn.{AreOnIn}

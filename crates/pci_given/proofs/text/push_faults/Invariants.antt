@@ -1,7 +1,7 @@
 use Rattle.std.proofs.Common.{◌≡◌, ◌++◌, map, take}
 use Rattle.std.specs.List.{flat_map}
 use Rattle.std.specs.String.{string_bytes}
-use Rattle.given_spec.specs.ToldLine.{fault_line}
+use Rattle.judge_spec.specs.ToldLine.{fault_line}
 use Rattle.pci_given.specs.AllLines.{fault_of}
 use Rattle.pci_given.proofs.text.push_faults.Given as goal
 

@@ -1,9 +1,9 @@
 use Rattle.std.proofs.Common.{take}
 use Rattle.pci_spec.specs.System.{System}
-use Rattle.given_spec.specs.Given.{Given}
+use Rattle.judge_spec.specs.Given.{Given}
 use Rattle.pci_base.specs.Space.{space_of}
 use Rattle.pci_tree.specs.Outline.{Tree}
-use Rattle.given_spec.specs.ToldClaims.{Told}
+use Rattle.judge_spec.specs.ToldClaims.{Told}
 use Rattle.pci_map.specs.Seats.{IsToldOf, AreSeatsOn}
 use Rattle.pci_map.specs.Above.{AreSentAbove, AreInPlace}
 use Rattle.pci_map.proofs.above.in_place.Given as goal

@@ -2,9 +2,9 @@ use Rattle.std.proofs.Common.{ℕ, ◌≡◌, ◌∙◌, get_or, subst, sym, inl
 use Rattle.std.specs.Prelude.{MatchBool}
 use Rattle.pci_spec.specs.Slot.{Slot}
 use Rattle.pci_spec.specs.System.{Space}
-use Rattle.given_spec.specs.ToldClaims.{is_marked_held}
-use Rattle.given_spec.specs.ToldRegion.{ToldRegion}
-use Rattle.map_spec.specs.Regions.{OfLine}
+use Rattle.judge_spec.specs.ToldClaims.{is_marked_held}
+use Rattle.judge_spec.specs.ToldRegion.{ToldRegion}
+use Rattle.judge_spec.specs.Regions.{OfLine}
 use Rattle.pci_base.specs.declared.range.Range.{Range}
 use Rattle.pci_base.specs.Space.{space_of}
 use Rattle.pci_tree.specs.Ranges.{Holds, Covers}

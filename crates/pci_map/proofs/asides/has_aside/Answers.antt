@@ -4,7 +4,7 @@ use Rattle.std.proofs.lemmas.List.{take_all}
 use Rattle.std.proofs.lemmas.List.Elements.{Contains-get_or}
 use Rattle.std.specs.List.{Contains}
 use Rattle.pci_base.specs.Space.{space_of}
-use Rattle.map_spec.specs.Regions.{Own}
+use Rattle.judge_spec.specs.Regions.{Own}
 use Rattle.pci_tree.specs.declared.region.Region.{Region}
 use Rattle.pci_map.specs.Values.{value_of}
 use Rattle.pci_map.specs.Asides.{IsRegionAside, HasNoAside}

@@ -1,7 +1,7 @@
 use Rattle.std.proofs.Common.{take}
 use Rattle.pci_spec.specs.System.{System}
-use Rattle.given_spec.specs.Given.{Given}
-use Rattle.given_spec.specs.ToldClaims.{Told}
+use Rattle.judge_spec.specs.Given.{Given}
+use Rattle.judge_spec.specs.ToldClaims.{Told}
 use Rattle.pci_base.specs.Space.{space_of}
 use Rattle.pci_tree.specs.Outline.{Tree}
 use Rattle.pci_map.specs.Above.{AreSentAbove}

@@ -2,8 +2,8 @@ use Rattle.std.proofs.Common.{subst, refl, ap, sym, ◌∙◌, inl}
 use Rattle.std.specs.Prelude.{MatchBool}
 use Rattle.pci_spec.specs.Slot.{Slot}
 use Rattle.pci_base.specs.Space.{space_of}
-use Rattle.map_spec.specs.Lines.{IsOutOfPlace}
-use Rattle.map_spec.specs.Regions.{Own}
+use Rattle.judge_spec.specs.Lines.{IsOutOfPlace}
+use Rattle.judge_spec.specs.Regions.{Own}
 use Rattle.pci_tree.specs.declared.region.Region.{Region}
 use Rattle.pci_map.specs.Values.{value_of}
 use Rattle.pci_map.proofs.Tolds.{is_region, found_on}

@@ -3,12 +3,12 @@ use Rattle.std.specs.Prelude.{MatchBool}
 use Rattle.std.specs.String.{string_bytes}
 use Rattle.pci_spec.specs.Slot.{Slot}
 use Rattle.pci_base.specs.Space.{space_of}
-use Rattle.map_spec.specs.Lines.{IsOutOfPlace}
+use Rattle.judge_spec.specs.Lines.{IsOutOfPlace}
 use Rattle.pci_claims.specs.Values.{given_value}
 use Rattle.pci_map.specs.Values.{value_of}
 use Rattle.pci_map.specs.Left.{IsLeftIf}
 use Rattle.pci_map.specs.Asides.{IsNamedAt, AsideTexts, AreAsides}
-use Rattle.map_spec.specs.Regions.{Own}
+use Rattle.judge_spec.specs.Regions.{Own}
 use Rattle.pci_tree.specs.declared.region.Region.{Region}
 use Rattle.pci_map.proofs.Tolds.{is_region, found_on}
 use Rattle.pci_map.proofs.Lefts.{first_address}

@@ -1,7 +1,7 @@
 use Rattle.std.proofs.Common.{◌*◌}
 use Rattle.pci_spec.specs.System.{System, Io, Memory}
 use Rattle.pci_tree.specs.Outline.{Tree}
-use Rattle.given_spec.specs.ToldClaims.{Told}
+use Rattle.judge_spec.specs.ToldClaims.{Told}
 use Rattle.pci_claims.specs.Values.{given_value}
 use Rattle.pci_map.specs.Above.{AreSentAbove}
 use Rattle.pci_map.specs.Ways.{AreWays}

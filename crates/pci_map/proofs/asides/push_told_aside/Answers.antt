@@ -4,9 +4,9 @@ use Rattle.std.specs.String.{string_bytes}
 use Rattle.pci_spec.specs.Slot.{Slot}
 use Rattle.pci_spec.specs.System.{Space, IsAddress}
 use Rattle.pci_base.specs.declared.range.Range.{Range}
-use Rattle.given_spec.specs.ToldRegion.{ToldRegion}
-use Rattle.map_spec.specs.Lines.{IsOutOfPlace}
-use Rattle.map_spec.specs.Regions.{OfLine}
+use Rattle.judge_spec.specs.ToldRegion.{ToldRegion}
+use Rattle.judge_spec.specs.Lines.{IsOutOfPlace}
+use Rattle.judge_spec.specs.Regions.{OfLine}
 use Rattle.pci_base.specs.Space.{space_of}
 use Rattle.pci_claims.specs.Values.{given_value}
 use Rattle.pci_map.specs.Seats.{told_of}

@@ -1,8 +1,8 @@
 use Rattle.std.proofs.Common.{◌≡◌, ◌+◌, get_or, sym, ◌∙◌, subst, refl, arith, Some}
 use Rattle.std.specs.List.{slice_get}
 use Rattle.std.proofs.lemmas.Option.{slice_get-get_or}
-use Rattle.given_spec.specs.ToldForm.{blank}
-use Rattle.given_spec.specs.ToldRegion.{ToldRegion, IsToldIn}
+use Rattle.judge_spec.specs.ToldForm.{blank}
+use Rattle.judge_spec.specs.ToldRegion.{ToldRegion, IsToldIn}
 use Rattle.pci_claims.specs.Values.{given_value, told_value}
 use Rattle.pci_claims.proofs.AllClaiming.{on_at}
 use Rattle.pci_map.specs.Asides.{IsRangeFrom, AreAsides}

@@ -4,7 +4,7 @@ use Rattle.std.specs.String.{string_bytes}
 use Rattle.pci_spec.specs.Text.{slot_text, hex_byte}
 use Rattle.pci_spec.specs.Listing.{range_text}
 use Rattle.pci_spec.specs.Why.{amount_text, address_count}
-use Rattle.map_spec.specs.MapText.{part_name}
+use Rattle.judge_spec.specs.MapText.{part_name}
 use Rattle.pci_base.specs.Space.{space_of}
 use Rattle.pci_map.specs.Values.{part_of, value_of}
 use Rattle.pci_map.proofs.Asciis.{none_ascii, behind_ascii, extent_ascii, name_ascii, isa_ascii, space_ascii, end_ascii}

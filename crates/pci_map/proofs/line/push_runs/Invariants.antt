@@ -1,7 +1,7 @@
 use Rattle.std.proofs.Common.{◌≡◌, ◌++◌, map, take}
 use Rattle.std.specs.List.{flat_map}
 use Rattle.std.specs.String.{string_bytes}
-use Rattle.map_spec.specs.MapText.{free_line}
+use Rattle.judge_spec.specs.MapText.{free_line}
 use Rattle.pci_base.specs.Ranges.{decoded_range_of}
 use Rattle.pci_base.specs.Space.{space_of}
 use Rattle.pci_map.proofs.line.push_runs.Given as goal

@@ -1,6 +1,6 @@
 use Rattle.std.proofs.Common.{◌≡◌, ◌*◌, ◌++◌}
 use Rattle.std.specs.String.{string_bytes}
-use Rattle.map_spec.specs.MapText.{indent}
+use Rattle.judge_spec.specs.MapText.{indent}
 use Rattle.pci_map.proofs.line.push_steps.Given as goal
 
 abbrev pub invariant-loop : goal.invariant-loop

@@ -4,9 +4,9 @@ use Rattle.std.specs.String.{string_bytes}
 use Rattle.pci_spec.specs.Text.{slot_text}
 use Rattle.pci_spec.specs.Listing.{range_text}
 use Rattle.pci_spec.specs.Why.{amount_text, address_count}
-use Rattle.given_spec.specs.ToldLine.{register_text}
-use Rattle.given_spec.specs.ToldRegion.{told_extent}
-use Rattle.map_spec.specs.MapText.{indent, told_part_name}
+use Rattle.judge_spec.specs.ToldLine.{register_text}
+use Rattle.judge_spec.specs.ToldRegion.{told_extent}
+use Rattle.judge_spec.specs.MapText.{indent, told_part_name}
 use Rattle.pci_base.specs.Ranges.{decoded_range_of}
 use Rattle.pci_base.specs.Space.{space_of}
 use Rattle.pci_map.specs.Seats.{told_of}

@@ -3,9 +3,9 @@ use Rattle.std.specs.List.{flat_map, slice_get}
 use Rattle.std.specs.String.{string_bytes}
 use Rattle.std.proofs.lemmas.Option.{slice_get-get_or, get_or_from_slice_get}
 use Rattle.pci_spec.specs.Slot.{Slot, same_slot}
-use Rattle.given_spec.specs.ToldRegion.{ToldRegion}
+use Rattle.judge_spec.specs.ToldRegion.{ToldRegion}
 use Rattle.pci_map.specs.Off.{off_from, off_ranges_text}
-use Rattle.map_spec.specs.MapText.{map_told_line}
+use Rattle.judge_spec.specs.MapText.{map_told_line}
 use Rattle.pci_map.proofs.Asciis.{told_facts}
 use Rattle.pci_map.proofs.Ups.{same_slot_refl}
 use Rattle.pci_map.proofs.Offs.{off_skip, range_told, range_on, behind_none, none_behind}

@@ -3,7 +3,7 @@ use Rattle.std.specs.List.{AllWithin, flat_map}
 use Rattle.std.specs.Prelude.{length}
 use Rattle.std.specs.String.{string_bytes}
 use Rattle.pci_spec.specs.Slot.{slot_number}
-use Rattle.map_spec.specs.MapText.{map_told_line}
+use Rattle.judge_spec.specs.MapText.{map_told_line}
 use Rattle.pci_map.specs.Off.{off_from, off_ranges_text}
 use Rattle.pci_map.proofs.off.push_ranges.Given as goal
 

@@ -1,6 +1,6 @@
 use Rattle.std.proofs.Common.{sym, ◌∙◌, ap, map}
 use Rattle.std.proofs.lemmas.List.{take_all}
-use Rattle.given_spec.specs.UnclaimedLaws.{is_taking}
+use Rattle.judge_spec.specs.UnclaimedLaws.{is_taking}
 use Rattle.pci_claims.specs.Values.{taking_value}
 use Rattle.pci_claims.proofs.Bridging.{same_of}
 use Rattle.pci_map.proofs.TakerLists.{not_yet, found_at}

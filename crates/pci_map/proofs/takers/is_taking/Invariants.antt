@@ -1,5 +1,5 @@
 use Rattle.std.proofs.Common.{◌≡◌, false, map, take}
-use Rattle.given_spec.specs.UnclaimedLaws.{is_taking}
+use Rattle.judge_spec.specs.UnclaimedLaws.{is_taking}
 use Rattle.pci_claims.specs.Values.{taking_value}
 use Rattle.pci_map.proofs.takers.is_taking.Given as goal
 

@@ -5,7 +5,7 @@ use Rattle.pci_base.specs.Space.{space_of}
 use Rattle.pci_tree.specs.declared.region.Region.{Region}
 use Rattle.pci_claims.specs.Found.{NoneClaims, IsFoundIn}
 use Rattle.pci_claims.specs.Values.{given_value}
-use Rattle.map_spec.specs.Regions.{Own}
+use Rattle.judge_spec.specs.Regions.{Own}
 use Rattle.pci_map.specs.Values.{value_of}
 use Rattle.pci_map.proofs.Firsts.{found_region}
 use Rattle.pci_map.proofs.Lefts.{first_address}

@@ -1,5 +1,5 @@
 use Rattle.std.proofs.Common.{◌∙◌, ap}
-use Rattle.model_spec.specs.Taken.{isa_aside_by, snoop_aside_by, vga_aside_by}
+use Rattle.judge_spec.specs.Taken.{isa_aside_by, snoop_aside_by, vga_aside_by}
 use Rattle.pci_model.specs.WordsValue.{words_value}
 use Rattle.pci_model.proofs.aside.first_aside.Goals as goal
 

@@ -2,8 +2,8 @@ use Rattle.std.proofs.Common.{◌∙◌, ap, get_or, false}
 use Rattle.std.specs.Bool.{if◌then◌else◌}
 use Rattle.pci_image.specs.Bars.{decoded_kind_of}
 use Rattle.pci_image.specs.declared.bar.BarKind.TheVariants.{Io}
-use Rattle.model_spec.specs.Bytes.{cleared, width_of}
-use Rattle.model_spec.specs.Taken.{is_compatible}
+use Rattle.judge_spec.specs.Bytes.{cleared, width_of}
+use Rattle.judge_spec.specs.Taken.{is_compatible}
 use Rattle.pci_model.proofs.Channels.{one_more}
 use Rattle.pci_model.proofs.aside.leave_channels_out.Goals as goal
 

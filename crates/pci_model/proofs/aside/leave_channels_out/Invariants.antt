@@ -1,5 +1,5 @@
 use Rattle.std.proofs.Common.{◌≡◌, take}
-use Rattle.model_spec.specs.Bytes.{without_bars}
+use Rattle.judge_spec.specs.Bytes.{without_bars}
 use Rattle.pci_model.proofs.Channels.{left_out}
 use Rattle.pci_model.proofs.aside.leave_channels_out.Given as goal
 

@@ -5,8 +5,8 @@ use Rattle.pci_spec.specs.System.{Function}
 use Rattle.pci_spec.specs.Order.{Place}
 use Rattle.pci_function.specs.Fault.{fault_of}
 use Rattle.pci_function.specs.Values.{record_value}
-use Rattle.model_spec.specs.Taken.{HasNoOwnFaultBefore, is_ide, is_compatible, is_unnumbered_bridge}
-use Rattle.model_spec.specs.Bytes.{without_bars}
+use Rattle.judge_spec.specs.Taken.{HasNoOwnFaultBefore, is_ide, is_compatible, is_unnumbered_bridge}
+use Rattle.judge_spec.specs.Bytes.{without_bars}
 use Rattle.pci_spec.specs.Decoded.{DecodedBar}
 use Rattle.pci_image.specs.Bars.{decoded_bar_of}
 use Rattle.pci_image.specs.declared.bar.Bar.{Bar}

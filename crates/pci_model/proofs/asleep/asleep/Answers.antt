@@ -4,8 +4,8 @@ use Rattle.std.proofs.lemmas.Bool.{both_ways, not-true}
 use Rattle.pci_spec.specs.Slot.{Slot}
 use Rattle.pci_spec.specs.Text.{Block, slots_of}
 use Rattle.pci_spec.specs.System.{Function, function_of, system_of}
-use Rattle.model_spec.specs.Asleep.{AreAsleepBy}
-use Rattle.model_spec.specs.Taken.{IsAsleepBy}
+use Rattle.judge_spec.specs.Asleep.{AreAsleepBy}
+use Rattle.judge_spec.specs.Taken.{IsAsleepBy}
 use Rattle.pci_model.specs.WordsValue.{words_value}
 use Rattle.pci_model.proofs.Sleepers.{AreAsleepSoFar, all_asleep, next_asleep, next_awake, none_asleep}
 use Rattle.pci_model.proofs.asleep.asleep.Goals as goal

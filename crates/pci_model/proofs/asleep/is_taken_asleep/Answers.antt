@@ -1,7 +1,7 @@
 use Rattle.std.proofs.Common.{IsTrue, subst}
 use Rattle.std.specs.Prelude.{◌↔◌}
 use Rattle.pci_spec.specs.System.{Function}
-use Rattle.model_spec.specs.Taken.{IsAsleep}
+use Rattle.judge_spec.specs.Taken.{IsAsleep}
 use Rattle.pci_model.proofs.asleep.is_taken_asleep.Goals as goal
 
 pub returns : goal.returns

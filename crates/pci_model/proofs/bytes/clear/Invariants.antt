@@ -1,5 +1,5 @@
 use Rattle.std.proofs.Common.{◌≡◌}
-use Rattle.model_spec.specs.Bytes as bytes
+use Rattle.judge_spec.specs.Bytes as bytes
 use Rattle.pci_model.proofs.bytes.clear.Given as goal
 
 abbrev pub invariant-loop-j : goal.invariant-loop-j

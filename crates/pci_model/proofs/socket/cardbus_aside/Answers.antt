@@ -1,7 +1,7 @@
 use Rattle.std.proofs.Common.{◌≡◌, false, ◌&&◌, refl, sym, ◌∙◌}
 use Rattle.std.proofs.Math.Bool.{and-false}
 use Rattle.pci_spec.specs.System.{Function}
-use Rattle.model_spec.specs.Taken.{is_cardbus}
+use Rattle.judge_spec.specs.Taken.{is_cardbus}
 use Rattle.pci_model.specs.WordsValue.{words_value}
 use Rattle.pci_model.proofs.Parts.{header_stays, socket_aside}
 use Rattle.pci_model.proofs.socket.cardbus_aside.Goals as goal

@@ -1,7 +1,7 @@
 use Rattle.std.proofs.Common.{◌≡◌, ℕ, List, false, ◌&&◌, refl, sym, ◌∙◌, ap}
 use Rattle.std.proofs.Math.Bool.{and-false}
 use Rattle.pci_spec.specs.System.{Function, system_of}
-use Rattle.given_spec.specs.Words.{is_alone}
+use Rattle.judge_spec.specs.Words.{is_alone}
 use Rattle.pci_model.specs.WordsValue.{words_value}
 use Rattle.pci_model.proofs.Rivals.{left_as_is, made_positive}
 use Rattle.pci_model.proofs.subtractive.unclaimed_aside.Goals as goal

@@ -2,8 +2,8 @@ use Rattle.std.proofs.Common.{◌≡◌, IsTrue, subst}
 use Rattle.pci_spec.specs.Text.{slots_of}
 use Rattle.pci_spec.specs.System.{Function}
 use Rattle.pci_spec.specs.Order.{Place}
-use Rattle.model_spec.specs.Bytes.{switched_off}
-use Rattle.model_spec.specs.Taken.{FixedParts, HasNoOwnFaultBefore, IsAsleep, IsWhere, bridge_aside, first_aside, fixed_parts_by, may_have_parts_by, parts_aside, function_with_image}
+use Rattle.judge_spec.specs.Bytes.{switched_off}
+use Rattle.judge_spec.specs.Taken.{FixedParts, HasNoOwnFaultBefore, IsAsleep, IsWhere, bridge_aside, first_aside, fixed_parts_by, may_have_parts_by, parts_aside, function_with_image}
 use Rattle.pci_model.specs.FixedPartsValue.{fixed_value}
 use Rattle.pci_model.specs.WordsValue.{words_value}
 use Rattle.pci_model.proofs.take.take.Goals as goal

@@ -1,8 +1,8 @@
 use Rattle.std.proofs.Common.{◌≡◌, ◌<◌, ◌+◌, ◌++◌, List, [], ◌∷◌, length, arith, sym, ◌∙◌, ap, subst}
 use Rattle.pci_spec.specs.Text.{Block, IsDump, slots_of}
 use Rattle.pci_spec.specs.System.{function_of, system_of}
-use Rattle.model_spec.specs.Taken.{IsTakenAs}
-use Rattle.model_spec.specs.TakenDumps.{AreTakenAs}
+use Rattle.judge_spec.specs.Taken.{IsTakenAs}
+use Rattle.judge_spec.specs.TakenDumps.{AreTakenAs}
 use Rattle.pci_model.specs.Subtractive.{unclaimed_aside_of}
 use Rattle.pci_model.specs.WordsValue.{words_value}
 use Rattle.pci_spec.proofs.Pairing.{same_length}

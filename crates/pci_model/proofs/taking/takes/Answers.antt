@@ -4,8 +4,8 @@ use Rattle.pci_spec.specs.Slot.{Slot}
 use Rattle.pci_spec.specs.Text.{Block}
 use Rattle.pci_spec.specs.System.{function_of, system_of}
 use Rattle.pci_spec.proofs.Pairing.{slots-system_of}
-use Rattle.given_spec.specs.Words as given
-use Rattle.model_spec.specs.Taken.{is_anyone_behind}
+use Rattle.judge_spec.specs.Words as given
+use Rattle.judge_spec.specs.Taken.{is_anyone_behind}
 use Rattle.pci_model.proofs.taking.takes.Goals as goal
 
 pub returns-then-is_alone : goal.returns-then-is_alone

@@ -2,7 +2,7 @@ use Rattle.std.proofs.Common.{◌≡◌, true, Some, sym, ◌∙◌, ap}
 use Rattle.pci_spec.specs.Window.{bounds_at, breaks_window_rule}
 use Rattle.pci_spec.specs.System.{Function}
 use Rattle.pci_base.specs.WindowKinds.{kind_value}
-use Rattle.model_spec.specs.Windows.{shown_nibble}
+use Rattle.judge_spec.specs.Windows.{shown_nibble}
 use Rattle.pci_model.proofs.ShownWindows.{one_shown}
 use Rattle.pci_model.proofs.windows.window_as_shown.Goals as goal
 

@@ -1,7 +1,7 @@
 use Rattle.std.proofs.Common.{◌≤◌, length, map, Err, arith, refl, sym, ap, subst, ◌∙◌}
 use Rattle.std.proofs.lemmas.List.{length-map}
 use Rattle.pci_base.specs.declared.memory.Refused.TheVariants as refusals
-use Rattle.given_spec.specs.Told.{IsTold}
+use Rattle.judge_spec.specs.Told.{IsTold}
 use Rattle.pci_claims.specs.Values.{legacy_value}
 use Rattle.pci_model_settle.specs.ClaimLines.{Kept, claim_lines, lines_with}
 use Rattle.pci_model_settle.specs.LineValues.{line_value}

@@ -1,6 +1,6 @@
 use Rattle.std.proofs.Common.{◌≡◌, ◌∙◌, ap, arith, length, ◌+◌, ◌/◌, ◌%◌, ◌-◌, set}
 use Rattle.std.proofs.lemmas.List.{length-set}
-use Rattle.model_spec.specs.Windows.{with_number}
+use Rattle.judge_spec.specs.Windows.{with_number}
 use Rattle.pci_model_settle.proofs.Puts.{byte_put, byte_past}
 use Rattle.pci_model_settle.proofs.listed.put_bytes.Goals.{then-place-lt-IMAGE_LEN, else-place-lt-IMAGE_LEN}
 use Rattle.pci_model_settle.proofs.listed.put_bytes.Goals as goal

@@ -1,5 +1,5 @@
 use Rattle.std.proofs.Common.{◌≡◌, ◌+◌, ◌-◌, length}
-use Rattle.model_spec.specs.Windows.{with_number}
+use Rattle.judge_spec.specs.Windows.{with_number}
 use Rattle.pci_model_settle.proofs.listed.put_bytes.Given as goal
 
 -- what is left to put makes the whole of it

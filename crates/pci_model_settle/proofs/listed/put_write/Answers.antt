@@ -1,7 +1,7 @@
 use Rattle.std.proofs.Common.{◌≡◌, ◌==◌, ◌&&◌, ◌<◌, List, length, arith, sym, ◌∙◌, ap, subst, map, set, get_or, if◌then◌else◌}
 use Rattle.pci_spec.specs.Slot.{IsRising, same_slot}
 use Rattle.pci_spec.specs.Text.{Block, slots_of}
-use Rattle.model_spec.specs.Windows.{with_number}
+use Rattle.judge_spec.specs.Windows.{with_number}
 use Rattle.pci_plan.specs.Writes.{write_value}
 use Rattle.pci_model_settle.specs.Listed.{block_after}
 use Rattle.pci_model_settle.proofs.SlotBlocks.{none_written, one_written, by_numbers}

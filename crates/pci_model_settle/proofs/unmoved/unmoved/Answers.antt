@@ -5,7 +5,7 @@ use Rattle.pci_spec.specs.Slot.{Slot}
 use Rattle.pci_spec.specs.Text.{Block, slots_of}
 use Rattle.pci_spec.specs.System.{Function, System, function_of, system_of}
 use Rattle.pci_spec.proofs.Pairing.{same_length}
-use Rattle.model_spec.specs.Words.{Words}
+use Rattle.judge_spec.specs.ModelWords.{Words}
 use Rattle.pci_model.specs.WordsValue.{words_value}
 use Rattle.pci_model_settle.specs.Unmoved.{is_among, is_below, is_bridge_unmoved, is_unmoved, unmoved_among}
 use Rattle.pci_model_settle.specs.SleepTables.{IsSlotTable, is_above_by}

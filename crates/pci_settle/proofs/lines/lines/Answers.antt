@@ -1,5 +1,5 @@
 use Rattle.std.proofs.Common.{List, ap, subst, sym, ◌∙◌}
-use Rattle.given_spec.specs.Told.{ToldRange, IsTold}
+use Rattle.judge_spec.specs.Told.{ToldRange, IsTold}
 use Rattle.pci_tree.specs.Roots.{buses_of}
 use Rattle.pci_settle.specs.Lines.{AreLines, told_row}
 use Rattle.pci_settle.proofs.Rows.{line_more, lines_sorted, rows_forward}

@@ -2,7 +2,7 @@ use Rattle.std.proofs.Common.{◌∙◌, ◌&&◌, List, length, sym, ap}
 use Rattle.std.specs.Bool.{◌==◌}
 use Rattle.std.proofs.lemmas.Bool.{false≢true, and_parts}
 use Rattle.std.proofs.lemmas.Result.{err_from_is_err_and}
-use Rattle.given_spec.specs.Told.{ToldRange}
+use Rattle.judge_spec.specs.Told.{ToldRange}
 use Rattle.pci_base.specs.declared.slot.Slot.{Slot}
 use Rattle.pci_settle_writes.proofs.IoFirst.{empty_if}
 use Rattle.pci_settle_writes.proofs.io.place_io_unfixed.Goals as goal

@@ -1,9 +1,9 @@
 use Rattle.std.proofs.Common.{◌≡◌, ◌+◌, length, false, Some, arith, sym, ◌∙◌, ap, subst}
 use Rattle.std.specs.Option.{option_map}
-use Rattle.given_spec.specs.Told.{ToldRange}
+use Rattle.judge_spec.specs.Told.{ToldRange}
 use Rattle.settle_spec.specs.Keeping.Writes.{is_not_reached}
 use Rattle.std.proofs.lemmas.Option.{same_Some}
-use Rattle.given_spec.specs.ToldClaims.{told_register}
+use Rattle.judge_spec.specs.ToldClaims.{told_register}
 use Rattle.pci_base.specs.declared.window_kind.WindowKind.TheVariants as kinds
 use Rattle.pci_stand.specs.declared.told_line.ToldLine.{ToldLine}
 use Rattle.pci_settle_writes.specs.declared.lack.SettleFault.TheVariants as fault

@@ -1,5 +1,5 @@
 use Rattle.std.proofs.Common.{rules, ◌≡◌, ◌≤◌, arith, length, get_or, false, ◌&&◌, refl, sym, ◌∙◌, ap, subst}
-use Rattle.given_spec.specs.Told.{ToldRange, IsTold}
+use Rattle.judge_spec.specs.Told.{ToldRange, IsTold}
 use Rattle.pci_base.specs.Space.{space_of}
 use Rattle.pci_settling.specs.Answers.{is_command_in, is_answering}
 use Rattle.pci_settling.proofs.AnsweringFunctions.{none_below, none_next, none_after, none_answers, one_answers, answers_here, not_here}

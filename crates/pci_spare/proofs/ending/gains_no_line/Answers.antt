@@ -3,7 +3,7 @@ use Rattle.std.specs.List.{list_all}
 use Rattle.pci_spec.specs.Slot.{Slot}
 use Rattle.pci_spec.specs.System.{Space}
 use Rattle.pci_spec.specs.Decoded.{Range as DecodedRange}
-use Rattle.given_spec.specs.ToldRegion.{told_regions}
+use Rattle.judge_spec.specs.ToldRegion.{told_regions}
 use Rattle.settle_spec.specs.Lines.{keeps_off}
 use Rattle.pci_base.specs.Space.{space_of}
 use Rattle.pci_function.specs.declared.record.Record.{Record}

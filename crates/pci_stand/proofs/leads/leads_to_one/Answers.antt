@@ -2,7 +2,7 @@ use Rattle.std.proofs.Common.{◌≤◌, ◌<◌, length, subst, sym, ◌∙◌}
 use Rattle.std.specs.List.{AllWithin}
 use Rattle.std.proofs.lemmas.Bool.{eqb-true}
 use Rattle.std.proofs.lemmas.List.{nil_from_length}
-use Rattle.given_spec.specs.Told.{ToldRange}
+use Rattle.judge_spec.specs.Told.{ToldRange}
 use Rattle.pci_stand.proofs.Leading.{all_held, no_bridge_leads, by_lines}
 use Rattle.pci_stand.proofs.leads.leads_to_one.Goals as goal
 

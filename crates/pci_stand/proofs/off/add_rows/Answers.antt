@@ -1,6 +1,6 @@
 use Rattle.std.proofs.Common.{◌≡◌, ◌<◌, ◌≤◌, ◌+◌, sym, ap, ◌∙◌, arith, length, get_or, subst}
 use Rattle.std.proofs.lemmas.List.{get_or_default}
-use Rattle.given_spec.specs.Told.{ToldRange}
+use Rattle.judge_spec.specs.Told.{ToldRange}
 use Rattle.pci_stand.specs.declared.told_line.ToldLine.{ToldLine}
 use Rattle.pci_stand.specs.RangePass.{no_line, no_range}
 use Rattle.pci_stand.proofs.LineRowing.{AreRowsBelow, rows_none, rows_skip, rows_more, rows_all}

@@ -1,5 +1,5 @@
 use Rattle.std.proofs.Common.{◌≡◌, length}
-use Rattle.given_spec.specs.Told.{IsTold}
+use Rattle.judge_spec.specs.Told.{IsTold}
 use Rattle.settle_spec.specs.Lists.{Request}
 use Rattle.pci_spec.specs.System.{System}
 use Rattle.pci_settle.specs.Lists.{lists_value}

@@ -2,7 +2,7 @@ use Rattle.std.proofs.Common.{◌≡◌, ◌∙◌, true, false, ap, sym, subst,
 use Rattle.std.specs.List.{list_any}
 use Rattle.std.proofs.lemmas.List.Elements.{All-contains}
 use Rattle.pci_spec.specs.Slot.{IsSlot, slot_number}
-use Rattle.given_spec.specs.Told.{ToldRange}
+use Rattle.judge_spec.specs.Told.{ToldRange}
 use Rattle.settle_spec.specs.Lines.{is_held_line}
 use Rattle.settle_spec.specs.Stands.{stands, is_range_in_place, is_range_kept_off}
 use Rattle.pci_stand.specs.declared.rows.Row.{Row}

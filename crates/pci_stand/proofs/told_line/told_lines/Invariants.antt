@@ -1,6 +1,6 @@
 use Rattle.std.proofs.Common.{◌≡◌, ◌<◌, ℕ, [], length, get_or}
 use Rattle.pci_spec.specs.System.{System}
-use Rattle.given_spec.specs.Told.{ToldRange}
+use Rattle.judge_spec.specs.Told.{ToldRange}
 use Rattle.settle_spec.specs.Lists.{Request}
 use Rattle.pci_tree.specs.Roots.{buses_of}
 use Rattle.pci_stand.specs.declared.told_line.ToldLine.{ToldLine}

@@ -1,12 +1,12 @@
 use Rattle.std.proofs.Common.{arith, take, sym, refl, subst, ◌∙◌, List, ℕ}
 use Rattle.std.proofs.lemmas.List.{length-take}
 use Rattle.std.proofs.lemmas.Result.{err_from_is_err_and}
-use Rattle.given_spec.specs.ToldForm.{ToldSoFar}
-use Rattle.given_spec.proofs.ToldRows.{one_row}
+use Rattle.judge_spec.specs.ToldForm.{ToldSoFar}
+use Rattle.judge_spec.proofs.ToldRows.{one_row}
 use Rattle.pci_told.specs.Faults.{IsToldTextFault}
 use Rattle.pci_told.proofs.Taken.{IsReadOn, read_none, read_more, read_over, read_begun, read_ranges, read_further, read_fault, read_whole, read_ended, ok_by, err_by}
-use Rattle.given_spec.specs.ToldText.{IsToldTextOf}
-use Rattle.given_spec.specs.Told.{ToldRange}
+use Rattle.judge_spec.specs.ToldText.{IsToldTextOf}
+use Rattle.judge_spec.specs.Told.{ToldRange}
 use Rattle.pci_told.proofs.reader.read_told.Goals as goal
 
 pub loop-lines-init : goal.loop-lines-init

@@ -1,5 +1,5 @@
 use Rattle.std.proofs.Common.{◌≡◌, ◌-◌, length}
-use Rattle.given_spec.proofs.ToldLengths.{read_length}
+use Rattle.judge_spec.proofs.ToldLengths.{read_length}
 use Rattle.pci_told.proofs.Taken.{IsReadOn}
 use Rattle.pci_told.proofs.reader.read_told.Given as goal
 

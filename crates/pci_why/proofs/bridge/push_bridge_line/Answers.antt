@@ -6,7 +6,7 @@ use Rattle.pci_base.specs.Space.{space_of, is_on}
 use Rattle.pci_image.specs.Windows.{decoded_windows_of}
 use Rattle.pci_function.specs.declared.record.Bridge.{Bridge}
 use Rattle.pci_function.specs.Values.{record_value, bridge_value}
-use Rattle.given_spec.specs.Why.{isa_words, unclaimed_words, legacy_words}
+use Rattle.judge_spec.specs.Why.{isa_words, unclaimed_words, legacy_words}
 use Rattle.pci_claims.specs.Values.{given_value}
 use Rattle.pci_why.specs.Bridges.{bridge_text}
 use Rattle.pci_why.proofs.LegacyWords.{line_ended, two_words}

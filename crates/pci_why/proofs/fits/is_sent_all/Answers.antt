@@ -2,7 +2,7 @@ use Rattle.std.proofs.Common.{List, ℕ, ◌&&◌, subst, sym, ap, ◌∙◌}
 use Rattle.std.specs.Prelude.{not}
 use Rattle.std.specs.List.{Contains}
 use Rattle.std.proofs.lemmas.Bool.{iff_false}
-use Rattle.given_spec.specs.Why.{is_said}
+use Rattle.judge_spec.specs.Why.{is_said}
 use Rattle.pci_base.specs.Space.{space_of}
 use Rattle.pci_claims.specs.Values.{given_value}
 use Rattle.pci_why.proofs.FitsTold.{no_root}

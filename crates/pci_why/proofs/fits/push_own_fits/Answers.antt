@@ -4,7 +4,7 @@ use Rattle.std.specs.String.{string_bytes}
 use Rattle.pci_spec.specs.Bus.{is_root}
 use Rattle.pci_spec.specs.Decoded.{HasRecords, Record}
 use Rattle.pci_spec.specs.Mark.{all_named}
-use Rattle.given_spec.specs.Why.{is_said}
+use Rattle.judge_spec.specs.Why.{is_said}
 use Rattle.pci_base.specs.Space.{space_of}
 use Rattle.pci_tree.specs.declared.region.Region.{Region}
 use Rattle.pci_tree.specs.declared.region.Part.TheVariants.{Window}

@@ -3,7 +3,7 @@ use Rattle.std.proofs.lemmas.List.{append_assoc}
 use Rattle.std.proofs.lemmas.Result.{on_ok_weaker}
 use Rattle.pci_base.specs.Ranges.{decoded_range_of}
 use Rattle.pci_base.specs.Space.{space_of}
-use Rattle.given_spec.specs.Why.{ranges_words}
+use Rattle.judge_spec.specs.Why.{ranges_words}
 use Rattle.pci_why.proofs.LegacyWords.{words_spaced}
 use Rattle.pci_why.proofs.host.push_host.Goals as goal
 

@@ -4,7 +4,7 @@ use Rattle.std.specs.String.{string_bytes}
 use Rattle.pci_base.specs.declared.range.Range.{Range}
 use Rattle.pci_base.specs.Ranges.{decoded_range_of}
 use Rattle.pci_base.specs.Space.{space_of}
-use Rattle.given_spec.specs.Why.{host_line}
+use Rattle.judge_spec.specs.Why.{host_line}
 use Rattle.pci_claims.specs.Values.{host_value, given_value, told_value}
 use Rattle.pci_why.proofs.Hosted.{claims_there, slot_missing, no_list_missing, outside_told}
 use Rattle.pci_why.proofs.host.push_outside.Goals as goal

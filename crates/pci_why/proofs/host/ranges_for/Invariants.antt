@@ -1,6 +1,6 @@
 use Rattle.std.proofs.Common.{◌≡◌, map, take}
 use Rattle.pci_base.specs.Ranges.{decoded_range_of}
-use Rattle.given_spec.specs.Why.{ranges_for}
+use Rattle.judge_spec.specs.Why.{ranges_for}
 use Rattle.pci_claims.specs.Values.{host_value}
 use Rattle.pci_why.proofs.host.ranges_for.Given as goal
 

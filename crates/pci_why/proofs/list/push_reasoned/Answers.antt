@@ -2,7 +2,7 @@ use Rattle.std.proofs.Common.{◌≡◌, ◌+◌, ◌++◌, ◌∷◌, [], List,
 use Rattle.std.proofs.lemmas.List.{map-append, take_more}
 use Rattle.std.specs.String.{string_bytes}
 use Rattle.pci_spec.specs.Mark.{all_named}
-use Rattle.given_spec.specs.ToldFault as spec
+use Rattle.judge_spec.specs.ToldFault as spec
 use Rattle.pci_claims.specs.Values.{given_value, told_value}
 use Rattle.pci_given.specs.AllLines.{fault_of}
 use Rattle.pci_why.specs.Lists.{AreReasonedTold}

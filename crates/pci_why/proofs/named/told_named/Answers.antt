@@ -1,6 +1,6 @@
 use Rattle.std.proofs.Common.{ap, refl}
 use Rattle.pci_spec.specs.Fault.{named_region}
-use Rattle.given_spec.specs.Told.{ToldRange}
+use Rattle.judge_spec.specs.Told.{ToldRange}
 use Rattle.pci_base.specs.Space.{space_of}
 use Rattle.pci_claims.specs.Values.{given_value, told_value}
 use Rattle.pci_why.specs.declared.named.Shown.TheVariants.{OfLine}

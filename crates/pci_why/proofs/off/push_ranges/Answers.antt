@@ -1,6 +1,6 @@
 use Rattle.std.proofs.Common.{rules, ◌≡◌, ◌+◌, ◌++◌, ap, ◌∙◌, subst, sym, refl, arith, get_or, false}
 use Rattle.std.specs.String.{string_bytes}
-use Rattle.given_spec.specs.Told.{ToldRange, IsToldRange}
+use Rattle.judge_spec.specs.Told.{ToldRange, IsToldRange}
 use Rattle.pci_why.specs.Off.{range_off_text}
 use Rattle.pci_why.proofs.OffRanges.{one_region, off_start, off_more, off_end, none_behind}
 use Rattle.pci_why.proofs.off.push_ranges.Goals as goal

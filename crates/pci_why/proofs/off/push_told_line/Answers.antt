@@ -3,7 +3,7 @@ use Rattle.std.specs.String.{string_bytes}
 use Rattle.std.proofs.lemmas.List.{append_assoc}
 use Rattle.std.proofs.lemmas.Result.{on_ok_weaker}
 use Rattle.pci_spec.specs.Listing.{words}
-use Rattle.given_spec.specs.ToldRegion.{told_words}
+use Rattle.judge_spec.specs.ToldRegion.{told_words}
 use Rattle.pci_why.proofs.off.push_told_line.Goals as goal
 
 pub returns : goal.returns

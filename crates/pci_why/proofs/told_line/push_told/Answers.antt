@@ -6,9 +6,9 @@ use Rattle.std.proofs.lemmas.Result.{on_ok_weaker}
 use Rattle.pci_spec.specs.Text.{slot_text}
 use Rattle.pci_spec.specs.Listing.{words}
 use Rattle.pci_spec.specs.Why.{space_words, extent_words}
-use Rattle.given_spec.specs.Told.{ToldRange, is_name_byte}
-use Rattle.given_spec.specs.ToldLine.{register_text}
-use Rattle.given_spec.specs.ToldRegion.{mark_word, told_extent, told_words}
+use Rattle.judge_spec.specs.Told.{ToldRange, is_name_byte}
+use Rattle.judge_spec.specs.ToldLine.{register_text}
+use Rattle.judge_spec.specs.ToldRegion.{mark_word, told_extent, told_words}
 use Rattle.pci_base.specs.Space.{space_of}
 use Rattle.pci_told.specs.Marks.{mark_of}
 use Rattle.pci_why.proofs.ToldTexts.{told_pushed}

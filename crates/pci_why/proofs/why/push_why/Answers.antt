@@ -2,7 +2,7 @@ use Rattle.std.proofs.Common.{subst}
 use Rattle.std.specs.String.{string_bytes}
 use Rattle.std.proofs.lemmas.Result.{on_ok_weaker}
 use Rattle.pci_spec.specs.Mark.{all_named}
-use Rattle.given_spec.specs.ToldFault.{Fault}
+use Rattle.judge_spec.specs.ToldFault.{Fault}
 use Rattle.pci_claims.specs.Values.{given_value, told_value}
 use Rattle.pci_given.specs.AllLines.{fault_of}
 use Rattle.pci_why.specs.Whys.{IsWhyTold}

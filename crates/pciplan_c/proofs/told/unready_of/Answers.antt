@@ -1,6 +1,6 @@
 use Rattle.std.proofs.Common.{List, map, sym, subst}
-use Rattle.given_spec.specs.Given.{nothing_given}
-use Rattle.given_spec.specs.Told.{ToldRange}
+use Rattle.judge_spec.specs.Given.{nothing_given}
+use Rattle.judge_spec.specs.Told.{ToldRange}
 use Rattle.pci_given.specs.AllLines.{fault_of}
 use Rattle.pci_given.specs.Every.{AreBefore}
 use Rattle.pci_given.specs.declared.any_fault.AnyFault.{AnyFault}

@@ -1,6 +1,6 @@
 use Rattle.std.proofs.Common.{sym, ◌∙◌, ap, subst}
 use Rattle.std.specs.Prelude.{not}
-use Rattle.model_spec.specs.Words.{Cardbus, Ide, Isa, Power, Reset, Snoop, Subtractive, Unclaimed, Unnumbered, Windows}
+use Rattle.judge_spec.specs.ModelWords.{Cardbus, Ide, Isa, Power, Reset, Snoop, Subtractive, Unclaimed, Unnumbered, Windows}
 use Rattle.pci_model.specs.WordsValue.{words_value, vga_value}
 use Rattle.pciplan_lists.specs.NameWords.{name_value, IsTooMuch}
 use Rattle.pciplan_lists.proofs.ModelWords.{code_too_much, counts_already}

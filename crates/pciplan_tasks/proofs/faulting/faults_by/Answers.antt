@@ -1,6 +1,6 @@
 use Rattle.std.proofs.Common.{List, ◌∙◌, subst}
 use Rattle.std.proofs.lemmas.Result.{IfOk-weaker}
-use Rattle.given_spec.specs.Told.{ToldRange}
+use Rattle.judge_spec.specs.Told.{ToldRange}
 use Rattle.pci_tree.specs.Roots.{buses_of}
 use Rattle.pci_claims.specs.Values.{given_value, told_value}
 use Rattle.pciplan_tasks.specs.Answers.{answer_of}

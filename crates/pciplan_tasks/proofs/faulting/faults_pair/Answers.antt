@@ -3,8 +3,8 @@ use Rattle.std.specs.Prelude.{◌==◌, length}
 use Rattle.std.specs.String.{string_bytes}
 use Rattle.pci_spec.specs.Text.{Block}
 use Rattle.pci_spec.specs.Mark.{all_named}
-use Rattle.given_spec.specs.Given.{TakingBridge}
-use Rattle.given_spec.specs.UnclaimedLaws.{with_taking}
+use Rattle.judge_spec.specs.Given.{TakingBridge}
+use Rattle.judge_spec.specs.UnclaimedLaws.{with_taking}
 use Rattle.pci_tree.specs.Roots.{buses_of}
 use Rattle.pci_given.specs.AllLines.{fault_of}
 use Rattle.pci_given.specs.Every.{AreSound}

@@ -6,10 +6,10 @@ use Rattle.pci_spec.specs.System.{System}
 use Rattle.pci_tree.specs.Roots.{buses_of}
 use Rattle.pci_tree.specs.Trees.{HasTree}
 use Rattle.pci_claims.specs.Values.{given_value, taking_value, told_value}
-use Rattle.given_spec.specs.Given.{TakingBridge, nothing_given}
-use Rattle.given_spec.specs.ToldNumbered.{AreListedIn}
-use Rattle.given_spec.specs.UnclaimedLaws.{with_taking}
-use Rattle.map_spec.specs.MapText.{IsMapText}
+use Rattle.judge_spec.specs.Given.{TakingBridge, nothing_given}
+use Rattle.judge_spec.specs.ToldNumbered.{AreListedIn}
+use Rattle.judge_spec.specs.UnclaimedLaws.{with_taking}
+use Rattle.judge_spec.specs.MapText.{IsMapText}
 use Rattle.pci_given.specs.AllLines.{fault_of}
 use Rattle.pci_given.specs.declared.any_fault.AnyFault.{AnyFault}
 use Rattle.pciplan_tasks.specs.MapAnswers.{IsFirstLine, IsMapped}

@@ -1,6 +1,6 @@
 use Rattle.std.proofs.Common.{List, ◌∙◌, subst, map}
-use Rattle.given_spec.specs.Told.{ToldRange}
-use Rattle.given_spec.specs.UnclaimedLaws.{with_taking}
+use Rattle.judge_spec.specs.Told.{ToldRange}
+use Rattle.judge_spec.specs.UnclaimedLaws.{with_taking}
 use Rattle.pci_tree.specs.Roots.{buses_of}
 use Rattle.pci_claims.specs.Values.{given_value, told_value}
 use Rattle.pci_given.specs.AllLines.{fault_of}

@@ -1,6 +1,6 @@
 use Rattle.std.proofs.Common.{◌≡◌, ◌<◌, List, Err, length, map, sym, ◌∙◌, ap, subst}
 use Rattle.pci_base.specs.declared.memory.Refused.TheVariants as refusals
-use Rattle.given_spec.specs.Told.{ToldRange}
+use Rattle.judge_spec.specs.Told.{ToldRange}
 use Rattle.pci_model_settle.specs.ClaimLines.{own_lines}
 use Rattle.pci_model_settle.specs.LineValues.{line_value}
 use Rattle.pciplan_tasks.specs.Also.{ranges_told}

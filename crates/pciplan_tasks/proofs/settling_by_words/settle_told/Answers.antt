@@ -1,7 +1,7 @@
 use Rattle.std.proofs.Common.{List, [], ap, map, sym, ◌∙◌, subst, inl, inr}
 use Rattle.std.specs.Prelude.{IfOk}
-use Rattle.given_spec.specs.Given.{nothing_given}
-use Rattle.given_spec.specs.Told.{ToldRange}
+use Rattle.judge_spec.specs.Given.{nothing_given}
+use Rattle.judge_spec.specs.Told.{ToldRange}
 use Rattle.pci_given.specs.AllLines.{fault_of}
 use Rattle.pci_given.specs.Every.{AreBefore, AreReady}
 use Rattle.pci_given.specs.declared.any_fault.AnyFault.{AnyFault}

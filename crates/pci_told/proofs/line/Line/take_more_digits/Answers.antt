@@ -1,5 +1,5 @@
 use Rattle.std.proofs.Common.{arith, ap, sym, ◌∙◌, ◌≢◌, ◌+◌, ◌*◌, subst}
-use Rattle.given_spec.specs.ToldForm.{digits_of}
+use Rattle.judge_spec.specs.ToldForm.{digits_of}
 use Rattle.pci_told.specs.Places.{field_of}
 use Rattle.pci_told.proofs.Digits.{digit_none, digit_some}
 use Rattle.pci_told.proofs.Addresses.{AreDigitsTaken, begin_with, one_taken, within_small}

@@ -1,5 +1,0 @@
-use Rattle.given_spec.proofs.Taken.{no_palette_snoop}
-use Rattle.given_spec.proofs.given_laws.taken_functions_have_no_palette_snoop.Goals as goal
-
-pub returns : goal.returns
-returns c = record { none = no_palette_snoop }

@@ -1,5 +1,0 @@
-use Rattle.given_spec.proofs.Writing.{written_is_moved}
-use Rattle.given_spec.proofs.moved_laws.what_is_written_is_moved.Goals as goal
-
-pub returns : goal.returns
-returns c = written_is_moved

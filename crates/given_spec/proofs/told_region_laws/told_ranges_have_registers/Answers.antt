@@ -1,9 +1,0 @@
-use Rattle.given_spec.proofs.ToldNumbering.{regions_are_numbered, off_ranges_are_exact, held_are_not_off}
-use Rattle.given_spec.proofs.told_region_laws.told_ranges_have_registers.Goals as goal
-
-pub returns : goal.returns
-returns c = record {
-  numbered = regions_are_numbered;
-  off = off_ranges_are_exact;
-  held = held_are_not_off;
-}

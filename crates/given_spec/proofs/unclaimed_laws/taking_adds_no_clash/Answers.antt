@@ -1,5 +1,0 @@
-use Rattle.given_spec.proofs.Unclaimed.{taking_adds_no_clash}
-use Rattle.given_spec.proofs.unclaimed_laws.taking_adds_no_clash.Goals as goal
-
-pub returns : goal.returns
-returns c = taking_adds_no_clash

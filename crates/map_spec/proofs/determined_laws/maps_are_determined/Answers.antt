@@ -1,5 +1,0 @@
-use Rattle.map_spec.proofs.Determined.{lines_are_determined, map_is_determined, text_is_determined}
-use Rattle.map_spec.proofs.determined_laws.maps_are_determined.Goals as goal
-
-pub returns : goal.returns
-returns c = record { lines = lines_are_determined; map = map_is_determined; text = text_is_determined }

@@ -1,5 +1,0 @@
-use Rattle.model_spec.proofs.NoEnables.{taken_has_no_vga_enable}
-use Rattle.model_spec.proofs.words_laws.taken_functions_have_no_vga_enable.Goals as goal
-
-pub returns : goal.returns
-returns c = record { none = taken_has_no_vga_enable }
