@@ -15,9 +15,9 @@ use Rattle.settle_spec.specs.Parts.{FunctionPart, system_parts, header_parts, ad
 use Rattle.settle_spec.specs.Stands.{part_space, window_part, stands}
 use Rattle.settle_spec.specs.Items.{has_room_behind}
 use Rattle.settle_laws.proofs.ItemForms.{header_has}
-use Rattle.stand_laws.specs.Order.{level}
-use Rattle.stand_laws.proofs.Standing.{part_of, stands_by_itself, window_listed}
-use Rattle.stand_laws.proofs.There.{stands_where_holds}
+use Rattle.settle_laws.specs.Order.{level}
+use Rattle.settle_laws.proofs.Standing.{part_of, stands_by_itself, window_listed}
+use Rattle.settle_laws.proofs.There.{stands_where_holds}
 use Rattle.pci_base.specs.declared.range.Range.{Range}
 use Rattle.pci_base.specs.declared.window_kind.ByKind.{ByKind}
 use Rattle.pci_base.specs.Ranges.{decoded_range_of}

@@ -20,9 +20,9 @@ use Rattle.settle_spec.specs.Items.{has_room_behind}
 use Rattle.settle_spec.specs.Growth.{range_list, is_before, is_off, is_clear, there, comes_to, takes}
 use Rattle.settle_spec.proofs.Grown.{part_holds}
 use Rattle.settle_spec.proofs.Reaching.{LiesIn, ends_apart, within_gives}
-use Rattle.stand_laws.proofs.Standing.{part_of}
-use Rattle.stand_laws.proofs.ThereByBus.{there_by_bus}
-use Rattle.stand_laws.proofs.ThereAlone.{unstanding}
+use Rattle.settle_laws.proofs.Standing.{part_of}
+use Rattle.settle_laws.proofs.ThereByBus.{there_by_bus}
+use Rattle.settle_laws.proofs.ThereAlone.{unstanding}
 use Rattle.pci_base.specs.declared.range.Range.{Range}
 use Rattle.pci_base.specs.Ranges.{decoded_range_of}
 use Rattle.pci_stand.specs.declared.region.Region.{Region}

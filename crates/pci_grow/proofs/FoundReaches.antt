@@ -14,10 +14,10 @@ use Rattle.settle_spec.specs.Parts.{FunctionPart}
 use Rattle.settle_spec.specs.Stands.{window_part}
 use Rattle.settle_spec.specs.Reach.{reach}
 use Rattle.settle_spec.proofs.Nested.{at_secondary, is_no_root}
-use Rattle.stand_laws.specs.Order.{level}
-use Rattle.stand_laws.specs.Reach.{IsStandingWindow}
-use Rattle.stand_laws.proofs.Standing.{window_listed, stands_by_itself}
-use Rattle.stand_laws.proofs.Reach.{above}
+use Rattle.settle_laws.specs.Order.{level}
+use Rattle.settle_laws.specs.Reach.{IsStandingWindow}
+use Rattle.settle_laws.proofs.Standing.{window_listed, stands_by_itself}
+use Rattle.settle_laws.proofs.Reach.{above}
 use Rattle.pci_base.specs.declared.range.Range.{Range as CodeRange}
 use Rattle.pci_base.specs.declared.window_kind.WindowKind.{WindowKind as CodeKind}
 use Rattle.pci_base.specs.declared.window_kind.WindowKind.TheVariants as kinds

@@ -16,8 +16,8 @@ use Rattle.settle_spec.specs.Stands.{window_part, stands}
 use Rattle.settle_spec.specs.Items.{has_room_behind}
 use Rattle.settle_spec.specs.Growth.{comes_to, takes, has_grown}
 use Rattle.settle_spec.specs.Kept.{is_kept}
-use Rattle.stand_laws.proofs.GrowingKept.{taking, takes_stands, grown_takes, kept_stands}
-use Rattle.stand_laws.proofs.Standing.{stands_by_itself}
+use Rattle.settle_laws.proofs.GrowingKept.{taking, takes_stands, grown_takes, kept_stands}
+use Rattle.settle_laws.proofs.Standing.{stands_by_itself}
 use Rattle.pci_base.specs.declared.range.Range.{Range as CodeRange}
 use Rattle.pci_base.specs.declared.window_kind.WindowKind.{WindowKind as CodeKind}
 use Rattle.pci_base.specs.declared.window_kind.WindowKind.TheVariants.{Io, Memory, Prefetchable}

@@ -14,8 +14,8 @@ use Rattle.settle_spec.specs.Parts.{FunctionPart, system_parts, addresses}
 use Rattle.settle_spec.specs.Stands.{rank, are_beside, stands}
 use Rattle.settle_spec.specs.Growth.{is_before}
 use Rattle.settle_spec.proofs.Reaching.{LieApart, ends_apart}
-use Rattle.stand_laws.proofs.Apart.{apart_where_beside}
-use Rattle.stand_laws.proofs.Standing.{part_of}
+use Rattle.settle_laws.proofs.Apart.{apart_where_beside}
+use Rattle.settle_laws.proofs.Standing.{part_of}
 use Rattle.pci_base.specs.Ranges.{decoded_range_of}
 use Rattle.pci_stand.specs.declared.region.Region.{Region}
 use Rattle.pci_stand.specs.Boards.{IsKnown}

@@ -21,8 +21,8 @@ use Rattle.settle_spec.specs.Parts.{FunctionPart, addresses, are_same_space}
 use Rattle.settle_spec.specs.Stands.{part_space}
 use Rattle.settle_spec.specs.Reach.{lines_beside}
 use Rattle.settle_spec.proofs.SameTaken.{HaveSame}
-use Rattle.stand_laws.specs.Order.{level}
-use Rattle.stand_laws.proofs.Standing.{one_level}
+use Rattle.settle_laws.specs.Order.{level}
+use Rattle.settle_laws.proofs.Standing.{one_level}
 use Rattle.pci_base.specs.Ranges.{decoded_range_of}
 use Rattle.pci_base.specs.Space.{space_of}
 use Rattle.pci_settle.specs.declared.lines.Line.{Line}

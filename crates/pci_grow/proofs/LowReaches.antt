@@ -12,7 +12,7 @@ use Rattle.settle_spec.specs.Stands.{is_fixed_part, window_part, stands}
 use Rattle.settle_spec.specs.Items.{highest_in}
 use Rattle.settle_spec.specs.Reach.{room_around, reach_in, reach_if, reach_within, reach}
 use Rattle.settle_spec.proofs.Reaching.{reach_step, reach_in_low}
-use Rattle.stand_laws.specs.Reach.{WindowsAreLow}
+use Rattle.settle_laws.specs.Reach.{WindowsAreLow}
 
 pub highest_below : (c : WindowKind) (probe : List ℕ) → highest_in c probe < 2 ^ 64
 highest_below IoWindow probe = elim (cases_Bool (is_wide_window IoWindow probe)) [

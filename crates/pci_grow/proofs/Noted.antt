@@ -22,8 +22,8 @@ use Rattle.settle_spec.specs.Growth.{place_around, there_on, taken_around, there
 use Rattle.settle_spec.specs.Kept.{place_of}
 use Rattle.settle_spec.proofs.Nested.{on_it, one_bridge}
 use Rattle.settle_laws.proofs.ItemForms.{IsItemOf, items_are}
-use Rattle.stand_laws.proofs.Standing.{part_of, stands_by_itself}
-use Rattle.stand_laws.proofs.There.{IsFoundPlace, each_found}
+use Rattle.settle_laws.proofs.Standing.{part_of, stands_by_itself}
+use Rattle.settle_laws.proofs.There.{IsFoundPlace, each_found}
 use Rattle.pci_base.specs.declared.range.Range.{Range}
 use Rattle.pci_base.specs.declared.window_kind.WindowKind.{WindowKind as CodeKind}
 use Rattle.pci_base.specs.declared.window_kind.WindowKind.TheVariants as kinds

@@ -14,8 +14,8 @@ use Rattle.settle_spec.specs.Growth.{there}
 use Rattle.settle_spec.proofs.Reaching.{ends_apart}
 use Rattle.settle_laws.proofs.KeptTaken.{items_aligned}
 use Rattle.settle_spec.specs.Kept.{growing}
-use Rattle.stand_laws.specs.Reach.{WindowsAreLow}
-use Rattle.stand_laws.proofs.ThereApart.{there_is_apart}
+use Rattle.settle_laws.specs.Reach.{WindowsAreLow}
+use Rattle.settle_laws.proofs.ThereApart.{there_is_apart}
 use Rattle.pci_base.specs.declared.range.Range.{Range}
 use Rattle.pci_base.specs.Ranges.{decoded_range_of}
 use Rattle.pci_stand.specs.declared.region.Region.{Region}

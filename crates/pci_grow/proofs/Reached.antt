@@ -19,10 +19,10 @@ use Rattle.settle_spec.specs.Stands.{is_fixed_part, part_space, window_part, sta
 use Rattle.settle_spec.specs.Items.{highest_in}
 use Rattle.settle_spec.specs.Reach.{half_size, upper_of, lower_of, cut_first, clear_of, no_higher, lines_beside, standing_beside, room_around, reach_in, reach_if, reach}
 use Rattle.settle_spec.proofs.SameTaken.{HaveSame}
-use Rattle.stand_laws.specs.Order.{level}
-use Rattle.stand_laws.specs.Reach.{IsStandingWindow}
-use Rattle.stand_laws.proofs.Standing.{part_of}
-use Rattle.stand_laws.proofs.Reach.{reaches_are_around}
+use Rattle.settle_laws.specs.Order.{level}
+use Rattle.settle_laws.specs.Reach.{IsStandingWindow}
+use Rattle.settle_laws.proofs.Standing.{part_of}
+use Rattle.settle_laws.proofs.Reach.{reaches_are_around}
 use Rattle.pci_base.specs.declared.range.Range.{Range as CodeRange}
 use Rattle.pci_base.specs.declared.window_kind.WindowKind.{WindowKind as CodeKind}
 use Rattle.pci_base.specs.WindowKinds.{kind_value}

@@ -13,7 +13,7 @@ use Rattle.settle_spec.specs.Parts.{addresses, lies_within, bridge_over}
 use Rattle.settle_spec.specs.Stands.{window_part}
 use Rattle.settle_spec.specs.Reach.{ranges_for, range_over, room_around}
 use Rattle.settle_spec.proofs.BridgeOver.{over_leads, over_is}
-use Rattle.stand_laws.specs.Order.{level}
+use Rattle.settle_laws.specs.Order.{level}
 use Rattle.pci_base.specs.declared.window_kind.WindowKind.{WindowKind as CodeKind}
 use Rattle.pci_base.specs.declared.window_kind.ByKind.{ByKind}
 use Rattle.pci_base.specs.declared.range.Range.{Range as CodeRange}

@@ -18,10 +18,10 @@ use Rattle.settle_spec.specs.Parts.{FunctionPart, system_parts, addresses, are_s
 use Rattle.settle_spec.specs.Stands.{rank, part_space, are_beside, stands}
 use Rattle.settle_spec.specs.Reach.{standing_beside}
 use Rattle.settle_spec.proofs.Reaching.{ends_apart}
-use Rattle.stand_laws.specs.Order.{level}
-use Rattle.stand_laws.proofs.Ranks.{ranks_rise}
-use Rattle.stand_laws.proofs.Standing.{one_level}
-use Rattle.stand_laws.proofs.Apart.{apart_where_beside}
+use Rattle.settle_laws.specs.Order.{level}
+use Rattle.settle_laws.proofs.Ranks.{ranks_rise}
+use Rattle.settle_laws.proofs.Standing.{one_level}
+use Rattle.settle_laws.proofs.Apart.{apart_where_beside}
 use Rattle.pci_base.specs.Ranges.{decoded_range_of}
 use Rattle.pci_base.specs.Space.{space_of}
 use Rattle.pci_base.specs.declared.space.Space.TheVariants as spaces

@@ -13,11 +13,11 @@ use Rattle.settle_spec.specs.Stands.{part_space, window_part, stands}
 use Rattle.settle_spec.specs.Growth.{is_clear, taken_around, window_comes_to, part_comes_to, there, comes_to, takes}
 use Rattle.settle_spec.specs.Kept.{place_of}
 use Rattle.settle_spec.specs.Places.{placed_of, place_among}
-use Rattle.stand_laws.specs.Order.{level}
-use Rattle.stand_laws.specs.There.{height}
-use Rattle.stand_laws.proofs.Standing.{part_of, in_parts, stands_by_itself, window_listed}
-use Rattle.stand_laws.proofs.ThereByBus.{part_same}
-use Rattle.stand_laws.proofs.ThereAlone.{unstanding}
+use Rattle.settle_laws.specs.Order.{level}
+use Rattle.settle_laws.specs.There.{height}
+use Rattle.settle_laws.proofs.Standing.{part_of, in_parts, stands_by_itself, window_listed}
+use Rattle.settle_laws.proofs.ThereByBus.{part_same}
+use Rattle.settle_laws.proofs.ThereAlone.{unstanding}
 use Rattle.pci_stand.specs.declared.region.Region.{Region}
 use Rattle.pci_stand.specs.Known.{region_value}
 use Rattle.pci_grow.specs.There.{Tables, in_row, there_told}

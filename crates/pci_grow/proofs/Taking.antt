@@ -23,12 +23,12 @@ use Rattle.settle_spec.specs.Growth.{place_around, range_list, there_on, taken_a
 use Rattle.settle_spec.proofs.Nested.{on_it, is_no_root, at_secondary}
 use Rattle.settle_laws.proofs.ItemForms.{IsItemOf, items_are}
 use Rattle.settle_laws.proofs.HeaderParts.{few_bars}
-use Rattle.stand_laws.specs.Order.{level}
-use Rattle.stand_laws.specs.There.{height}
-use Rattle.stand_laws.proofs.Holding.{pieces_same, items_same_on}
-use Rattle.stand_laws.proofs.Standing.{part_of, stands_by_itself}
-use Rattle.stand_laws.proofs.There.{IsFoundPlace, each_found}
-use Rattle.stand_laws.proofs.ThereByBus.{height_low}
+use Rattle.settle_laws.specs.Order.{level}
+use Rattle.settle_laws.specs.There.{height}
+use Rattle.settle_laws.proofs.Holding.{pieces_same, items_same_on}
+use Rattle.settle_laws.proofs.Standing.{part_of, stands_by_itself}
+use Rattle.settle_laws.proofs.There.{IsFoundPlace, each_found}
+use Rattle.settle_laws.proofs.ThereByBus.{height_low}
 use Rattle.pci_base.specs.declared.range.Range.{Range}
 use Rattle.pci_base.specs.declared.window_kind.WindowKind.{WindowKind as CodeKind}
 use Rattle.pci_base.specs.Ranges.{decoded_range_of}

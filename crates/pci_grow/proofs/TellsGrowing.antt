@@ -29,9 +29,9 @@ use Rattle.settle_spec.specs.Keeping.Places.{taken_at}
 use Rattle.settle_spec.proofs.LastSpot.{place_gives}
 use Rattle.settle_spec.proofs.Grown.{part_holds}
 use Rattle.settle_spec.proofs.Reaching.{within_gives}
-use Rattle.stand_laws.proofs.GrowingKept.{taking, grown_takes, growing_stands}
-use Rattle.stand_laws.proofs.Standing.{window_listed, stands_by_itself}
-use Rattle.stand_laws.proofs.There.{opened, IsFoundPlace, each_found}
+use Rattle.settle_laws.proofs.GrowingKept.{taking, grown_takes, growing_stands}
+use Rattle.settle_laws.proofs.Standing.{window_listed, stands_by_itself}
+use Rattle.settle_laws.proofs.There.{opened, IsFoundPlace, each_found}
 use Rattle.settle_laws.specs.KeptLaws.{IsSoundKept, HavePlaces}
 use Rattle.settle_laws.proofs.Keeping.Items.{IsItemIn, space_items_are}
 use Rattle.settle_laws.proofs.KeptTaken.{items_aligned}

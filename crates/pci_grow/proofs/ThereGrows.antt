@@ -10,8 +10,8 @@ use Rattle.settle_spec.specs.Lists.{Request}
 use Rattle.settle_spec.specs.Parts.{FunctionPart}
 use Rattle.settle_spec.specs.Stands.{window_part, stands}
 use Rattle.settle_spec.specs.Growth.{comes_to, takes}
-use Rattle.stand_laws.proofs.GrowingKept.{takes_stands}
-use Rattle.stand_laws.proofs.Standing.{in_header, window_listed, stands_by_itself}
+use Rattle.settle_laws.proofs.GrowingKept.{takes_stands}
+use Rattle.settle_laws.proofs.Standing.{in_header, window_listed, stands_by_itself}
 use Rattle.pci_base.specs.declared.window_kind.WindowKind.{WindowKind as CodeKind}
 use Rattle.pci_base.specs.Ranges.{decoded_range_of}
 use Rattle.pci_base.specs.WindowKinds.{kind_value}

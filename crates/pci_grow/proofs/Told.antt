@@ -16,8 +16,8 @@ use Rattle.settle_spec.specs.Stands.{part_space, are_beside, stands}
 use Rattle.settle_spec.specs.Growth.{range_list, there_on}
 use Rattle.settle_spec.proofs.Nested.{on_it, is_no_root, at_secondary}
 use Rattle.settle_spec.proofs.SameTaken.{HaveSame}
-use Rattle.stand_laws.specs.Order.{level}
-use Rattle.stand_laws.proofs.There.{IsThereOn, there_on_gives}
+use Rattle.settle_laws.specs.Order.{level}
+use Rattle.settle_laws.proofs.There.{IsThereOn, there_on_gives}
 use Rattle.pci_base.specs.declared.range.Range.{Range}
 use Rattle.pci_base.specs.declared.window_kind.WindowKind.{WindowKind as CodeKind}
 use Rattle.pci_base.specs.declared.window_kind.WindowKind.TheVariants as kinds

@@ -24,8 +24,8 @@ use Rattle.settle_spec.proofs.SameTaken.{HaveSame}
 use Rattle.settle_spec.proofs.Nested.{at_secondary, is_no_root}
 use Rattle.settle_laws.proofs.ItemForms.{items_are}
 use Rattle.settle_laws.proofs.PartClasses.{space_of_class}
-use Rattle.stand_laws.proofs.Reach.{reaches_are_around}
-use Rattle.stand_laws.proofs.Standing.{stands_by_itself, window_listed}
+use Rattle.settle_laws.proofs.Reach.{reaches_are_around}
+use Rattle.settle_laws.proofs.Standing.{stands_by_itself, window_listed}
 use Rattle.pci_base.specs.declared.range.Range.{Range}
 use Rattle.pci_base.specs.declared.window_kind.WindowKind.{WindowKind as CodeKind}
 use Rattle.pci_base.specs.Ranges.{decoded_range_of}

@@ -15,9 +15,9 @@ use Rattle.plan_spec.specs.Planning.Layout.{range_of}
 use Rattle.settle_spec.specs.Lists.{Request}
 use Rattle.settle_spec.specs.Stands.{window_part, stands}
 use Rattle.settle_spec.specs.Reach.{reach}
-use Rattle.stand_laws.specs.Reach.{WindowsAreLow}
-use Rattle.stand_laws.proofs.Reach.{reaches_are_around}
-use Rattle.stand_laws.proofs.Standing.{window_listed, stands_by_itself}
+use Rattle.settle_laws.specs.Reach.{WindowsAreLow}
+use Rattle.settle_laws.proofs.Reach.{reaches_are_around}
+use Rattle.settle_laws.proofs.Standing.{window_listed, stands_by_itself}
 use Rattle.pci_base.specs.declared.range.Range.{Range}
 use Rattle.pci_base.specs.declared.window_kind.WindowKind.{WindowKind as CodeKind}
 use Rattle.pci_base.specs.declared.window_kind.WindowKind.TheVariants as kinds

@@ -10,7 +10,7 @@ use Rattle.settle_spec.specs.Parts.{FunctionPart}
 use Rattle.settle_spec.specs.Stands.{window_part, stands}
 use Rattle.settle_spec.specs.Growth.{comes_to, has_grown}
 use Rattle.settle_spec.specs.Kept.{is_kept}
-use Rattle.stand_laws.specs.Reach.{WindowsAreLow}
+use Rattle.settle_laws.specs.Reach.{WindowsAreLow}
 use Rattle.pci_base.specs.declared.range.Range.{Range as CodeRange}
 use Rattle.pci_base.specs.declared.window_kind.WindowKind.{WindowKind as CodeKind}
 use Rattle.pci_base.specs.declared.window_kind.ByKind.{ByKind}

@@ -11,7 +11,7 @@ use Rattle.settle_spec.specs.Parts.{FunctionPart, addresses}
 use Rattle.settle_spec.specs.Stands.{window_part, stands}
 use Rattle.settle_spec.specs.Items.{highest_in}
 use Rattle.settle_spec.specs.Reach.{lines_beside, standing_beside, reach}
-use Rattle.stand_laws.specs.Reach.{WindowsAreLow}
+use Rattle.settle_laws.specs.Reach.{WindowsAreLow}
 use Rattle.pci_base.specs.declared.range.Range.{Range as CodeRange}
 use Rattle.pci_base.specs.declared.window_kind.WindowKind.{WindowKind as CodeKind}
 use Rattle.pci_base.specs.declared.window_kind.ByKind.{ByKind}

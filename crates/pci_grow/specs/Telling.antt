@@ -14,8 +14,8 @@ use Rattle.settle_spec.specs.Places.{placed_of, place_among}
 use Rattle.settle_spec.specs.Reach.{reach}
 use Rattle.settle_spec.specs.Growth.{range_list, taken_around, window_comes_to, there, comes_to, takes}
 use Rattle.settle_spec.specs.Kept.{place_of}
-use Rattle.stand_laws.specs.Order.{level}
-use Rattle.stand_laws.specs.Reach.{WindowsAreLow}
+use Rattle.settle_laws.specs.Order.{level}
+use Rattle.settle_laws.specs.Reach.{WindowsAreLow}
 use Rattle.pci_base.specs.declared.range.Range.{Range}
 use Rattle.pci_base.specs.declared.window_kind.WindowKind.{WindowKind as CodeKind}
 use Rattle.pci_base.specs.declared.window_kind.ByKind.{ByKind}

@@ -17,7 +17,7 @@ use Rattle.settle_spec.specs.Growing.{or_else, settle_growing, kept_by, finally_
 use Rattle.settle_spec.specs.Sparing.{is_settled}
 use Rattle.settle_laws.proofs.NothingGrows.{growing_is_standing}
 use Rattle.settle_laws.proofs.Told.OnlyHeld.{held_of}
-use Rattle.stand_laws.proofs.GrowingKept.{growing_stands}
+use Rattle.settle_laws.proofs.GrowingKept.{growing_stands}
 use Rattle.pci_base.specs.declared.memory.Refused.{Refused}
 use Rattle.pci_base.specs.declared.memory.Refused.TheVariants as refused
 use Rattle.pci_base.specs.WindowKinds.{kind_value}

@@ -17,7 +17,7 @@ use Rattle.settle_spec.specs.Stands.{window_part}
 use Rattle.settle_spec.specs.LiveLaws.{has_live_behind}
 use Rattle.settle_spec.specs.Kept.{Kept as Keeping, range_or}
 use Rattle.settle_spec.specs.Keeping.Registers.{settled_function}
-use Rattle.stand_laws.proofs.Standing.{stands_by_itself}
+use Rattle.settle_laws.proofs.Standing.{stands_by_itself}
 use Rattle.pci_base.specs.declared.range.Range.{Range}
 use Rattle.pci_base.specs.declared.window_kind.ByKind.{ByKind}
 use Rattle.pci_base.specs.Ranges.{decoded_range_of}

@@ -10,7 +10,7 @@ use Rattle.settle_spec.specs.Lists.{Request}
 use Rattle.settle_spec.specs.Parts.{system_parts}
 use Rattle.settle_spec.specs.Kept.{Kept}
 use Rattle.settle_spec.specs.Keeping.Writes.{closings, settle_writes}
-use Rattle.stand_laws.specs.Told.Kept.{LinesAreForward}
+use Rattle.settle_laws.specs.StandingTold.Kept.{LinesAreForward}
 use Rattle.settle_laws.specs.Keeping.PlacesLaws.{CanSettle}
 use Rattle.settle_laws.specs.ToldSoundLaws.{IsSoundAsTold, IsToldOf, KeepsTold, CanSettleTold}
 use Rattle.settle_laws.proofs.Keeping.SettledSound.{settled_sound}

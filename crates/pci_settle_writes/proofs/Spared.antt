@@ -17,7 +17,7 @@ use Rattle.settle_spec.specs.Keeping.Writes.{closings, settle_writes, settle_kee
 use Rattle.settle_spec.specs.Growing.{settle_growing, finally_kept}
 use Rattle.settle_spec.specs.Wishes.{Granted, with_all_spares, granted}
 use Rattle.settle_spec.specs.Sparing.{without_slots, is_settled, have_spares, granted_beside}
-use Rattle.stand_laws.specs.Told.Kept.{LinesAreForward}
+use Rattle.settle_laws.specs.StandingTold.Kept.{LinesAreForward}
 use Rattle.settle_laws.specs.Keeping.PlacesLaws.{CanSettle}
 use Rattle.settle_laws.specs.ToldSoundLaws.{IsSoundAsTold, IsToldOf, KeepsTold}
 use Rattle.settle_laws.specs.ToldSoundLaws as law

@@ -25,7 +25,7 @@ use Rattle.settle_spec.specs.Items.{Placed, taken_by}
 use Rattle.settle_spec.specs.Kept.{Kept as Keeping, range_or}
 use Rattle.settle_spec.specs.Keeping.Places.{new_place}
 use Rattle.settle_spec.specs.Wishes.{place_then}
-use Rattle.stand_laws.proofs.Standing.{stands_by_itself}
+use Rattle.settle_laws.proofs.Standing.{stands_by_itself}
 use Rattle.settle_laws.specs.KeptLaws.{WishesNothing}
 use Rattle.settle_laws.proofs.Keeping.InWindows.{kept_range, placed_range, place_of_range}
 use Rattle.pci_base.specs.declared.range.Range.{Range}

@@ -23,7 +23,7 @@ use Rattle.settle_spec.specs.Keeping.Places.{space_items, place_behind, placing_
 use Rattle.settle_spec.proofs.Nested.{on_it, is_no_root, at_secondary}
 use Rattle.settle_spec.proofs.BridgeOver.{over_is}
 use Rattle.settle_laws.proofs.Keeping.Buses.{of_space, roots_are_one}
-use Rattle.stand_laws.proofs.Standing.{stands_by_itself}
+use Rattle.settle_laws.proofs.Standing.{stands_by_itself}
 use Rattle.pci_base.specs.declared.range.Range.{Range}
 use Rattle.pci_base.specs.declared.window_kind.ByKind.{ByKind}
 use Rattle.pci_base.specs.Ranges.{decoded_range_of}

@@ -21,7 +21,7 @@ use Rattle.settle_spec.specs.Lines.{line_bus, line_range, is_line_of, lines_on, 
 use Rattle.settle_spec.specs.Parts.{FunctionPart, system_parts, are_same_space}
 use Rattle.settle_spec.specs.Stands.{part_space, window_part}
 use Rattle.settle_spec.proofs.SameTaken.{HaveSame}
-use Rattle.stand_laws.specs.Order.{level}
+use Rattle.settle_laws.specs.Order.{level}
 use Rattle.pci_base.specs.declared.range.Range.{Range}
 use Rattle.pci_base.specs.declared.window_kind.WindowKind.{WindowKind as Class}
 use Rattle.pci_base.specs.WindowKinds.{kind_value}

@@ -15,7 +15,7 @@ use Rattle.pci_spec.specs.System as system
 use Rattle.pci_spec.proofs.Members.{in_nil, in_cons_cases, in_map_to, in_filter_to, IsMade}
 use Rattle.settle_spec.specs.Lists.{Request}
 use Rattle.settle_spec.specs.Parts.{function_parts}
-use Rattle.stand_laws.specs.Order.{level}
+use Rattle.settle_laws.specs.Order.{level}
 use Rattle.pci_base.specs.Ranges.{range_of_decoded}
 use Rattle.pci_base.specs.declared.space.Space.{Space as CodeSpace}
 use Rattle.pci_base.specs.declared.space.Space.TheVariants as spaces

@@ -19,8 +19,8 @@ use Rattle.settle_spec.specs.Parts.{FunctionPart, is_part, parts_of, header_part
 use Rattle.settle_spec.specs.Stands.{part_space}
 use Rattle.settle_spec.specs.Kept.{Kept as Keeping, range_or}
 use Rattle.settle_spec.proofs.SameTaken.{HaveSame}
-use Rattle.stand_laws.specs.Order.{level}
-use Rattle.stand_laws.proofs.Standing.{one_level}
+use Rattle.settle_laws.specs.Order.{level}
+use Rattle.settle_laws.proofs.Standing.{one_level}
 use Rattle.pci_base.specs.declared.range.Range.{Range}
 use Rattle.pci_base.specs.declared.window_kind.WindowKind.TheVariants as kinds
 use Rattle.pci_base.specs.declared.window_kind.ByKind.{ByKind}

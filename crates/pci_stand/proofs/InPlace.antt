@@ -15,7 +15,7 @@ use Rattle.settle_spec.specs.Parts.{FunctionPart, addresses, lies_within, bridge
 use Rattle.settle_spec.specs.Stands.{part_space, window_part, is_in_window, is_in_place}
 use Rattle.settle_spec.specs.Stands as settle
 use Rattle.settle_spec.proofs.BridgeOver.{over_leads, over_is}
-use Rattle.stand_laws.specs.Order.{level}
+use Rattle.settle_laws.specs.Order.{level}
 use Rattle.pci_base.specs.Ranges.{decoded_range_of}
 use Rattle.pci_base.specs.Space as code
 use Rattle.pci_base.specs.WindowKinds.{kind_value}

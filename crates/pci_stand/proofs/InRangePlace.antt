@@ -14,8 +14,8 @@ use Rattle.settle_spec.specs.Lists.{Request}
 use Rattle.settle_spec.specs.Parts.{lies_within, bridge_over}
 use Rattle.settle_spec.specs.Lines.{is_always_line}
 use Rattle.settle_spec.specs.Stands.{window_part, is_in_window, stands, range_class, are_bridges_on, is_range_in_place}
-use Rattle.stand_laws.specs.Order.{level}
-use Rattle.stand_laws.proofs.Standing.{stands_by_itself}
+use Rattle.settle_laws.specs.Order.{level}
+use Rattle.settle_laws.proofs.Standing.{stands_by_itself}
 use Rattle.pci_base.specs.WindowKinds.{kind_value}
 use Rattle.pci_function.specs.declared.record.Bridge.{Bridge}
 use Rattle.pci_function.specs.declared.record.Record.{Record}

@@ -18,8 +18,8 @@ use Rattle.settle_spec.specs.Lists.{Request}
 use Rattle.settle_spec.specs.Parts.{FunctionPart, addresses, are_same_space}
 use Rattle.settle_spec.specs.Lines.{line_bus, line_range, is_held_line, is_line_of, can_keep_off, keeps_off, keeps_off_part}
 use Rattle.settle_spec.specs.Stands.{part_space, is_line_on, leads_to_one_on, precedes_off, is_kept_off}
-use Rattle.stand_laws.specs.Order.{level}
-use Rattle.stand_laws.proofs.Standing.{one_level}
+use Rattle.settle_laws.specs.Order.{level}
+use Rattle.settle_laws.proofs.Standing.{one_level}
 use Rattle.pci_base.specs.Ranges.{decoded_range_of}
 use Rattle.pci_base.specs.Space as code
 use Rattle.pci_base.specs.declared.range.Range.{Range}

@@ -19,7 +19,7 @@ use Rattle.settle_spec.specs.Lists.{Request}
 use Rattle.settle_spec.specs.Parts.{FunctionPart, addresses, is_part, lies_within, are_same_space}
 use Rattle.settle_spec.specs.Lines.{line_bus, line_range, is_held_line, is_always_line}
 use Rattle.settle_spec.specs.Stands.{part_space, is_line_on, range_class, leads_by, leads_to_range}
-use Rattle.stand_laws.proofs.Standing.{part_of}
+use Rattle.settle_laws.proofs.Standing.{part_of}
 use Rattle.pci_base.specs.Ranges.{decoded_range_of}
 use Rattle.pci_base.specs.Space as code
 use Rattle.pci_base.specs.WindowKinds.{kind_value}

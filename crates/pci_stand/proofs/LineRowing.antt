@@ -11,7 +11,7 @@ use Rattle.pci_spec.proofs.Members.{in_nil, in_cons_cases, in_head}
 use Rattle.judge_spec.specs.Told.{ToldRange}
 use Rattle.judge_spec.specs.ToldRegion.{ToldRegion, told_regions, told_extent}
 use Rattle.settle_spec.specs.Lists.{Request}
-use Rattle.stand_laws.specs.Order.{level}
+use Rattle.settle_laws.specs.Order.{level}
 use Rattle.pci_base.specs.Ranges.{decoded_range_of}
 use Rattle.pci_stand.specs.declared.rows.Row.{Row}
 use Rattle.pci_stand.specs.declared.told_line.ToldLine.{ToldLine}

@@ -18,7 +18,7 @@ use Rattle.plan_spec.specs.Plan.{is_open}
 use Rattle.plan_spec.specs.Planning.Layout.{range_of}
 use Rattle.settle_spec.specs.Lists.{Request}
 use Rattle.settle_spec.specs.Parts.{FunctionPart, is_empty, is_left, is_part, header_bars, parts_of, function_parts}
-use Rattle.stand_laws.specs.Order.{level}
+use Rattle.settle_laws.specs.Order.{level}
 use Rattle.pci_base.specs.Space as code
 use Rattle.pci_base.specs.Ranges.{range_of_decoded}
 use Rattle.pci_base.specs.WindowKinds.{kind_value}

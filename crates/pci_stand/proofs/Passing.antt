@@ -14,11 +14,11 @@ use Rattle.settle_spec.specs.FirstPlace.{ranges_are_apart}
 use Rattle.settle_spec.specs.Lists.{Request}
 use Rattle.settle_spec.specs.Parts.{FunctionPart, system_parts, addresses, are_same_space}
 use Rattle.settle_spec.specs.Stands.{part_space, is_in_place, takes_from, precedes, is_kept_off, leads_to_told, stands_if}
-use Rattle.stand_laws.specs.Order.{level, comes_first}
-use Rattle.stand_laws.specs.Passes.{IsAmong, AreTakenBeside}
-use Rattle.stand_laws.proofs.Order.{not_itself}
-use Rattle.stand_laws.proofs.Standing.{one_level, part_of}
-use Rattle.stand_laws.proofs.Passes.{free_of_taken, told_more}
+use Rattle.settle_laws.specs.Order.{level, comes_first}
+use Rattle.settle_laws.specs.Passes.{IsAmong, AreTakenBeside}
+use Rattle.settle_laws.proofs.Order.{not_itself}
+use Rattle.settle_laws.proofs.Standing.{one_level, part_of}
+use Rattle.settle_laws.proofs.Passes.{free_of_taken, told_more}
 use Rattle.pci_base.specs.Ranges.{decoded_range_of}
 use Rattle.pci_base.specs.declared.range.Range.{Range}
 use Rattle.pci_stand.specs.declared.region.Region.{Region as CodeRegion}

@@ -15,9 +15,9 @@ use Rattle.settle_spec.specs.Lists.{Request}
 use Rattle.settle_spec.specs.Parts.{are_same_space}
 use Rattle.settle_spec.specs.Lines.{line_bus, line_range, is_line_of}
 use Rattle.settle_spec.specs.Stands.{part_space}
-use Rattle.stand_laws.specs.Order.{level}
-use Rattle.stand_laws.specs.Told.Passes.{AreTakenBesideLine}
-use Rattle.stand_laws.proofs.Standing.{one_level}
+use Rattle.settle_laws.specs.Order.{level}
+use Rattle.settle_laws.specs.StandingTold.Passes.{AreTakenBesideLine}
+use Rattle.settle_laws.proofs.Standing.{one_level}
 use Rattle.pci_base.specs.Ranges.{decoded_range_of}
 use Rattle.pci_stand.specs.declared.rows.Row.{Row}
 use Rattle.pci_stand.specs.ApartRows.{is_row_off, is_row_free}

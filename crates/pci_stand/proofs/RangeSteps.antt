@@ -11,9 +11,9 @@ use Rattle.judge_spec.proofs.ToldNumbering.{regions_are_numbered}
 use Rattle.settle_spec.specs.Lists.{Request}
 use Rattle.settle_spec.specs.Lines.{is_held_line}
 use Rattle.settle_spec.specs.Stands.{stands, is_range_in_place, is_range_kept_off, range_precedes, range_stands_if}
-use Rattle.stand_laws.specs.Told.Passes.{AreRangesInOrder}
-use Rattle.stand_laws.proofs.Told.Order.{range_not_itself}
-use Rattle.stand_laws.proofs.Told.Passes.{stands_if_free, next_told, one_line}
+use Rattle.settle_laws.specs.StandingTold.Passes.{AreRangesInOrder}
+use Rattle.settle_laws.proofs.StandingTold.Order.{range_not_itself}
+use Rattle.settle_laws.proofs.StandingTold.Passes.{stands_if_free, next_told, one_line}
 use Rattle.pci_stand.specs.declared.rows.Row.{Row}
 use Rattle.pci_stand.specs.ApartRows.{is_row_free}
 use Rattle.pci_stand.specs.LineRows.{row_key, IsRowOf}

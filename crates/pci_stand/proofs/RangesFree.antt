@@ -11,7 +11,7 @@ use Rattle.settle_spec.specs.FirstPlace.{ranges_are_apart}
 use Rattle.settle_spec.specs.Lists.{Request}
 use Rattle.settle_spec.specs.Lines.{is_held_line, keeps_off}
 use Rattle.settle_spec.specs.Stands.{is_range_kept_off}
-use Rattle.stand_laws.specs.Order.{level}
+use Rattle.settle_laws.specs.Order.{level}
 use Rattle.pci_base.specs.Ranges.{decoded_range_of}
 use Rattle.pci_base.specs.declared.range.Range.{Range}
 use Rattle.pci_stand.specs.declared.rows.Row.{Row}

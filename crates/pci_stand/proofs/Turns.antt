@@ -13,8 +13,8 @@ use Rattle.judge_spec.specs.Told.{ToldRange}
 use Rattle.judge_spec.specs.ToldRegion.{ToldRegion, regions_from, told_regions}
 use Rattle.settle_spec.specs.Lists.{Request}
 use Rattle.settle_spec.specs.Stands.{is_line_on, range_stands}
-use Rattle.stand_laws.specs.Told.Passes.{AreRangesInOrder}
-use Rattle.stand_laws.proofs.Told.Passes.{on_then_off, no_range_told, last_told}
+use Rattle.settle_laws.specs.StandingTold.Passes.{AreRangesInOrder}
+use Rattle.settle_laws.proofs.StandingTold.Passes.{on_then_off, no_range_told, last_told}
 use Rattle.pci_place.proofs.Mapped.{filter-map}
 use Rattle.pci_stand.specs.declared.rows.Row.{Row}
 use Rattle.pci_stand.specs.declared.told_line.ToldLine.{ToldLine}

@@ -18,11 +18,11 @@ use Rattle.plan_spec.proofs.Planning.AllItems.{pairs_unmap}
 use Rattle.settle_spec.specs.Lists.{Request}
 use Rattle.settle_spec.specs.Parts.{FunctionPart, system_parts, function_parts, parts_of, header_bars, header_parts, addresses, is_part}
 use Rattle.settle_spec.specs.Stands.{is_fixed_part, is_part_on, count, rank, first_by, precedes, leads_to_one_on, stands}
-use Rattle.stand_laws.specs.Order.{level, comes_first}
-use Rattle.stand_laws.specs.Passes.{IsAmong}
-use Rattle.stand_laws.proofs.Ranks.{ranks_rise}
-use Rattle.stand_laws.proofs.Standing.{part_of, stands_by_itself}
-use Rattle.stand_laws.proofs.Passes.{told_none, told_all}
+use Rattle.settle_laws.specs.Order.{level, comes_first}
+use Rattle.settle_laws.specs.Passes.{IsAmong}
+use Rattle.settle_laws.proofs.Ranks.{ranks_rise}
+use Rattle.settle_laws.proofs.Standing.{part_of, stands_by_itself}
+use Rattle.settle_laws.proofs.Passes.{told_none, told_all}
 use Rattle.pci_base.specs.declared.range.Range.{Range}
 use Rattle.pci_place.proofs.Owned.{map_twice}
 use Rattle.pci_settle.specs.declared.kept.Part.{Part as CodePart}

@@ -7,7 +7,7 @@ use Rattle.judge_spec.specs.ToldRegion.{ToldRegion, told_regions}
 use Rattle.settle_spec.specs.Lists.{Request}
 use Rattle.settle_spec.specs.Lines.{line_bus, line_range, is_held_line}
 use Rattle.settle_spec.specs.Stands.{is_line_on}
-use Rattle.stand_laws.specs.Order.{level}
+use Rattle.settle_laws.specs.Order.{level}
 use Rattle.pci_base.specs.Ranges.{decoded_range_of}
 use Rattle.pci_stand.specs.declared.rows.Row.{Row}
 use Rattle.pci_stand.specs.declared.rows.Rows.{Rows}

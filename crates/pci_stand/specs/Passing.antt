@@ -5,8 +5,8 @@ use Rattle.pci_spec.specs.System.{System, Function, Space, Io, Memory, Part, has
 use Rattle.settle_spec.specs.Lists.{Request}
 use Rattle.settle_spec.specs.Parts.{FunctionPart, system_parts, addresses}
 use Rattle.settle_spec.specs.Stands.{part_space, stands}
-use Rattle.stand_laws.specs.Order.{level}
-use Rattle.stand_laws.specs.Passes.{AreInOrder, AreFirstTold}
+use Rattle.settle_laws.specs.Order.{level}
+use Rattle.settle_laws.specs.Passes.{AreInOrder, AreFirstTold}
 use Rattle.pci_base.specs.Ranges.{decoded_range_of}
 use Rattle.pci_base.specs.declared.range.Range.{Range}
 use Rattle.pci_stand.specs.declared.region.Region.{Region as CodeRegion}

@@ -10,8 +10,8 @@ use Rattle.judge_spec.specs.ToldRegion.{ToldRegion, told_regions}
 use Rattle.settle_spec.specs.Lists.{Request}
 use Rattle.settle_spec.specs.Parts.{FunctionPart, system_parts, addresses}
 use Rattle.settle_spec.specs.Stands.{part_space, stands, range_stands}
-use Rattle.stand_laws.specs.Order.{level}
-use Rattle.stand_laws.specs.Told.Passes.{AreFirstRangesTold}
+use Rattle.settle_laws.specs.Order.{level}
+use Rattle.settle_laws.specs.StandingTold.Passes.{AreFirstRangesTold}
 use Rattle.pci_base.specs.Ranges.{decoded_range_of}
 use Rattle.pci_base.specs.declared.window_kind.WindowKind.TheVariants as kinds
 use Rattle.pci_stand.specs.declared.rows.Row.{Row}

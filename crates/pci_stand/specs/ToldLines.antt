@@ -10,7 +10,7 @@ use Rattle.settle_spec.specs.Lists.{Request}
 use Rattle.settle_spec.specs.Parts.{lies_within, are_same_space}
 use Rattle.settle_spec.specs.Lines.{is_marked_always}
 use Rattle.settle_spec.specs.Stands.{range_class}
-use Rattle.stand_laws.specs.Order.{level}
+use Rattle.settle_laws.specs.Order.{level}
 use Rattle.pci_base.specs.Ranges.{decoded_range_of}
 use Rattle.pci_base.specs.Space as code
 use Rattle.pci_base.specs.WindowKinds.{kind_value}

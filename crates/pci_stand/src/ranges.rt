@@ -7,7 +7,7 @@ ghost use Rattle.pci_spec.specs.System.{System};
 ghost use Rattle.settle_spec.specs.Lists.{Request};
 ghost use Rattle.judge_spec.specs.Told.{IsTold};
 ghost use Rattle.judge_spec.specs.ToldRegion.{ToldRegion};
-ghost use Rattle.stand_laws.specs.Told.Passes.{AreRangesInOrder};
+ghost use Rattle.settle_laws.specs.StandingTold.Passes.{AreRangesInOrder};
 ghost use Rattle.pci_stand.specs.ApartRows.{AreApartRows};
 ghost use Rattle.pci_stand.specs.RangePass.{ArePartRows, IsTurn, AreRangesPassed, region_at};
 ghost use Rattle.settle_spec.specs.Lines.{is_marked_always, is_held_line};

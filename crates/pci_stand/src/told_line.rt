@@ -9,7 +9,7 @@ ghost use Rattle.settle_spec.specs.Stands.{range_class};
 ghost use Rattle.judge_spec.specs.Told.{IsTold};
 ghost use Rattle.judge_spec.specs.ToldClaims.{is_enabled_at, is_range_on};
 ghost use Rattle.judge_spec.specs.ToldRegion.{told_extent};
-ghost use Rattle.stand_laws.specs.Order.{level as level_of};
+ghost use Rattle.settle_laws.specs.Order.{level as level_of};
 ghost use Rattle.pci_base.specs.Ranges.{decoded_range_of};
 ghost use Rattle.pci_base.specs.WindowKinds.{kind_value};
 ghost use Rattle.pci_base.specs.Space.{space_of};

@@ -14,8 +14,8 @@ use Rattle.settle_spec.specs.Lists.{Request}
 use Rattle.settle_spec.specs.Parts.{FunctionPart}
 use Rattle.settle_spec.specs.Stands.{window_part, stands}
 use Rattle.settle_spec.specs.Items.{has_places, has_room}
-use Rattle.stand_laws.proofs.Standing.{stands_by_itself}
-use Rattle.stand_laws.proofs.Holding.{both_same, holds_alone}
+use Rattle.settle_laws.proofs.Standing.{stands_by_itself}
+use Rattle.settle_laws.proofs.Holding.{both_same, holds_alone}
 use Rattle.pci_function.specs.declared.record.Record.{Record}
 use Rattle.pci_function.specs.Values.{record_value}
 use Rattle.pci_place.specs.Records.{IsRecordOf}

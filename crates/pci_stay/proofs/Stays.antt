@@ -22,9 +22,9 @@ use Rattle.settle_spec.specs.Parts.{FunctionPart, system_parts, function_parts, 
 use Rattle.settle_spec.specs.Stands.{rank, window_part, part_space, is_in_lists, is_in_window, is_kept_off, leads_to_told, is_in_place, takes_from, stands}
 use Rattle.settle_spec.specs.Items.{has_room, has_room_behind}
 use Rattle.settle_spec.proofs.BridgeOver.{over_is}
-use Rattle.stand_laws.proofs.Standing.{part_of, stands_by_itself}
-use Rattle.stand_laws.proofs.GrowingKept.{over_first}
-use Rattle.stand_laws.proofs.Holding.{holds_by_bus}
+use Rattle.settle_laws.proofs.Standing.{part_of, stands_by_itself}
+use Rattle.settle_laws.proofs.GrowingKept.{over_first}
+use Rattle.settle_laws.proofs.Holding.{holds_by_bus}
 use Rattle.pci_place.specs.Items.{no_function}
 use Rattle.pci_settle.specs.declared.kept.Kept.{Kept}
 use Rattle.pci_settle.specs.Kept.{kept_of, nothing_kept}

@@ -17,9 +17,9 @@ use Rattle.settle_spec.specs.FirstPlace.{ranges_are_apart}
 use Rattle.settle_spec.specs.Lists.{Request}
 use Rattle.settle_spec.specs.Parts.{FunctionPart, system_parts, function_parts, parts_of, header_parts, addresses, is_part}
 use Rattle.settle_spec.specs.Stands.{rank, are_beside, is_in_place, is_kept_off, leads_to_told, takes_from, stands, precedes}
-use Rattle.stand_laws.specs.Standing.{IsStanding}
-use Rattle.stand_laws.proofs.Order.{precedes_itself}
-use Rattle.stand_laws.proofs.Standing.{stands_alone}
+use Rattle.settle_laws.specs.Standing.{IsStanding}
+use Rattle.settle_laws.proofs.Order.{precedes_itself}
+use Rattle.settle_laws.proofs.Standing.{stands_alone}
 use Rattle.settle_laws.proofs.HeaderParts.{IsPart, one_part, register_low}
 
 same_slot_itself : (s : Slot) → same_slot s s ≡ true

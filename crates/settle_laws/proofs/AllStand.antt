@@ -17,9 +17,9 @@ use Rattle.settle_spec.specs.Parts.{FunctionPart, system_parts, addresses, class
 use Rattle.settle_spec.specs.Stands.{window_part, stands}
 use Rattle.settle_spec.specs.Items.{Item, place_each, place_in, are_placed, taken_on, bus_items, has_of, has_room, has_room_behind, stays, new_window}
 use Rattle.settle_spec.proofs.Nested.{is_no_root, one_bridge}
-use Rattle.stand_laws.specs.Holding.{TellsRoom}
-use Rattle.stand_laws.proofs.Holding.{holds_alone, stays_on_root, stays_by_bus}
-use Rattle.stand_laws.proofs.Standing.{part_of}
+use Rattle.settle_laws.specs.Holding.{TellsRoom}
+use Rattle.settle_laws.proofs.Holding.{holds_alone, stays_on_root, stays_by_bus}
+use Rattle.settle_laws.proofs.Standing.{part_of}
 use Rattle.settle_laws.proofs.HeaderParts.{header_of}
 use Rattle.settle_laws.proofs.ItemForms.{IsItemOf, IsPlaceable, IsOwnPart, IsNewWindow, items_are, item_moves}
 use Rattle.settle_laws.proofs.Kept.{in_regions, window_listed, within_over}

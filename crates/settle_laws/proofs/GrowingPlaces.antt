@@ -28,13 +28,13 @@ use Rattle.settle_spec.proofs.FirstSpot.{IsApart}
 use Rattle.settle_spec.proofs.LastSpot.{place_gives, place_from, last_is_place}
 use Rattle.settle_spec.proofs.Outward.{grown_holds_each, halves_move_out}
 use Rattle.settle_spec.proofs.Reaching.{LiesIn, within_gives, window_first, window_last}
-use Rattle.stand_laws.specs.Reach.{WindowsAreLow}
-use Rattle.stand_laws.proofs.GrowingKept.{taking, growing_stands, grown_takes, grown_range, same_range, stays_kept, kept_stands, stays_by_over, grown_by_over, kept_is_there, there_is_kept, growing_kept, growing_low}
-use Rattle.stand_laws.proofs.Holding.{items_same_on}
-use Rattle.stand_laws.proofs.Reach.{some_is}
-use Rattle.stand_laws.proofs.Standing.{window_listed, stands_by_itself}
-use Rattle.stand_laws.proofs.There.{there_on_from}
-use Rattle.stand_laws.proofs.ThereAlone.{unstanding}
+use Rattle.settle_laws.specs.Reach.{WindowsAreLow}
+use Rattle.settle_laws.proofs.GrowingKept.{taking, growing_stands, grown_takes, grown_range, same_range, stays_kept, kept_stands, stays_by_over, grown_by_over, kept_is_there, there_is_kept, growing_kept, growing_low}
+use Rattle.settle_laws.proofs.Holding.{items_same_on}
+use Rattle.settle_laws.proofs.Reach.{some_is}
+use Rattle.settle_laws.proofs.Standing.{window_listed, stands_by_itself}
+use Rattle.settle_laws.proofs.There.{there_on_from}
+use Rattle.settle_laws.proofs.ThereAlone.{unstanding}
 use Rattle.settle_laws.specs.KeptLaws.{IsAside, IsAlikeIn, AreOffBehind, HavePlaces, IsGrown}
 use Rattle.settle_laws.proofs.EachPlaced.{IsFreeAt, AreFree, each_free, looked_up, among_is}
 use Rattle.settle_laws.proofs.Held.{same_itself}

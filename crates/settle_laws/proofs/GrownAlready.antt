@@ -23,13 +23,13 @@ use Rattle.settle_spec.proofs.Grown.{grown_holds}
 use Rattle.settle_spec.proofs.Nested.{on_it}
 use Rattle.settle_spec.proofs.Outward.{grown_is_in_reach}
 use Rattle.settle_spec.proofs.Reaching.{within_gives, window_first, window_last}
-use Rattle.stand_laws.proofs.Apart.{in_window_over}
-use Rattle.stand_laws.proofs.GrowingKept.{taking, grown_takes, grown_range, same_range, there_taking, there_else}
-use Rattle.stand_laws.proofs.Holding.{items_same_on}
-use Rattle.stand_laws.proofs.Reach.{some_is}
-use Rattle.stand_laws.proofs.Standing.{part_of, stands_by_itself}
-use Rattle.stand_laws.proofs.There.{there_on_gives}
-use Rattle.stand_laws.proofs.ThereAlone.{unstanding}
+use Rattle.settle_laws.proofs.Apart.{in_window_over}
+use Rattle.settle_laws.proofs.GrowingKept.{taking, grown_takes, grown_range, same_range, there_taking, there_else}
+use Rattle.settle_laws.proofs.Holding.{items_same_on}
+use Rattle.settle_laws.proofs.Reach.{some_is}
+use Rattle.settle_laws.proofs.Standing.{part_of, stands_by_itself}
+use Rattle.settle_laws.proofs.There.{there_on_gives}
+use Rattle.settle_laws.proofs.ThereAlone.{unstanding}
 use Rattle.settle_laws.proofs.AllStand.{no_items, all_hold}
 use Rattle.settle_laws.proofs.Kept.{in_regions, off_roots}
 

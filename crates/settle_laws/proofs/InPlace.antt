@@ -26,8 +26,8 @@ use Rattle.settle_spec.specs.Parts.{FunctionPart, system_parts, addresses, lies_
 use Rattle.settle_spec.specs.Stands.{rank, is_part_on, part_space, are_beside, is_in_lists, is_in_window, is_in_place, window_part, stands}
 use Rattle.settle_spec.proofs.BridgeOver.{over_is}
 use Rattle.settle_spec.proofs.Nested.{at_secondary}
-use Rattle.stand_laws.proofs.Apart.{apart_where_beside, in_root_lists, in_window_over}
-use Rattle.stand_laws.proofs.Standing.{stands_by_itself}
+use Rattle.settle_laws.proofs.Apart.{apart_where_beside, in_root_lists, in_window_over}
+use Rattle.settle_laws.proofs.Standing.{stands_by_itself}
 use Rattle.settle_laws.specs.StartLaws.{LieInPlace, OffLieApart, is_on_from_above}
 use Rattle.settle_laws.proofs.AllInPlace.{IsLookedAt, all_in_place, looked, looked_at}
 use Rattle.settle_laws.proofs.HeaderParts.{part_cases, window_of}

@@ -18,7 +18,7 @@ use Rattle.settle_spec.specs.PlacingLaws.{HasOtherRank}
 use Rattle.settle_spec.proofs.InTurn.{turn_same}
 use Rattle.settle_spec.proofs.ItemsOn.{each_of, opened, placed_part}
 use Rattle.settle_spec.proofs.Moved.{pairs_moved}
-use Rattle.stand_laws.proofs.Ranks.{own_rise, in_slot}
+use Rattle.settle_laws.proofs.Ranks.{own_rise, in_slot}
 use Rattle.settle_laws.proofs.HeaderParts.{IsPart, one_part, window_of}
 
 window_low : (c : WindowKind) → window_register c < 64

@@ -18,9 +18,9 @@ use Rattle.settle_spec.specs.Parts.{FunctionPart, system_parts, function_parts, 
 use Rattle.settle_spec.specs.Stands.{rank, window_part, part_space, stands}
 use Rattle.settle_spec.specs.Items.{has_room, has_room_behind, stays, taken_on}
 use Rattle.settle_spec.proofs.Nested.{at_secondary, is_no_root}
-use Rattle.stand_laws.proofs.Apart.{apart_where_beside, in_window_over}
-use Rattle.stand_laws.proofs.Holding.{holds_by_bus, stays_by_bus}
-use Rattle.stand_laws.proofs.Standing.{stands_by_itself}
+use Rattle.settle_laws.proofs.Apart.{apart_where_beside, in_window_over}
+use Rattle.settle_laws.proofs.Holding.{holds_by_bus, stays_by_bus}
+use Rattle.settle_laws.proofs.Standing.{stands_by_itself}
 use Rattle.settle_laws.specs.KeptLaws.{IsAside}
 use Rattle.settle_laws.proofs.HeaderParts.{one_window, window_of}
 use Rattle.settle_laws.proofs.Held.{above_above, same_itself}

@@ -21,9 +21,9 @@ use Rattle.settle_spec.specs.PlacingLaws.{ArePlaced}
 use Rattle.settle_spec.specs.Kept.{Kept}
 use Rattle.settle_spec.specs.Keeping.Places.{taken_at}
 use Rattle.settle_spec.proofs.Nested.{on_it}
-use Rattle.stand_laws.specs.KeptApart.{IsKeptApart}
-use Rattle.stand_laws.proofs.Holding.{items_same_on}
-use Rattle.stand_laws.proofs.Standing.{part_of}
+use Rattle.settle_laws.specs.KeptApart.{IsKeptApart}
+use Rattle.settle_laws.proofs.Holding.{items_same_on}
+use Rattle.settle_laws.proofs.Standing.{part_of}
 use Rattle.settle_laws.specs.KeptLaws.{IsAside, IsAlikeIn, HavePlaces}
 use Rattle.settle_spec.proofs.Buses.{each_same}
 use Rattle.settle_laws.proofs.Held.{same_itself}

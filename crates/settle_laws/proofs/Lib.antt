@@ -90,3 +90,31 @@ pub mod WideWindows
 pub mod WindowBytes
 pub mod Wishing
 pub mod Zipped
+pub mod Order
+pub mod Standing
+pub mod Apart
+pub mod Ranks
+pub mod Passes
+pub mod Holding
+pub mod Reach
+pub mod There
+pub mod ThereApart
+pub mod ThereByBus
+pub mod ThereAlone
+pub mod StandingKept
+pub mod GrowingKept
+pub mod StandingTold
+mod ClaimedParts
+mod PlannedExamples
+mod HostSound
+mod JustPools
+mod Placed
+mod RootRanges
+mod SentLists
+mod SettledStands
+mod ShownPlaces
+mod PlannedStanding
+mod StandingSound
+mod Switched
+mod SwitchedStands
+mod Uncut

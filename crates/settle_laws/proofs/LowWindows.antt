@@ -25,8 +25,8 @@ use Rattle.settle_spec.specs.Items.{highest_in}
 use Rattle.settle_spec.specs.Reach.{raised_last, lowered_first}
 use Rattle.settle_spec.specs.Growth.{grown_to}
 use Rattle.settle_spec.proofs.Grown.{some_page}
-use Rattle.stand_laws.specs.Reach.{WindowsAreLow}
-use Rattle.stand_laws.proofs.Standing.{stands_by_itself}
+use Rattle.settle_laws.specs.Reach.{WindowsAreLow}
+use Rattle.settle_laws.proofs.Standing.{stands_by_itself}
 
 -- ---- registers
 

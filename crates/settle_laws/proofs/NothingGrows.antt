@@ -19,7 +19,7 @@ use Rattle.settle_spec.specs.Kept.{no_wish, as_it_stands, stays_growing, range_o
 use Rattle.settle_spec.specs.Keeping.Writes.{settle_keeping}
 use Rattle.settle_spec.specs.Growing.{or_else, settle_growing}
 use Rattle.settle_laws.proofs.Told.OnlyHeld.{held_of, none_stands, none_stays}
-use Rattle.stand_laws.proofs.GrowingKept.{growing_stands}
+use Rattle.settle_laws.proofs.GrowingKept.{growing_stands}
 use Rattle.settle_laws.specs.GrowingLaws.{AnewNothingGrows}
 
 module _ (q : Request) (held : AllLinesAreHeld q) (s : System) (anew : IsTrue q.anew) where

@@ -17,8 +17,8 @@ use Rattle.settle_spec.specs.Keeping.Registers.{settled, got_place}
 use Rattle.settle_spec.specs.Keeping.Writes.{settle_writes, settle_keeping}
 use Rattle.settle_spec.specs.Growing.{or_else, settle_growing}
 use Rattle.settle_spec.proofs.Grown.{growth_keeps}
-use Rattle.stand_laws.proofs.GrowingKept.{growing_stands}
-use Rattle.stand_laws.proofs.Standing.{stands_by_itself}
+use Rattle.settle_laws.proofs.GrowingKept.{growing_stands}
+use Rattle.settle_laws.proofs.Standing.{stands_by_itself}
 use Rattle.settle_laws.proofs.AllStand.{all_stay}
 use Rattle.settle_laws.proofs.GrownAlready.{none_grows}
 use Rattle.settle_laws.proofs.Untold.{settled_untold}

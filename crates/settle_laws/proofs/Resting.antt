@@ -41,7 +41,7 @@ use Rattle.settle_laws.proofs.ItemForms.{IsNewWindow, IsOwnPart, IsPlaceable, he
 use Rattle.settle_laws.proofs.Keeping.Items.{IsItemIn, same_rank, space_items_are}
 use Rattle.settle_laws.proofs.Keeping.Buses.{placing_step}
 use Rattle.settle_laws.proofs.EachPlaced.{each_items}
-use Rattle.stand_laws.proofs.Standing.{stands_by_itself}
+use Rattle.settle_laws.proofs.Standing.{stands_by_itself}
 use Rattle.pci_spec.specs.Decoded.{Range}
 use Rattle.settle_laws.proofs.KeptAside.{enables_alone}
 use Rattle.settle_laws.proofs.Numbers.{with_elsewhere}

@@ -15,10 +15,10 @@ use Rattle.plan_spec.specs.Planning.Layout.{LieApart}
 use Rattle.judge_spec.specs.ToldRegion.{ToldRegion, told_regions}
 use Rattle.settle_spec.specs.Lines.{line_range, can_keep_off}
 use Rattle.settle_spec.proofs.Reaching.{within_from, window_first, window_last}
-use Rattle.stand_laws.specs.Reach.{WindowsAreLow}
-use Rattle.stand_laws.proofs.GrowingKept.{growing_kept}
-use Rattle.stand_laws.proofs.Told.Kept.{grown_off}
-use Rattle.stand_laws.proofs.StandingKept.{standing_kept}
+use Rattle.settle_laws.specs.Reach.{WindowsAreLow}
+use Rattle.settle_laws.proofs.GrowingKept.{growing_kept}
+use Rattle.settle_laws.proofs.StandingTold.Kept.{grown_off}
+use Rattle.settle_laws.proofs.StandingKept.{standing_kept}
 use Rattle.settle_laws.specs.KeptLaws.{IsGrown, IsSoundKept}
 use Rattle.settle_laws.proofs.AllInPlace.{apart_from}
 use Rattle.settle_laws.proofs.GrowingPlaces.{growing_places, growing_grown}

@@ -11,8 +11,8 @@ use Rattle.settle_spec.specs.Parts.{FunctionPart, system_parts, addresses, class
 use Rattle.settle_spec.specs.Stands.{window_part, stands}
 use Rattle.settle_spec.proofs.Nested.{at_secondary, is_no_root}
 use Rattle.settle_spec.proofs.Reaching.{lies_in_trans, within_gives, within_from}
-use Rattle.stand_laws.proofs.Apart.{in_window_over}
-use Rattle.stand_laws.proofs.Standing.{part_of, window_listed, stands_by_itself}
+use Rattle.settle_laws.proofs.Apart.{in_window_over}
+use Rattle.settle_laws.proofs.Standing.{part_of, window_listed, stands_by_itself}
 use Rattle.settle_laws.proofs.Climbs.{climbs}
 
 module _ (q : Request) (s : System) (system : IsSystem s) (nested : IsNested q.roots s) (r : FunctionPart) (in_r : Contains (system_parts q s) r) (stand : stands q s r ≡ true) where

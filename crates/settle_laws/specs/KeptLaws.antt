@@ -18,7 +18,7 @@ use Rattle.settle_spec.specs.GrowthLaws.{MoveOut}
 use Rattle.settle_spec.specs.Kept.{Kept, no_wish, as_it_stands, growing}
 use Rattle.settle_spec.specs.Keeping.Places.{taken_at}
 use Rattle.settle_spec.specs.Wishes.{place_then, range_then}
-use Rattle.stand_laws.specs.KeptApart.{IsKeptApart}
+use Rattle.settle_laws.specs.KeptApart.{IsKeptApart}
 
 -- a range shares no address with another
 abbrev pub IsAside : Range → Range → Type 0

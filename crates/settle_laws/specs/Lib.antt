@@ -12,3 +12,15 @@ pub mod ToldAgainLaws
 pub mod WriteLaws
 pub mod ToldSoundLaws
 pub mod ToldSparingLaws
+pub mod Order
+pub mod Standing
+pub mod Passes
+pub mod Holding
+pub mod Reach
+pub mod There
+pub mod KeptApart
+pub mod StandingTold
+pub mod HostLaws
+pub mod InLists
+pub mod SettledPlans
+pub mod Switching

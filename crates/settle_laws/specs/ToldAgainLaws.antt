@@ -24,7 +24,7 @@ use Rattle.settle_spec.specs.Writes.{Settled}
 use Rattle.settle_spec.specs.Keeping.Registers.{settled, settled_function}
 use Rattle.settle_spec.specs.Keeping.Writes.{settle_writes, settle_keeping}
 use Rattle.settle_laws.specs.SparingLaws.{slot_and_register}
-use Rattle.stand_laws.specs.Told.Kept.{LinesAreForward}
+use Rattle.settle_laws.specs.StandingTold.Kept.{LinesAreForward}
 use Rattle.settle_laws.specs.Told.Ranges.{IsSettledSo}
 use Rattle.settle_laws.specs.ToldSoundLaws.{IsAdmitted}
 use Rattle.settle_laws.specs.Keeping.PlacesLaws.{CanSettle, end_range}

@@ -35,7 +35,7 @@ use Rattle.settle_spec.proofs.LastSpot.{place_gives}
 use Rattle.settle_spec.proofs.Nested.{on_it}
 use Rattle.settle_spec.proofs.NewWindows.{window_is_around}
 use Rattle.settle_spec.proofs.Room.{window_has_room}
-use Rattle.stand_laws.proofs.Holding.{items_same_on}
+use Rattle.settle_laws.proofs.Holding.{items_same_on}
 use Rattle.settle_laws.specs.KeptLaws.{IsAside, IsAlikeIn, AreOffBehind, HavePlaces}
 use Rattle.settle_laws.specs.Keeping.PlacesLaws.{CanSettle}
 use Rattle.settle_laws.proofs.BusPlaced.{one_left, nothing_long, page_some, memory_no_prefetch}

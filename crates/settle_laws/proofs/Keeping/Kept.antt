@@ -13,8 +13,8 @@ use Rattle.settle_spec.specs.Parts.{FunctionPart, system_parts, header_parts, ad
 use Rattle.settle_spec.specs.Stands.{rank, part_space, window_part, stands}
 use Rattle.settle_spec.specs.Kept.{Kept}
 use Rattle.settle_spec.proofs.Reaching.{within_gives}
-use Rattle.stand_laws.proofs.Standing.{part_of, stands_by_itself}
-use Rattle.stand_laws.proofs.There.{opened}
+use Rattle.settle_laws.proofs.Standing.{part_of, stands_by_itself}
+use Rattle.settle_laws.proofs.There.{opened}
 use Rattle.settle_laws.specs.Keeping.PlacesLaws.{CanSettle}
 use Rattle.settle_laws.proofs.HeaderParts.{window_of}
 use Rattle.settle_laws.proofs.Held.{same_itself}

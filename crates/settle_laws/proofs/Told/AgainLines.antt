@@ -25,7 +25,7 @@ use Rattle.settle_spec.specs.Keeping.Registers.{got_place, settled, settled_func
 use Rattle.settle_spec.specs.LiveLaws.{is_live, has_live_behind}
 use Rattle.settle_spec.proofs.Nested.{is_no_root}
 use Rattle.settle_spec.proofs.ToldStanding.{ranges_stand_in_place}
-use Rattle.stand_laws.proofs.Told.Beside.{apart_back, ranges_off_parts}
+use Rattle.settle_laws.proofs.StandingTold.Beside.{apart_back, ranges_off_parts}
 use Rattle.settle_laws.specs.Keeping.PlacesLaws.{CanSettle}
 use Rattle.settle_laws.proofs.Alike.{behind_alike, space_alike}
 use Rattle.settle_laws.proofs.HeaderParts.{header_of}

@@ -19,7 +19,7 @@ use Rattle.settle_spec.specs.Stands.{part_space, range_stands, stands}
 use Rattle.settle_spec.specs.Registers.{is_answered_by, has_own}
 use Rattle.settle_spec.specs.Keeping.Registers.{is_enabled_in, settled, settled_function}
 use Rattle.settle_laws.specs.Keeping.PlacesLaws.{CanSettle}
-use Rattle.stand_laws.specs.Told.Kept.{LinesAreForward}
+use Rattle.settle_laws.specs.StandingTold.Kept.{LinesAreForward}
 use Rattle.settle_laws.proofs.Alike.{header_alike, some_alike, space_alike}
 use Rattle.settle_laws.proofs.AllStand.{all_stay}
 use Rattle.settle_laws.proofs.Kept.{one_space, stays_part}

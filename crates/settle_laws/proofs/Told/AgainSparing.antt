@@ -15,7 +15,7 @@ use Rattle.settle_spec.specs.Sparing.{without_slots, have_spares, placing_reques
 use Rattle.settle_spec.specs.Stands.{window_part}
 use Rattle.settle_spec.specs.Writes.{Settled}
 use Rattle.settle_spec.specs.Keeping.Writes.{settle_keeping}
-use Rattle.stand_laws.specs.Told.Kept.{LinesAreForward}
+use Rattle.settle_laws.specs.StandingTold.Kept.{LinesAreForward}
 use Rattle.settle_laws.specs.Keeping.PlacesLaws.{CanSettle}
 use Rattle.settle_laws.specs.SparingLaws.{slot_and_register}
 use Rattle.settle_laws.specs.ToldAgainLaws.{IsSettledAwake, CanAskAwake, ToldSparingSettlesOnce, ToldSparesHaveRoom, has_room_off}

@@ -27,8 +27,8 @@ use Rattle.settle_spec.specs.ToldLaws.{IsInStandingWindow}
 use Rattle.settle_spec.proofs.BridgeOver.{over_leads}
 use Rattle.settle_spec.proofs.Nested.{is_no_root}
 use Rattle.settle_spec.proofs.ToldStanding.{ranges_stand_in_place}
-use Rattle.stand_laws.proofs.Apart.{in_root_lists}
-use Rattle.stand_laws.proofs.Standing.{part_of, stands_by_itself}
+use Rattle.settle_laws.proofs.Apart.{in_root_lists}
+use Rattle.settle_laws.proofs.Standing.{part_of, stands_by_itself}
 use Rattle.settle_laws.proofs.HeaderParts.{part_cases}
 use Rattle.settle_laws.proofs.Held.{and_second_false, left_behind}
 use Rattle.settle_laws.proofs.Kept.{one_space, window_listed, within_over}

@@ -23,11 +23,11 @@ use Rattle.settle_spec.specs.Keeping.Registers.{settled, settled_function}
 use Rattle.settle_spec.proofs.BridgeOver.{over_leads}
 use Rattle.settle_spec.proofs.Nested.{at_secondary, behind_outer}
 use Rattle.settle_spec.proofs.ToldStanding.{ranges_stand_in_place}
-use Rattle.stand_laws.proofs.Apart.{apart_where_beside, in_root_lists, in_window_over}
-use Rattle.stand_laws.proofs.Order.{precedes_itself}
-use Rattle.stand_laws.proofs.Standing.{stands_is}
-use Rattle.stand_laws.proofs.There.{class_itself}
-use Rattle.stand_laws.proofs.Told.Untold.{one_of_rank}
+use Rattle.settle_laws.proofs.Apart.{apart_where_beside, in_root_lists, in_window_over}
+use Rattle.settle_laws.proofs.Order.{precedes_itself}
+use Rattle.settle_laws.proofs.Standing.{stands_is}
+use Rattle.settle_laws.proofs.There.{class_itself}
+use Rattle.settle_laws.proofs.StandingTold.Untold.{one_of_rank}
 use Rattle.settle_laws.proofs.Alike.{behind_alike}
 use Rattle.settle_laws.proofs.HeaderParts.{window_of}
 use Rattle.settle_laws.proofs.Keeping.Again.{settled_alike}
@@ -35,7 +35,7 @@ use Rattle.settle_laws.proofs.Keeping.AgainKept.{stand_off}
 use Rattle.settle_laws.proofs.Keeping.Claimed.{bridge_stays, ends_open}
 use Rattle.settle_laws.proofs.Keeping.Moves.{new_nested, new_system}
 use Rattle.settle_laws.proofs.Kept.{in_regions, off_roots}
-use Rattle.stand_laws.specs.Told.Kept.{LinesAreForward}
+use Rattle.settle_laws.specs.StandingTold.Kept.{LinesAreForward}
 use Rattle.settle_laws.specs.Keeping.PlacesLaws.{CanSettle}
 use Rattle.settle_laws.specs.ToldSoundLaws.{KeepsTold}
 use Rattle.settle_laws.proofs.Told.AgainLines.{not_kept_off, space_stays}

@@ -7,7 +7,7 @@ use Rattle.judge_spec.specs.Told.{ToldRange, IsToldRange, IsTold}
 use Rattle.judge_spec.specs.ToldClaims.{told_register}
 use Rattle.judge_spec.specs.ToldRegion.{ToldRegion, regions_from}
 use Rattle.settle_spec.specs.Lists.{Request}
-use Rattle.stand_laws.specs.Told.Kept.{LinesAreForward}
+use Rattle.settle_laws.specs.StandingTold.Kept.{LinesAreForward}
 
 region_told : (first : ℕ) (ranges : List ToldRange) (x : ToldRegion) → Contains (regions_from first ranges) x → Contains ranges x.told
 region_told first [] x has = absurd (in_nil x has)

@@ -19,7 +19,7 @@ use Rattle.settle_spec.specs.Kept.{Kept}
 use Rattle.settle_spec.specs.Keeping.Registers.{settled_function}
 use Rattle.settle_spec.specs.Keeping.Writes.{closed_function}
 use Rattle.settle_spec.proofs.Reaching.{within_gives}
-use Rattle.stand_laws.proofs.Standing.{part_of}
+use Rattle.settle_laws.proofs.Standing.{part_of}
 use Rattle.settle_laws.specs.Keeping.PlacesLaws.{CanSettle}
 use Rattle.settle_laws.proofs.Keeping.ClosedImages.{staying_unreplaced}
 use Rattle.settle_laws.proofs.Keeping.ClosedMoves.{kept_window}

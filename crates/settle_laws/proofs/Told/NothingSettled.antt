@@ -25,8 +25,8 @@ use Rattle.settle_spec.specs.Sparing.{without_slots, settle_sparing}
 use Rattle.settle_spec.proofs.NoSlots.{no_slots_no_spares}
 use Rattle.settle_laws.specs.KeptLaws.{WishesNothing}
 use Rattle.settle_laws.specs.Told.Starts.{NeedsNothing}
-use Rattle.stand_laws.proofs.GrowingKept.{growing_stands}
-use Rattle.stand_laws.proofs.Standing.{stands_by_itself}
+use Rattle.settle_laws.proofs.GrowingKept.{growing_stands}
+use Rattle.settle_laws.proofs.Standing.{stands_by_itself}
 use Rattle.settle_spec.proofs.Grown.{growth_keeps}
 use Rattle.settle_laws.proofs.AllStand.{all_stay}
 use Rattle.settle_laws.proofs.GrownAlready.{none_grows}

@@ -24,7 +24,7 @@ use Rattle.settle_spec.specs.Wishes.{place_then}
 use Rattle.settle_spec.proofs.Reaching.{ends_apart}
 use Rattle.settle_spec.proofs.FirstSpot.{spot_gives}
 use Rattle.settle_spec.proofs.ToldStanding.{stands_off_lines}
-use Rattle.stand_laws.specs.Told.Kept.{LinesAreForward}
+use Rattle.settle_laws.specs.StandingTold.Kept.{LinesAreForward}
 use Rattle.settle_laws.specs.Keeping.PlacesLaws.{CanSettle, EndsAt}
 use Rattle.settle_laws.specs.Told.OffLines.{StaysOnOff, StoodFirst}
 use Rattle.settle_laws.proofs.Alike.{space_alike}

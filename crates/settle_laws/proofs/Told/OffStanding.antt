@@ -11,7 +11,7 @@ use Rattle.settle_spec.specs.Lists.{Request}
 use Rattle.settle_spec.specs.Parts.{FunctionPart, system_parts, addresses}
 use Rattle.settle_spec.specs.Stands.{part_space, is_line_on, range_stands, stands}
 use Rattle.settle_spec.proofs.ToldStanding.{stands_off_lines}
-use Rattle.stand_laws.proofs.Told.Beside.{apart_back, ranges_off_parts}
+use Rattle.settle_laws.proofs.StandingTold.Beside.{apart_back, ranges_off_parts}
 use Rattle.settle_laws.proofs.Kept.{lie_apart}
 
 module _ (q : Request) (s : System) (r : FunctionPart) (x : ToldRegion) (in_r : Contains (system_parts q s) r) (stand : stands q s r ≡ true) (in_x : Contains (told_regions q.told) x)

@@ -24,13 +24,13 @@ use Rattle.settle_spec.specs.Registers.{is_answered_by, has_own}
 use Rattle.settle_spec.specs.Writes.{is_cut_off_in}
 use Rattle.settle_spec.proofs.BridgeOver.{over_leads}
 use Rattle.settle_spec.proofs.ToldStanding.{ranges_stand_in_place}
-use Rattle.stand_laws.specs.Told.Standing.{shares_with_line}
-use Rattle.stand_laws.proofs.Standing.{window_listed}
-use Rattle.stand_laws.proofs.Told.Beside.{keeps_off_sharing, ranges_stand_beside_all}
-use Rattle.stand_laws.proofs.Told.Order.{range_not_itself}
-use Rattle.stand_laws.proofs.Told.Passes.{one_line}
-use Rattle.stand_laws.proofs.Told.Standing.{RangeTakes, range_stands_is, range_taking}
-use Rattle.stand_laws.proofs.Told.Untold.{stand_as_untold}
+use Rattle.settle_laws.specs.StandingTold.Standing.{shares_with_line}
+use Rattle.settle_laws.proofs.Standing.{window_listed}
+use Rattle.settle_laws.proofs.StandingTold.Beside.{keeps_off_sharing, ranges_stand_beside_all}
+use Rattle.settle_laws.proofs.StandingTold.Order.{range_not_itself}
+use Rattle.settle_laws.proofs.StandingTold.Passes.{one_line}
+use Rattle.settle_laws.proofs.StandingTold.Standing.{RangeTakes, range_stands_is, range_taking}
+use Rattle.settle_laws.proofs.StandingTold.Untold.{stand_as_untold}
 use Rattle.settle_laws.specs.Told.Ranges.{share_lines}
 use Rattle.settle_laws.specs.Told.Starts.{IsQuiet, NeedsNothing}
 use Rattle.settle_laws.proofs.Kept.{one_space}

@@ -14,13 +14,13 @@ use Rattle.settle_spec.specs.Parts.{FunctionPart, system_parts, addresses}
 use Rattle.settle_spec.specs.Stands.{first_by, range_precedes, part_space, is_line_on, is_range_in_place, is_range_kept_off, range_takes_from, range_stands, stands}
 use Rattle.settle_spec.specs.Keeping.Registers.{settled}
 use Rattle.settle_spec.proofs.ToldStanding.{ranges_stand_in_place}
-use Rattle.stand_laws.specs.Told.Standing.{shares_with_line}
-use Rattle.stand_laws.proofs.Told.Beside.{range_sides, ranges_apart, ranges_off_parts, keeps_off_sharing, ranges_stand_beside_all, apart_back}
-use Rattle.stand_laws.proofs.Told.Order.{range_not_itself}
-use Rattle.stand_laws.proofs.Told.Passes.{one_line}
-use Rattle.stand_laws.proofs.Told.Standing.{RangeTakes, range_stands_is, range_taking}
+use Rattle.settle_laws.specs.StandingTold.Standing.{shares_with_line}
+use Rattle.settle_laws.proofs.StandingTold.Beside.{range_sides, ranges_apart, ranges_off_parts, keeps_off_sharing, ranges_stand_beside_all, apart_back}
+use Rattle.settle_laws.proofs.StandingTold.Order.{range_not_itself}
+use Rattle.settle_laws.proofs.StandingTold.Passes.{one_line}
+use Rattle.settle_laws.proofs.StandingTold.Standing.{RangeTakes, range_stands_is, range_taking}
 use Rattle.settle_laws.specs.Told.Ranges.{IsReached, share_lines, IsFirstThere}
-use Rattle.stand_laws.specs.Told.Kept.{LinesAreForward}
+use Rattle.settle_laws.specs.StandingTold.Kept.{LinesAreForward}
 use Rattle.settle_laws.specs.Keeping.PlacesLaws.{CanSettle}
 use Rattle.settle_laws.specs.ToldSoundLaws.{KeepsTold}
 use Rattle.settle_laws.proofs.Told.AgainLines.{on_stood}

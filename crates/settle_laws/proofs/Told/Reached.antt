@@ -21,8 +21,8 @@ use Rattle.settle_spec.proofs.BridgeOver.{over_leads}
 use Rattle.settle_spec.proofs.Nested.{at_secondary, is_no_root, one_bridge}
 use Rattle.settle_spec.proofs.Reaching.{lies_in_trans, within_gives, within_from}
 use Rattle.settle_spec.proofs.ToldStanding.{ranges_stand_in_place}
-use Rattle.stand_laws.proofs.Apart.{in_root_lists, in_window_over}
-use Rattle.stand_laws.proofs.Standing.{part_of, stands_by_itself, window_listed}
+use Rattle.settle_laws.proofs.Apart.{in_root_lists, in_window_over}
+use Rattle.settle_laws.proofs.Standing.{part_of, stands_by_itself, window_listed}
 use Rattle.settle_laws.proofs.Held.{left_behind}
 use Rattle.settle_laws.proofs.NonePasses.{none_by}
 use Rattle.settle_laws.proofs.PartClasses.{space_of_class}

@@ -33,8 +33,8 @@ use Rattle.settle_spec.proofs.ToldStanding.{ranges_stand_in_place}
 use Rattle.settle_laws.specs.Keeping.PlacesLaws.{CanSettle}
 use Rattle.settle_laws.specs.ToldSoundLaws.{CanSettleTold}
 use Rattle.settle_laws.proofs.Held.{same_itself, and_second_false}
-use Rattle.stand_laws.proofs.Apart.{siblings_back}
-use Rattle.stand_laws.proofs.Told.Beside.{ranges_apart}
+use Rattle.settle_laws.proofs.Apart.{siblings_back}
+use Rattle.settle_laws.proofs.StandingTold.Beside.{ranges_apart}
 use Rattle.settle_laws.proofs.Kept.{lie_apart}
 use Rattle.settle_laws.proofs.Keeping.Claimed.{claimed, new_decodable}
 use Rattle.settle_laws.proofs.Keeping.Moves.{moves, new_system}

@@ -17,11 +17,11 @@ use Rattle.settle_spec.specs.Writes.{Settled}
 use Rattle.settle_spec.specs.Keeping.Registers.{settled}
 use Rattle.settle_spec.specs.Keeping.Writes.{settle_writes}
 use Rattle.settle_spec.specs.Sparing.{without_slots, have_spares, placing_request, grants, settle_sparing}
-use Rattle.stand_laws.specs.Told.Standing.{shares_with_line}
+use Rattle.settle_laws.specs.StandingTold.Standing.{shares_with_line}
 use Rattle.settle_laws.specs.Told.Ranges.{IsReached, IsFirstThere}
 use Rattle.settle_laws.specs.Told.Starts.{IsQuiet}
 use Rattle.settle_laws.specs.Told.Whole.{IsSettledBy, StoodThere}
-use Rattle.stand_laws.specs.Told.Kept.{LinesAreForward}
+use Rattle.settle_laws.specs.StandingTold.Kept.{LinesAreForward}
 use Rattle.settle_laws.specs.Keeping.PlacesLaws.{CanSettle}
 use Rattle.settle_spec.specs.Keeping.Writes.{settle_keeping, settle_writes}
 use Rattle.settle_laws.specs.ToldSoundLaws.{KeepsTold}

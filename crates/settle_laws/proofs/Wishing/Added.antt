@@ -18,7 +18,7 @@ use Rattle.settle_spec.specs.Parts.{FunctionPart, are_same_space}
 use Rattle.settle_spec.specs.Stands.{rank, are_beside, part_space, window_part}
 use Rattle.settle_spec.specs.Kept.{Kept}
 use Rattle.settle_spec.specs.Wishes.{place_then, range_then, with_window}
-use Rattle.stand_laws.proofs.Apart.{siblings_back, space_back}
+use Rattle.settle_laws.proofs.Apart.{siblings_back, space_back}
 use Rattle.settle_laws.specs.KeptLaws.{IsWishedWindow}
 use Rattle.settle_laws.specs.Keeping.PlacesLaws.{CanSettle}
 use Rattle.settle_laws.proofs.HeaderParts.{is_part_of, one_part}

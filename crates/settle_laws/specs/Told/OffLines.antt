@@ -11,7 +11,7 @@ use Rattle.settle_spec.specs.Lists.{Request}
 use Rattle.settle_spec.specs.Parts.{FunctionPart, system_parts}
 use Rattle.settle_spec.specs.Stands.{is_line_on, precedes_off, stands}
 use Rattle.settle_spec.specs.Keeping.Registers.{settled}
-use Rattle.stand_laws.specs.Told.Kept.{LinesAreForward}
+use Rattle.settle_laws.specs.StandingTold.Kept.{LinesAreForward}
 use Rattle.settle_laws.specs.Keeping.PlacesLaws.{CanSettle, EndsAt}
 
 -- A line that is off keeps a part off where it stands. The part stays, as it comes before what is off.

@@ -13,8 +13,8 @@ use Rattle.settle_spec.specs.Writes.{Settled}
 use Rattle.settle_spec.specs.Kept.{Kept}
 use Rattle.settle_spec.specs.Keeping.Registers.{settled}
 use Rattle.settle_spec.specs.Keeping.Writes.{settle_keeping}
-use Rattle.stand_laws.specs.Told.Kept.{LinesAreForward}
-use Rattle.stand_laws.specs.Told.Standing.{shares_with_line}
+use Rattle.settle_laws.specs.StandingTold.Kept.{LinesAreForward}
+use Rattle.settle_laws.specs.StandingTold.Standing.{shares_with_line}
 use Rattle.settle_laws.specs.Keeping.PlacesLaws.{CanSettle}
 
 -- What is kept can be settled so, and it is settled.

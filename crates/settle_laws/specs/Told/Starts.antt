@@ -17,8 +17,8 @@ use Rattle.settle_spec.specs.Keeping.Registers.{settled}
 use Rattle.settle_spec.specs.Keeping.Writes.{settle_writes, settle_keeping}
 use Rattle.settle_spec.specs.Growing.{settle_growing}
 use Rattle.settle_spec.specs.Sparing.{settle_sparing}
-use Rattle.stand_laws.specs.Told.Kept.{LinesAreForward}
-use Rattle.stand_laws.specs.Told.Untold.{PartsAreOffLines, AllStandUntold}
+use Rattle.settle_laws.specs.StandingTold.Kept.{LinesAreForward}
+use Rattle.settle_laws.specs.StandingTold.Untold.{PartsAreOffLines, AllStandUntold}
 use Rattle.settle_laws.specs.Told.Ranges.{share_lines}
 
 -- Each part stands, and each told range that is on. I/O is off in functions with an I/O BAR that is left, and each bridge

@@ -13,7 +13,7 @@ use Rattle.settle_spec.specs.Parts.{FunctionPart, system_parts}
 use Rattle.settle_spec.specs.Stands.{is_line_on, precedes_off, range_stands, stands}
 use Rattle.settle_spec.specs.Writes.{Settled}
 use Rattle.settle_spec.specs.Sparing.{settle_sparing}
-use Rattle.stand_laws.specs.Told.Standing.{shares_with_line}
+use Rattle.settle_laws.specs.StandingTold.Standing.{shares_with_line}
 use Rattle.settle_laws.specs.Told.Ranges.{IsReached, IsFirstThere}
 use Rattle.settle_laws.specs.Told.Starts.{IsQuiet}
 use Rattle.settle_laws.specs.ToldSoundLaws.{IsAdmitted}

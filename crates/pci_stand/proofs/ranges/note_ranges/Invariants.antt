@@ -2,7 +2,7 @@ use Rattle.std.proofs.Common.{◌≡◌, length, map}
 use Rattle.pci_spec.specs.System.{System}
 use Rattle.settle_spec.specs.Lists.{Request}
 use Rattle.settle_spec.specs.Lines.{is_held_line}
-use Rattle.stand_laws.specs.Told.Passes.{AreRangesInOrder}
+use Rattle.settle_laws.specs.StandingTold.Passes.{AreRangesInOrder}
 use Rattle.pci_stand.specs.ApartRows.{AreApartRows}
 use Rattle.pci_stand.specs.Boards.{IsTree}
 use Rattle.pci_stand.specs.LineRows.{AreLineRows}

@@ -1,7 +1,7 @@
 use Rattle.std.proofs.Common.{◌≡◌, ◌<◌, false, length, map, replicate, sym, ap, ◌∙◌, subst, arith}
 use Rattle.std.specs.List.{All}
 use Rattle.std.proofs.lemmas.List.{length-map}
-use Rattle.stand_laws.specs.Told.Passes.{AreRangesInOrder}
+use Rattle.settle_laws.specs.StandingTold.Passes.{AreRangesInOrder}
 use Rattle.pci_stand.specs.RangePass.{region_at, all_turns, AreStandingRanges}
 use Rattle.pci_stand.proofs.Turns.{all_low, in_turn, passed_none, stand_by_flags}
 use Rattle.pci_stand.proofs.Whole.{slice_back}

@@ -3,7 +3,7 @@ use Rattle.std.specs.Bool.{if◌then◌else◌}
 use Rattle.std.proofs.lemmas.List.{get_or_default, length-append}
 use Rattle.pci_spec.specs.Bus.{is_root}
 use Rattle.judge_spec.specs.Told.{ToldRange}
-use Rattle.stand_laws.specs.Order.{level}
+use Rattle.settle_laws.specs.Order.{level}
 use Rattle.pci_stand.specs.declared.told_line.ToldLine.{ToldLine}
 use Rattle.pci_stand.specs.ToldLines.{IsToldLine}
 use Rattle.pci_stand.proofs.ToldIndexes.{lines_more}

@@ -1,7 +1,7 @@
 use Rattle.std.proofs.Common.{inl, inr}
 use Rattle.settle_spec.specs.Keeping.Registers.{settled_function}
 use Rattle.settle_spec.proofs.Grown.{growth_keeps}
-use Rattle.stand_laws.proofs.GrowingKept.{growing_stands}
+use Rattle.settle_laws.proofs.GrowingKept.{growing_stands}
 use Rattle.settle_laws.proofs.OnlyOpened.{only_opened}
 use Rattle.settle_laws.proofs.Resting.{keeps_registers, written_on, has_all, has_itself}
 use Rattle.settle_laws.proofs.Staying.{stays_or_settles}

@@ -1,4 +1,0 @@
-pub mod HostLaws
-pub mod InLists
-pub mod SettledPlans
-pub mod Switching

@@ -1,5 +1,0 @@
-use Rattle.stand_laws.proofs.Told.Untold.{stand_as_untold}
-use Rattle.stand_laws.proofs.told_laws.lines_off_parts_change_nothing.Goals as goal
-
-pub returns : goal.returns
-returns c = λ q s system nested off either r listed. stand_as_untold q s system nested off either r listed

@@ -1,8 +1,0 @@
-use Rattle.stand_laws.proofs.Told.Kept.{growing_off_lines}
-use Rattle.stand_laws.proofs.told_laws.what_stays_is_off_lines.Goals as goal
-
-pub returns : goal.returns
-returns c = record {
-  standing = λ q s r x listed stay is_told keeps. keeps;
-  growing = λ q s system nested low aligned forward. growing_off_lines q s system nested low aligned forward;
-}
