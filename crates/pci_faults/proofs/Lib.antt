@@ -6,3 +6,15 @@ pub mod Losing
 pub mod Naming
 pub mod Places
 pub mod Sharing
+pub mod Lists
+pub mod Keys
+pub mod Checks
+pub mod Lines
+pub mod Merging
+pub mod OfIdentity
+pub mod OfProfile
+pub mod OfPlace
+pub mod OfRegisters
+pub mod OfLists
+pub mod OfDecoding
+pub mod Wholes

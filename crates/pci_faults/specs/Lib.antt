@@ -2,3 +2,9 @@ pub mod Lines
 pub mod Order
 pub mod Owners
 pub mod Shares
+pub mod Lists
+pub mod OwnLines
+pub mod Slots
+pub mod Phases
+pub mod Places
+pub mod Registers

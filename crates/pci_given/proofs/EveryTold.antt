@@ -15,7 +15,7 @@ use Rattle.pci_function.specs.declared.fault.Fault as code
 use Rattle.pci_function.specs.Fault.{fault_of}
 use Rattle.pci_tree.specs.Admission.{IsOutlineFor}
 use Rattle.pci_tree.specs.Outline.{Tree}
-use Rattle.pci_early.specs.Lists.{BeginsWith}
+use Rattle.pci_faults.specs.Lists.{BeginsWith}
 use Rattle.pci_check.proofs.FirstOfAll.{none_early}
 use Rattle.judge_spec.specs.Given.{Given, TakingBridge}
 use Rattle.judge_spec.specs.Fault as untold

@@ -13,10 +13,10 @@ use Rattle.pci_spec.proofs.Looking.{phase_le}
 use Rattle.pci_spec.proofs.Members.{in_nil}
 use Rattle.pci_function.specs.declared.fault.Fault as code
 use Rattle.pci_function.specs.Fault.{fault_of}
-use Rattle.pci_early.specs.Lists.{BeginsWith}
-use Rattle.pci_early.proofs.Checks.{late_alone}
-use Rattle.pci_early.proofs.Lines.{phase_of_line, none_earlier_than}
-use Rattle.pci_early.proofs.Wholes.{before_judging, same_slots}
+use Rattle.pci_faults.specs.Lists.{BeginsWith}
+use Rattle.pci_faults.proofs.Checks.{late_alone}
+use Rattle.pci_faults.proofs.Lines.{phase_of_line, none_earlier_than}
+use Rattle.pci_faults.proofs.Wholes.{before_judging, same_slots}
 use Rattle.judge_spec.specs.Given.{Given}
 use Rattle.judge_spec.specs.Fault as untold
 use Rattle.judge_spec.specs.Told.{IsTold}

@@ -18,8 +18,8 @@ use Rattle.pci_spec.proofs.Regions.{slot_number-same}
 use Rattle.pci_function.specs.declared.fault.Fault as code
 use Rattle.pci_function.specs.declared.fault.Fault.TheVariants as codes
 use Rattle.pci_function.specs.Fault.{fault_of}
-use Rattle.pci_early.proofs.Checks.{late_alone}
-use Rattle.pci_early.proofs.Keys.{not_before_itself, front_precedes, lower_precedes}
+use Rattle.pci_faults.proofs.Checks.{late_alone}
+use Rattle.pci_faults.proofs.Keys.{not_before_itself, front_precedes, lower_precedes}
 use Rattle.judge_spec.specs.Told.{IsToldRange, IsTold}
 use Rattle.judge_spec.specs.ToldClaims.{Told}
 use Rattle.judge_spec.specs.ToldFault.{IsHeldOrphan}

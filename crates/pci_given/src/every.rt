@@ -23,7 +23,7 @@ use pci_claims::taking::{Taking, all_lent};
 use pci_claims::told::Told;
 use pci_dump::block::Block;
 use pci_dump::dump::Dump;
-use pci_early::early::faults_from;
+use pci_faults::early::faults_from;
 use pci_function::fault::Fault;
 use pci_told::told_range::ToldRange;
 use pci_tree::admit::outline_of;

@@ -5,7 +5,7 @@ use pci_base::memory::Refused;
 use pci_base::slot::Slot;
 use pci_dump::block::Block;
 use pci_dump::dump::Dump;
-use pci_early::early::faults_from;
+use pci_faults::early::faults_from;
 use pci_tree::admit::outline_of;
 use pci_tree::roots::Roots;
 use std::alloc::Global;

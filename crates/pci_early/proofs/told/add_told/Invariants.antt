@@ -1,7 +1,0 @@
-use Rattle.std.proofs.Common.{◌≡◌, ◌++◌, map, take}
-use Rattle.pci_function.specs.Fault.{fault_of}
-use Rattle.pci_early.specs.Lists.{told}
-use Rattle.pci_early.proofs.told.add_told.Given as goal
-
-abbrev pub invariant-loop-fault : goal.invariant-loop-fault
-invariant-loop-fault g l = map fault_of l.found.items ≡ map fault_of l.fn.found.items ++ told (take l.fault-index l.faults)

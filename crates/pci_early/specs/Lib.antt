@@ -1,6 +1,0 @@
-pub mod Lists
-pub mod OwnLines
-pub mod Slots
-pub mod Phases
-pub mod Places
-pub mod Registers
