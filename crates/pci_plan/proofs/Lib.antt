@@ -18,3 +18,8 @@ pub mod OtherBits
 pub mod Applied
 pub mod PlanMoves
 pub mod Examples
+pub mod Places
+pub mod Starts
+pub mod Goes
+pub mod Runs
+pub mod Applies

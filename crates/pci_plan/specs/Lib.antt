@@ -7,3 +7,6 @@ pub mod Plans
 pub mod Moves
 pub mod Applying
 pub mod Numbered
+pub mod Steps
+pub mod Places
+pub mod Going

@@ -14,11 +14,19 @@
 //! }
 //! apply::apply(&mut port, &plan.as_move())?; // compares, then writes; stops at the first failure
 //! ```
+//!
+//! A plan or a settling can also be put onto a machine one access at a time. `start::start_of` lists the registers that are
+//! compared, with what a plan starts from. `step::step_at` says what the n-th access is: each register is read and compared,
+//! then each write is made and read back. `judge::judge` says what follows from what an access showed: the next one, or the
+//! answer. Whoever makes accesses by other means than a port calls these three in a loop. `run::run` is that loop over a
+//! port, and `by_steps::apply_by_steps` is it for a plan, with all that `apply` promises.
 #![tactic(auto)]
 
 pub mod apply;
 pub mod apply_fault;
+pub mod by_steps;
 mod compare;
+pub mod judge;
 mod make;
 pub mod moving;
 pub mod numbered;
@@ -27,6 +35,9 @@ pub mod plan;
 pub mod plan_fault;
 pub mod planned;
 pub mod planning;
+pub mod run;
+pub mod start;
+pub mod step;
 pub mod write;
 pub mod writes;
 

@@ -6,7 +6,7 @@ use Rattle.pci_spec.specs.Slot.{same_slot}
 use Rattle.pci_spec.specs.Text.{Block, hex_byte}
 use Rattle.pci_spec.specs.Line.{field, hex_number, slot_field}
 use Rattle.pci_spec.specs.Machine.{Write}
-use Rattle.pci_steps.specs.Steps.{all_shown}
+use Rattle.pci_plan.specs.Steps.{all_shown}
 use Rattle.pci_script.specs.declared.form.Form.{Form}
 use Rattle.pci_script.specs.declared.form.Form.TheVariants.{Setpci, Grub}
 use Rattle.pci_script.specs.declared.texts.TheConstants.{SETPCI_HEAD, SETPCI_END, GRUB_HEAD, GRUB_END}

@@ -2,15 +2,15 @@
 ghost use Rattle.std.specs.Prelude.{◌≡◌, ◌++◌, [], false, if◌then◌else◌, IfOk, OnOk, length, map, slice_index_or};
 ghost use Rattle.pci_spec.specs.Slot.{IsSlot, slot_number};
 ghost use Rattle.pci_plan.specs.Writes.{write_value};
-ghost use Rattle.pci_steps.specs.Steps.{shown_writes};
+ghost use Rattle.pci_plan.specs.Steps.{shown_writes};
 ghost use Rattle.pci_script.specs.Scripts.{compared_with};
 
 use pci_base::memory::OutOfMemory;
 use pci_base::slot::Slot;
 use pci_dump::block::Block;
+use pci_plan::start::add_shown;
 use pci_plan::write::Write;
 use pci_stand::fixed::flags_of;
-use pci_steps::start::add_shown;
 use std::alloc::Allocator;
 
 /// The slot of each write.

@@ -5,9 +5,9 @@ use Rattle.pci_dump.specs.ReadFault.{IsTextFault}
 use Rattle.pci_plan.specs.ApplyText.{apply_fault_number}
 use Rattle.pci_plan.specs.declared.apply_fault.ApplyFault.{ApplyFault}
 use Rattle.pci_plan.specs.declared.apply_fault.ApplyFault.TheVariants.{Changed, Port, Stuck}
-use Rattle.pci_steps.specs.Steps.{Step, all_shown}
-use Rattle.pci_steps.specs.declared.step.Kind.{Kind}
-use Rattle.pci_steps.specs.declared.step.Kind.TheVariants.{Compare, Make, ReadBack}
+use Rattle.pci_plan.specs.Steps.{Step, all_shown}
+use Rattle.pci_plan.specs.declared.step.Kind.{Kind}
+use Rattle.pci_plan.specs.declared.step.Kind.TheVariants.{Compare, Make, ReadBack}
 use Rattle.pciplan_held.specs.Puts.{IsPutInto}
 use Rattle.pciplan_held.specs.RegisterWrites.{write_value_of}
 use Rattle.pciplan_held.specs.declared.register_write.RegisterWrite.{RegisterWrite}

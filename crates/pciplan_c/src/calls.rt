@@ -4,7 +4,7 @@ ghost use Rattle.std.specs.List.{slice_get};
 ghost use Rattle.pci_dump.specs.ReadFault.{IsTextFault};
 ghost use Rattle.pci_dump.specs.declared.read_fault.ReadFault.{ReadFault};
 ghost use Rattle.pci_tree.specs.Roots.{IsRootList};
-ghost use Rattle.pci_steps.specs.Steps.{judged, steps_of};
+ghost use Rattle.pci_plan.specs.Steps.{judged, steps_of};
 ghost use Rattle.pci_function.specs.declared.fault.Fault.{Fault};
 ghost use Rattle.pci_check.specs.declared.outcome.Outcome.TheVariants.{Yes, No};
 ghost use Rattle.pciplan_c.specs.Answers.{IsVerdictText, IsAnswerTold, IsTooLong};

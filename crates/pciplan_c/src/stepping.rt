@@ -2,11 +2,11 @@
 ghost use Rattle.std.specs.Prelude.{◌≡◌, map};
 ghost use Rattle.std.specs.List.{slice_get};
 ghost use Rattle.std.specs.Option.{option_map};
-ghost use Rattle.pci_steps.specs.Steps.{judged, steps_of};
+ghost use Rattle.pci_plan.specs.Steps.{judged, steps_of};
 ghost use Rattle.pciplan_held.specs.RegisterWrites.{write_value_of};
 ghost use Rattle.pciplan_c.specs.Stepping.{answer_number, said_of, c_step_value};
 
-use pci_steps::step::{Place, place_at};
+use pci_plan::step::{Place, place_at};
 use pciplan_held::register_write::RegisterWrite;
 
 /// A register is read, and is to show its value.

@@ -1,7 +1,7 @@
 use Rattle.std.proofs.Common.{◌≡◌, map, take}
 use Rattle.std.specs.List.{filter}
 use Rattle.pci_plan.specs.Writes.{write_value}
-use Rattle.pci_steps.specs.Steps.{all_shown}
+use Rattle.pci_plan.specs.Steps.{all_shown}
 use Rattle.pci_script.specs.Scripts.{is_written}
 use Rattle.pci_script.proofs.compared.compared_of.Given as goal
 

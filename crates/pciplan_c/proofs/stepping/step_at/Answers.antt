@@ -3,9 +3,9 @@ use Rattle.std.specs.List.{slice_get}
 use Rattle.std.specs.Option.{option_map}
 use Rattle.std.proofs.lemmas.List.{length-map}
 use Rattle.std.proofs.lemmas.Option.{slice_get-map, slice_get-get_or}
-use Rattle.pci_steps.specs.Places.{IsPlaceOfStep}
-use Rattle.pci_steps.specs.declared.step.Kind.TheVariants.{ReadBack}
-use Rattle.pci_steps.proofs.Places.{step_compare, step_make, step_read_back, step_none}
+use Rattle.pci_plan.specs.Places.{IsPlaceOfStep}
+use Rattle.pci_plan.specs.declared.step.Kind.TheVariants.{ReadBack}
+use Rattle.pci_plan.proofs.Places.{step_compare, step_make, step_read_back, step_none}
 use Rattle.pciplan_held.specs.RegisterWrites.{write_value_of}
 use Rattle.pciplan_held.specs.declared.register_write.RegisterWrite.{RegisterWrite}
 use Rattle.pciplan_c.proofs.stepping.step_at.Goals as goal

@@ -1,0 +1,65 @@
+-- The registers that are compared, of all blocks.
+use Rattle.std.proofs.Common.{◌≡◌, ℕ, List, sym, ◌∙◌, ap, subst, Some}
+use Rattle.std.specs.List.{Contains}
+use Rattle.std.proofs.lemmas.Option.{slice_get-get_or, slice_get_within, get_or_from_slice_get}
+use Rattle.pci_spec.specs.Number.{number_at}
+use Rattle.pci_spec.specs.Text.{Block}
+use Rattle.pci_spec.specs.Machine.{Target, Write}
+use Rattle.pci_spec.proofs.Members.{IsMade, in_map_to, in_map_from, IsInPiece, in_flat_map_to, in_flat_map_from}
+use Rattle.pci_plan.specs.declared.apply_fault.ApplyFault.{ApplyFault}
+use Rattle.pci_plan.specs.declared.apply_fault.ApplyFault.TheVariants.{Changed, Port, Stuck}
+use Rattle.pci_plan.specs.Comparing.{compared, IsChangedAt, IsFunctionFault, StartsAs, IsStartFault, moment}
+use Rattle.pci_plan.proofs.Compares.{register_access}
+use Rattle.pci_plan.specs.Steps.{shown_writes, all_shown}
+use Rattle.pci_plan.specs.Going.{TakesRead, IsNumberFault, AreAllShown, IsCompareStop}
+
+-- a register with what it has in a block
+abbrev pub shown_at : Block → ℕ × ℕ → Write
+shown_at b r = record { slot = b.slot; offset = r.0; width = r.1; value = number_at b.image r.0 r.1 }
+
+-- where a compared register comes from
+pub record IsOfBlock (blocks : List Block) (w : Write) : Type 0 where
+  pub b : Block
+  pub listed : Contains blocks b
+  pub r : ℕ × ℕ
+  pub compares : Contains (compared b.image) r
+  pub is : shown_at b r ≡ w
+
+pub of_block : (blocks : List Block) (w : Write) → Contains (all_shown blocks) w → IsOfBlock blocks w
+of_block blocks w has =
+    let piece : IsInPiece shown_writes blocks w = in_flat_map_to shown_writes blocks w has in
+    let made : IsMade (shown_at piece.of) (compared piece.of.image) w = in_map_to (shown_at piece.of) (compared piece.of.image) w piece.piece in
+    record { b = piece.of; listed = piece.has; r = made.from; compares = made.has; is = made.is }
+
+pub all_readable : (blocks : List Block) (w : Write) → Contains (all_shown blocks) w → TakesRead w
+all_readable blocks w has =
+    let o = of_block blocks w has in
+    subst TakesRead o.is (register_access o.b.image o.r o.compares)
+
+-- all are shown: each function shows what its block has
+pub starts_as : (blocks : List Block) (targets : List Target) → AreAllShown targets (all_shown blocks) → StartsAs targets blocks
+starts_as blocks targets shown = λ b listed r compares.
+    let has : Contains (all_shown blocks) (shown_at b r) = in_flat_map_from shown_writes blocks b (shown_at b r) listed (in_map_from (shown_at b) (compared b.image) r compares) in
+    shown has.0 (shown_at b r) has.1 (slice_get-get_or (all_shown blocks) has.0 (shown_at b r) has.1 ∙ ap Some has.2)
+
+number_fault : (targets : List Target) (failures : ℕ) (b : Block) (r : ℕ × ℕ) (failures_after : ℕ) (fault : ApplyFault) → Contains (compared b.image) r
+    → IsNumberFault (moment targets failures) (shown_at b r) 0 failures_after fault → IsFunctionFault (moment targets failures) b.slot b.image failures_after fault
+number_fault targets failures b r failures_after (Changed slot offset) listed (here, place, other) = (
+  here,
+  subst (IsChangedAt targets b.slot b.image) (sym place) record {
+    width = r.1;
+    listed = listed;
+    other = record { shows = other.shows; shown = other.shown; differs = other.differs };
+  },
+)
+number_fault targets failures b r failures_after (Port done) listed reason = reason
+number_fault targets failures b r failures_after (Stuck done) listed reason = absurd reason
+
+-- why comparing ended
+pub start_fault_of : (blocks : List Block) (before : List Target) (failures : ℕ) (after : List Target) (failures_after : ℕ) (fault : ApplyFault)
+    → IsCompareStop (moment before failures) (all_shown blocks) (moment after failures_after) fault → IsStartFault (moment before failures) blocks failures_after fault
+start_fault_of blocks before failures after failures_after fault stop =
+    let has : Contains (all_shown blocks) stop.register =
+    (stop.place, slice_get_within (all_shown blocks) stop.place stop.register stop.listed, get_or_from_slice_get (all_shown blocks) stop.place stop.register stop.register stop.listed) in
+    let o = of_block blocks stop.register has in
+    (o.b, o.listed, number_fault before failures o.b o.r failures_after fault o.compares (subst (λ w. IsNumberFault (moment before failures) w 0 failures_after fault) (sym o.is) stop.reason))
