@@ -27,11 +27,11 @@ use Rattle.pci_settle.specs.declared.lines.Line.{Line}
 use Rattle.pci_settle.specs.Lines.{AreLineRows, AreLines}
 use Rattle.pci_settle.specs.Slots.{Demand}
 use Rattle.pci_settle.specs.Kept.{spec_part}
-use Rattle.pci_stand.specs.declared.region.Region.{Region}
-use Rattle.pci_stand.specs.declared.rules.Rules.{Rules}
-use Rattle.pci_stand.specs.Boards.{IsBoard}
-use Rattle.pci_stand.specs.Known.{asked_by, region_value, AreParts}
-use Rattle.pci_stand.specs.Passing.{AreStanding}
+use Rattle.pci_kept.specs.declared.region.Region.{Region}
+use Rattle.pci_kept.specs.declared.rules.Rules.{Rules}
+use Rattle.pci_kept.specs.Boards.{IsBoard}
+use Rattle.pci_kept.specs.Known.{asked_by, region_value, AreParts}
+use Rattle.pci_kept.specs.Passing.{AreStanding}
 use Rattle.pci_grow.specs.Reaches.{Given, StandsInRows, TellsSameOutside}
 use Rattle.pci_grow.specs.Rows.{AreRows}
 use Rattle.pci_settle.specs.Tables.{told, AreUntold}

@@ -7,9 +7,9 @@ use Rattle.pci_spec.specs.Bus.{IsNested}
 use Rattle.pci_spec.proofs.Members.{in_map_from}
 use Rattle.settle_spec.specs.Lists.{Request}
 use Rattle.settle_spec.specs.Stands.{rank}
-use Rattle.pci_stand.specs.declared.region.Region.{Region}
-use Rattle.pci_stand.specs.Known.{region_value}
-use Rattle.pci_stand.proofs.Whole.{numbers_rise}
+use Rattle.pci_kept.specs.declared.region.Region.{Region}
+use Rattle.pci_kept.specs.Known.{region_value}
+use Rattle.pci_kept.proofs.Whole.{numbers_rise}
 use Rattle.pci_grow.specs.Rows.{HasRows}
 use Rattle.pci_grow.specs.Telling.{AreStandingRows}
 use Rattle.pci_grow.proofs.StandingRows.{no_region, IsInRows, row_at, in_rows}

@@ -21,9 +21,9 @@ use Rattle.settle_laws.proofs.There.{stands_where_holds}
 use Rattle.pci_base.specs.declared.range.Range.{Range}
 use Rattle.pci_base.specs.declared.window_kind.ByKind.{ByKind}
 use Rattle.pci_base.specs.Ranges.{decoded_range_of}
-use Rattle.pci_stand.specs.Tables.{index_of, stands_in}
-use Rattle.pci_stand.proofs.Indexes.{table_at}
-use Rattle.pci_stay.proofs.Rooms.{part_there}
+use Rattle.pci_kept.specs.Tables.{index_of, stands_in}
+use Rattle.pci_kept.proofs.Indexes.{table_at}
+use Rattle.pci_kept.proofs.Rooms.{part_there}
 use Rattle.pci_settle.specs.declared.place.Places.{Places}
 use Rattle.pci_settle.specs.PlaceTables.{place_in, no_place, placed, ArePlaceless}
 use Rattle.pci_settle.specs.Tables.{untold}

@@ -39,7 +39,7 @@ use Rattle.pci_settle.specs.declared.lines.Line.{Line}
 use Rattle.pci_settle.specs.Lines.{row_of, told_row, rows_from, AreForwardRanges, AreLines, AreAdded}
 use Rattle.pci_settle.specs.Own.{class_part}
 use Rattle.pci_settle.specs.Spots.{IsBetweenTaken, extent_range}
-use Rattle.pci_stay.proofs.Held.{record_at}
+use Rattle.pci_kept.proofs.HeldTables.{record_at}
 use Rattle.pci_grow.specs.Arounds.{AreInOrder, IsPutAt}
 use Rattle.pci_grow.specs.Grounds.{is_new_window, Ground, IsBehindItem, AreOff, AreAlike}
 use Rattle.pci_grow.specs.Widest.{LiesInOne}

@@ -25,8 +25,8 @@ use Rattle.settle_laws.proofs.ThereByBus.{there_by_bus}
 use Rattle.settle_laws.proofs.ThereAlone.{unstanding}
 use Rattle.pci_base.specs.declared.range.Range.{Range}
 use Rattle.pci_base.specs.Ranges.{decoded_range_of}
-use Rattle.pci_stand.specs.declared.region.Region.{Region}
-use Rattle.pci_stand.specs.Known.{region_value}
+use Rattle.pci_kept.specs.declared.region.Region.{Region}
+use Rattle.pci_kept.specs.Known.{region_value}
 use Rattle.pci_grow.specs.There.{in_row, is_past, later_of}
 use Rattle.pci_grow.specs.Telling.{AreStandingRows, as_it_stands, IsLatest, there_among}
 use Rattle.pci_grow.proofs.InRows.{of_row, known_in, in_first, before_ends, before_done, v_known, v_row, part_in_row}

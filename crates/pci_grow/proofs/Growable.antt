@@ -19,13 +19,13 @@ use Rattle.pci_settle.specs.declared.own.Terms.{Terms}
 use Rattle.pci_settle.specs.Lines.{AreLineRows, AreLines}
 use Rattle.pci_settle.specs.Slots.{Demand}
 use Rattle.pci_settle.specs.Buses.{Classing, classing_of, TellsClasses}
-use Rattle.pci_stand.specs.declared.region.Region.{Region}
-use Rattle.pci_stand.specs.declared.rules.Rules.{Rules}
-use Rattle.pci_stand.specs.Boards.{IsBoard}
-use Rattle.pci_stand.specs.Known.{asked_by, AreParts}
-use Rattle.pci_stay.specs.declared.windows.TooLarge.{TooLarge}
-use Rattle.pci_stay.specs.Holding.{IsAsking, AreHolding}
-use Rattle.pci_stay.specs.Windows.{AreAllNew}
+use Rattle.pci_kept.specs.declared.region.Region.{Region}
+use Rattle.pci_kept.specs.declared.rules.Rules.{Rules}
+use Rattle.pci_kept.specs.Boards.{IsBoard}
+use Rattle.pci_kept.specs.Known.{asked_by, AreParts}
+use Rattle.pci_kept.specs.declared.windows.TooLarge.{TooLarge}
+use Rattle.pci_kept.specs.Holding.{IsAsking, AreHolding}
+use Rattle.pci_kept.specs.Windows.{AreAllNew}
 use Rattle.pci_grow.specs.Growing.{CanGrow}
 use Rattle.pci_settle.specs.PlaceTables.{ArePlaceless}
 use Rattle.pci_grow.specs.Reaches.{AreReaches}

@@ -26,9 +26,9 @@ use Rattle.pci_base.specs.Ranges.{decoded_range_of}
 use Rattle.pci_base.specs.WindowKinds.{kind_value, by_kind}
 use Rattle.pci_settle.specs.declared.kept.Kept.{Kept}
 use Rattle.pci_settle.specs.Kept.{kept_of, nothing_kept}
-use Rattle.pci_stand.proofs.Indexes.{table_at}
-use Rattle.pci_stay.specs.Holding.{AreNoted, AreHolding}
-use Rattle.pci_stay.specs.Staying.{HoldsWhereStands, AreStayingBy}
+use Rattle.pci_kept.proofs.Indexes.{table_at}
+use Rattle.pci_kept.specs.Holding.{AreNoted, AreHolding}
+use Rattle.pci_kept.specs.Staying.{HoldsWhereStands, AreStayingBy}
 use Rattle.pci_settle.specs.Tables.{untold, told}
 use Rattle.pci_grow.specs.Marks.{marks_of, AreKeptToo, AreLeftToldOf}
 use Rattle.pci_grow.specs.Growing.{AreComing}

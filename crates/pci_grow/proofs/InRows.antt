@@ -17,10 +17,10 @@ use Rattle.settle_spec.proofs.Reaching.{LieApart, ends_apart}
 use Rattle.settle_laws.proofs.Apart.{apart_where_beside}
 use Rattle.settle_laws.proofs.Standing.{part_of}
 use Rattle.pci_base.specs.Ranges.{decoded_range_of}
-use Rattle.pci_stand.specs.declared.region.Region.{Region}
-use Rattle.pci_stand.specs.Boards.{IsKnown}
-use Rattle.pci_stand.specs.Known.{region_value}
-use Rattle.pci_stay.proofs.Rooms.{part_there}
+use Rattle.pci_kept.specs.declared.region.Region.{Region}
+use Rattle.pci_kept.specs.Boards.{IsKnown}
+use Rattle.pci_kept.specs.Known.{region_value}
+use Rattle.pci_kept.proofs.Rooms.{part_there}
 use Rattle.pci_grow.specs.Rows.{row_of, IsInRowOrder}
 use Rattle.pci_grow.specs.There.{in_row}
 use Rattle.pci_grow.specs.Telling.{AreStandingRows, part_row, IsDone}

@@ -23,7 +23,7 @@ use Rattle.pci_settle.specs.declared.extent.Extent.{Extent}
 use Rattle.pci_settle.specs.Spots.{extent_value}
 use Rattle.pci_settle.specs.NewWindows.{nowhere, HasMarkedWindows, told_extent}
 use Rattle.pci_settle.proofs.Marked.{told_fits, same_or_large}
-use Rattle.pci_stay.specs.Windows.{IsWhole}
+use Rattle.pci_kept.specs.Windows.{IsWhole}
 use Rattle.pci_grow.specs.declared.around.Around.{Around}
 use Rattle.pci_base.specs.Ranges.{decoded_range_of}
 use Rattle.pci_grow.specs.Arounds.{find_around}

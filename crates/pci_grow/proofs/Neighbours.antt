@@ -5,7 +5,7 @@ use Rattle.std.proofs.lemmas.Bool.{cases_lt, cases_eq}
 use Rattle.pci_spec.specs.Decoded.{Range as DecodedRange}
 use Rattle.pci_base.specs.declared.range.Range.{Range}
 use Rattle.pci_base.specs.Ranges.{decoded_range_of}
-use Rattle.pci_stand.specs.declared.region.Region.{Region}
+use Rattle.pci_kept.specs.declared.region.Region.{Region}
 use Rattle.pci_grow.specs.Rows.{IsBefore, IsBehind, AreAllInLowerRows, AreAllInHigherRows, AreApartInRows, IsBeside, AreBeside}
 use Rattle.pci_grow.specs.Rooms.{IsNearestBelow, NoneBelow, Below, IsNearestAbove, NoneAbove, Above}
 

@@ -33,10 +33,10 @@ use Rattle.pci_base.specs.WindowKinds.{kind_value, by_kind}
 use Rattle.pci_place.specs.Items.{no_function, function_in}
 use Rattle.pci_settle.specs.declared.kept.Part.TheVariants as parts
 use Rattle.pci_settle.specs.Kept.{kept_of, nothing_kept, spec_part}
-use Rattle.pci_stand.specs.declared.region.Region.{Region}
-use Rattle.pci_stand.specs.Known.{region_value}
-use Rattle.pci_stand.specs.Tables.{stands_in}
-use Rattle.pci_stand.proofs.Indexes.{part_cases, index_at, table_at}
+use Rattle.pci_kept.specs.declared.region.Region.{Region}
+use Rattle.pci_kept.specs.Known.{region_value}
+use Rattle.pci_kept.specs.Tables.{stands_in}
+use Rattle.pci_kept.proofs.Indexes.{part_cases, index_at, table_at}
 use Rattle.pci_settle.specs.PlaceTables.{placed}
 use Rattle.pci_grow.specs.Putting.{ArePutOver}
 use Rattle.pci_settle.specs.Tables.{untold, told}

@@ -18,9 +18,9 @@ use Rattle.settle_laws.specs.Reach.{WindowsAreLow}
 use Rattle.settle_laws.proofs.ThereApart.{there_is_apart}
 use Rattle.pci_base.specs.declared.range.Range.{Range}
 use Rattle.pci_base.specs.Ranges.{decoded_range_of}
-use Rattle.pci_stand.specs.declared.region.Region.{Region}
-use Rattle.pci_stand.specs.Boards.{IsKnown}
-use Rattle.pci_stand.specs.Known.{region_value}
+use Rattle.pci_kept.specs.declared.region.Region.{Region}
+use Rattle.pci_kept.specs.Boards.{IsKnown}
+use Rattle.pci_kept.specs.Known.{region_value}
 use Rattle.pci_grow.specs.Arounds.{AreInOrder}
 use Rattle.pci_grow.specs.Rows.{IsInRowOrder}
 use Rattle.pci_grow.specs.There.{Tables, in_row, range_told, listed, there_of, there_told}

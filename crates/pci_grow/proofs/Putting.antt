@@ -18,7 +18,7 @@ use Rattle.pci_settle.specs.declared.item.Item.{Item}
 use Rattle.pci_settle.specs.declared.item.Part.TheVariants.{Bar}
 use Rattle.pci_settle.specs.Own.{class_part, asked_item_value}
 use Rattle.pci_settle.specs.Placings.{at_places}
-use Rattle.pci_stand.proofs.Indexes.{index_at}
+use Rattle.pci_kept.proofs.Indexes.{index_at}
 use Rattle.pci_settle.specs.declared.place.Places.{Places}
 use Rattle.pci_settle.specs.PlaceTables.{placed, PlacesSame}
 use Rattle.pci_grow.specs.Putting.{ArePutOver, HasItemPart}

@@ -35,9 +35,9 @@ use Rattle.pci_place.specs.Records.{IsRecordOf}
 use Rattle.pci_place.proofs.Records.{same_count, function_at}
 use Rattle.pci_settle.specs.declared.kept.Part.TheVariants as parts
 use Rattle.pci_settle.specs.Kept.{spec_part}
-use Rattle.pci_stand.specs.declared.region.Region.{Region}
-use Rattle.pci_stand.specs.Known.{Known, region_value}
-use Rattle.pci_stand.specs.Boards.{IsKnown}
+use Rattle.pci_kept.specs.declared.region.Region.{Region}
+use Rattle.pci_kept.specs.Known.{Known, region_value}
+use Rattle.pci_kept.specs.Boards.{IsKnown}
 use Rattle.pci_grow.specs.declared.among.Among.{Among}
 use Rattle.pci_grow.specs.Rooms.{first_behind, IsNearestBelow, IsNearestAbove}
 use Rattle.pci_grow.specs.Rows.{AreApartInRows, AreBeside}

@@ -26,9 +26,9 @@ use Rattle.pci_tree.proofs.Ways.{bridge_at, no_bridge, some_bridge}
 use Rattle.pci_place.specs.Items.{function_in}
 use Rattle.pci_place.proofs.Records.{function_at}
 use Rattle.pci_settle.specs.declared.kept.Part.TheVariants as parts
-use Rattle.pci_stand.specs.declared.region.Region.{Region}
-use Rattle.pci_stand.specs.Known.{Known}
-use Rattle.pci_stand.specs.Boards.{IsBoard, IsKnown}
+use Rattle.pci_kept.specs.declared.region.Region.{Region}
+use Rattle.pci_kept.specs.Known.{Known}
+use Rattle.pci_kept.specs.Boards.{IsBoard, IsKnown}
 use Rattle.pci_grow.specs.Reaches.{AreToldOver}
 use Rattle.pci_settle.specs.Tables.{told}
 

@@ -8,8 +8,8 @@ use Rattle.settle_spec.specs.Lists.{Request}
 use Rattle.settle_spec.specs.Growth.{range_list, there}
 use Rattle.pci_base.specs.declared.range.Range.{Range}
 use Rattle.pci_base.specs.Ranges.{decoded_range_of}
-use Rattle.pci_stand.specs.declared.region.Region.{Region}
-use Rattle.pci_stand.specs.Known.{region_value}
+use Rattle.pci_kept.specs.declared.region.Region.{Region}
+use Rattle.pci_kept.specs.Known.{region_value}
 use Rattle.pci_grow.specs.There.{Tables, in_row, range_told, later_of}
 use Rattle.pci_grow.specs.Telling.{Setting, IsGrowing, IsNext, IsNextOfSome, IsRowOfSome, IsBegunOfSome, IsLatest, there_among, AreToldTo, AreToldFrom, IsBegun, AreThere}
 use Rattle.pci_grow.proofs.Begun.{begun_told}

@@ -2,7 +2,7 @@
 use Rattle.std.proofs.Common.{◌≡◌, ℕ, ◌+◌, ◌-◌, ◌<◌, List, length, get_or, arith, ap, ◌∙◌}
 use Rattle.std.specs.List.Sorted.{IsNonDecreasingBy}
 use Rattle.std.proofs.lemmas.List.{get_or_default}
-use Rattle.pci_stand.specs.declared.region.Region.{Region}
+use Rattle.pci_kept.specs.declared.region.Region.{Region}
 use Rattle.pci_grow.specs.Rows.{row_of, AreAllInLowerRows, AreAllInHigherRows}
 
 module _ (rows : List Region) (order : IsNonDecreasingBy row_of rows) (index : ℕ) (within : index < length rows) (e : Region) where

@@ -29,13 +29,13 @@ use Rattle.pci_base.specs.declared.window_kind.WindowKind.TheVariants as kinds
 use Rattle.pci_place.specs.Items.{no_function, function_in}
 use Rattle.pci_settle.specs.declared.kept.Part.TheVariants as parts
 use Rattle.pci_settle.specs.Kept.{spec_part, nothing_kept}
-use Rattle.pci_stand.specs.declared.region.Region.{Region}
-use Rattle.pci_stand.specs.Held.{is_kept}
-use Rattle.pci_stand.specs.Known.{Known, region_value}
-use Rattle.pci_stand.specs.Boards.{IsKnown}
-use Rattle.pci_stand.proofs.Helds.{there_of}
-use Rattle.pci_stand.proofs.Passing.{levels_one, spaces_one, one_space}
-use Rattle.pci_stand.proofs.Whole.{values_are, numbers_rise, known_sorted}
+use Rattle.pci_kept.specs.declared.region.Region.{Region}
+use Rattle.pci_kept.specs.Held.{is_kept}
+use Rattle.pci_kept.specs.Known.{Known, region_value}
+use Rattle.pci_kept.specs.Boards.{IsKnown}
+use Rattle.pci_kept.proofs.Helds.{there_of}
+use Rattle.pci_kept.proofs.Passing.{levels_one, spaces_one, one_space}
+use Rattle.pci_kept.proofs.Whole.{values_are, numbers_rise, known_sorted}
 use Rattle.pci_grow.specs.Rows.{row_number, row_of, IsInRowOrder, HasRows, AreApartInRows, IsBeside, IsRangeBeside, AreBeside}
 
 -- an index past the end is read as this

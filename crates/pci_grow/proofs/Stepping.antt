@@ -18,8 +18,8 @@ use Rattle.settle_laws.specs.There.{height}
 use Rattle.settle_laws.proofs.Standing.{part_of, in_parts, stands_by_itself, window_listed}
 use Rattle.settle_laws.proofs.ThereByBus.{part_same}
 use Rattle.settle_laws.proofs.ThereAlone.{unstanding}
-use Rattle.pci_stand.specs.declared.region.Region.{Region}
-use Rattle.pci_stand.specs.Known.{region_value}
+use Rattle.pci_kept.specs.declared.region.Region.{Region}
+use Rattle.pci_kept.specs.Known.{region_value}
 use Rattle.pci_grow.specs.There.{Tables, in_row, there_told}
 use Rattle.pci_grow.specs.Telling.{AreStandingRows, part_row, IsDone, grown_there, as_it_stands, place_there, IsToldAs, AreToldWhere, AreToldFrom, AreToldTo, AreThere}
 use Rattle.pci_grow.proofs.Clearing.{step}

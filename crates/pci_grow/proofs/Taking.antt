@@ -47,8 +47,8 @@ use Rattle.pci_settle.specs.declared.kept.Part.TheVariants as parts
 use Rattle.pci_settle.specs.Kept.{spec_part}
 use Rattle.pci_settle.specs.Own.{class_part, asked_item_value}
 use Rattle.pci_settle.specs.Placings.{at_places}
-use Rattle.pci_stand.specs.declared.region.Region.{Region}
-use Rattle.pci_stand.specs.Known.{region_value}
+use Rattle.pci_kept.specs.declared.region.Region.{Region}
+use Rattle.pci_kept.specs.Known.{region_value}
 use Rattle.pci_grow.specs.Arounds.{AreInOrder}
 use Rattle.pci_settle.specs.PlaceTables.{IsItemPart}
 use Rattle.pci_grow.specs.Putting.{ArePutOver, HasItemPart}

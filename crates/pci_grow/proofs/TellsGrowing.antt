@@ -49,7 +49,7 @@ use Rattle.pci_settle.specs.Keeping.{told_of_kind, grown_of, told_if_grown, IsIn
 use Rattle.pci_settle.specs.PlaceTables.{placed}
 use Rattle.pci_settle.specs.Kept.{kept_of, nothing_kept}
 use Rattle.pci_settle.specs.Tables.{untold, told, AreForward}
-use Rattle.pci_stand.proofs.Indexes.{index_at}
+use Rattle.pci_kept.proofs.Indexes.{index_at}
 use Rattle.pci_grow.specs.Growing.{Grown, AreGrown}
 use Rattle.pci_grow.specs.Telling.{IsUnder}
 use Rattle.pci_grow.proofs.Grows.{code_kind, kind_back}

@@ -28,12 +28,12 @@ use Rattle.pci_place.specs.Items.{no_function, function_in}
 use Rattle.pci_settle.specs.declared.kept.Part.{Part as CodePart}
 use Rattle.pci_settle.specs.declared.kept.Part.TheVariants as parts
 use Rattle.pci_settle.specs.Kept.{spec_part}
-use Rattle.pci_stand.specs.declared.region.Region.{Region}
-use Rattle.pci_stand.specs.Boards.{IsKnown}
-use Rattle.pci_stand.specs.Held.{is_kept}
-use Rattle.pci_stand.specs.Known.{Known, region_value}
-use Rattle.pci_stand.specs.Tables.{stands_in}
-use Rattle.pci_stand.proofs.Indexes.{index_at, table_at}
+use Rattle.pci_kept.specs.declared.region.Region.{Region}
+use Rattle.pci_kept.specs.Boards.{IsKnown}
+use Rattle.pci_kept.specs.Held.{is_kept}
+use Rattle.pci_kept.specs.Known.{Known, region_value}
+use Rattle.pci_kept.specs.Tables.{stands_in}
+use Rattle.pci_kept.proofs.Indexes.{index_at, table_at}
 use Rattle.pci_grow.specs.Rows.{row_number, row_of}
 use Rattle.pci_settle.specs.Tables.{untold}
 use Rattle.pci_grow.specs.There.{Tables, grown_of, or_own, range_told, listed, in_row, by_class, grown_in, with_own, grown_told, there_told}

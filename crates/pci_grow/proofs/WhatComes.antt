@@ -44,9 +44,9 @@ use Rattle.pci_settle.specs.Own.{class_part, asked_item_value}
 use Rattle.pci_settle.specs.Placings.{at_places}
 use Rattle.pci_settle.specs.Turns.{HasExtent}
 use Rattle.pci_settle.proofs.Marked.{told_is}
-use Rattle.pci_stand.specs.declared.region.Region.{Region}
-use Rattle.pci_stand.specs.Known.{Known, region_value}
-use Rattle.pci_stay.specs.Windows.{IsWhole}
+use Rattle.pci_kept.specs.declared.region.Region.{Region}
+use Rattle.pci_kept.specs.Known.{Known, region_value}
+use Rattle.pci_kept.specs.Windows.{IsWhole}
 use Rattle.pci_grow.proofs.LowReaches.{highest_below, reach_low}
 use Rattle.pci_grow.specs.declared.around.Around.{Around}
 use Rattle.pci_grow.specs.Arounds.{HaveBehind, ArePlacesAround, HaveNoPlaces}

@@ -19,8 +19,8 @@ use Rattle.pci_base.specs.Ranges.{decoded_range_of}
 use Rattle.pci_settle.specs.declared.extent.Extent.{Extent}
 use Rattle.pci_settle.specs.declared.kept.Kept.{Kept}
 use Rattle.pci_settle.specs.Buses.{Classing, TellsClasses}
-use Rattle.pci_stand.specs.Tables.{index_of}
-use Rattle.pci_stay.specs.Staying.{AreStayingBy}
+use Rattle.pci_kept.specs.Tables.{index_of}
+use Rattle.pci_kept.specs.Staying.{AreStayingBy}
 use Rattle.pci_grow.specs.declared.growing.Grown.{Grown as CodeGrown}
 use Rattle.pci_settle.specs.declared.place.Places.{Places}
 use Rattle.pci_settle.specs.PlaceTables.{placed}

@@ -19,11 +19,11 @@ use Rattle.pci_settle.specs.declared.kept.Kept.{Kept}
 use Rattle.pci_settle.specs.declared.lines.Line.{Line}
 use Rattle.pci_settle.specs.Lines.{AreLineRows, AreLines}
 use Rattle.pci_settle.specs.NewWindows.{IsTooLarge}
-use Rattle.pci_stand.specs.declared.region.Region.{Region}
-use Rattle.pci_stand.specs.Known.{AreParts}
-use Rattle.pci_stand.specs.Passing.{AreStanding}
-use Rattle.pci_stay.specs.declared.windows.TooLarge.{TooLarge}
-use Rattle.pci_stay.specs.Windows.{IsWhole, is_whole_range}
+use Rattle.pci_kept.specs.declared.region.Region.{Region}
+use Rattle.pci_kept.specs.Known.{AreParts}
+use Rattle.pci_kept.specs.Passing.{AreStanding}
+use Rattle.pci_kept.specs.declared.windows.TooLarge.{TooLarge}
+use Rattle.pci_kept.specs.Windows.{IsWhole, is_whole_range}
 use Rattle.pci_grow.specs.declared.reaching.Reaching.{Reaching as CodeReaching}
 use Rattle.pci_grow.specs.Reaches.{AreReaches}
 use Rattle.pci_grow.specs.Rows.{row_of, AreRows}

@@ -9,10 +9,10 @@ use Rattle.pci_base.specs.Ranges.{decoded_range_of}
 use Rattle.pci_base.specs.Space.{space_of}
 use Rattle.pci_base.specs.declared.range.Range.{Range}
 use Rattle.pci_settle.specs.declared.kept.Kept.{Kept}
-use Rattle.pci_stand.specs.declared.region.Region.{Region}
-use Rattle.pci_stand.specs.Held.{is_kept}
-use Rattle.pci_stand.specs.Known.{AreParts}
-use Rattle.pci_stand.specs.Passing.{AreStanding}
+use Rattle.pci_kept.specs.declared.region.Region.{Region}
+use Rattle.pci_kept.specs.Held.{is_kept}
+use Rattle.pci_kept.specs.Known.{AreParts}
+use Rattle.pci_kept.specs.Passing.{AreStanding}
 
 -- a number that rises with the bus, all roots being one, and then from I/O to memory
 abbrev pub row_number : ℕ → Space → ℕ

@@ -32,11 +32,11 @@ use Rattle.pci_settle.specs.Kept.{kept_of, nothing_kept, AreKeptParts}
 use Rattle.pci_settle.specs.NewWindows.{HasNewWindows, HasMarkedWindows}
 use Rattle.pci_settle.specs.Own.{asked_item_value}
 use Rattle.pci_settle.specs.Placings.{at_places}
-use Rattle.pci_stand.specs.declared.region.Region.{Region}
-use Rattle.pci_stand.specs.Boards.{IsKnown}
-use Rattle.pci_stand.specs.Known.{region_value}
-use Rattle.pci_stay.specs.Windows.{IsWhole}
-use Rattle.pci_stay.specs.Holding.{AreHolding}
+use Rattle.pci_kept.specs.declared.region.Region.{Region}
+use Rattle.pci_kept.specs.Boards.{IsKnown}
+use Rattle.pci_kept.specs.Known.{region_value}
+use Rattle.pci_kept.specs.Windows.{IsWhole}
+use Rattle.pci_kept.specs.Holding.{AreHolding}
 use Rattle.pci_grow.specs.declared.around.Around.{Around}
 use Rattle.pci_grow.specs.declared.coming.Coming.{Coming}
 use Rattle.pci_grow.specs.declared.coming.Setting.{Setting as CodeSetting}

@@ -16,9 +16,9 @@ use Rattle.pci_settle.specs.declared.kept.Kept.{Kept}
 use Rattle.pci_settle.specs.declared.kept.Part.{Part as CodePart}
 use Rattle.pci_settle.specs.declared.kept.Part.TheVariants as parts
 use Rattle.pci_settle.specs.Spots.{extent_range}
-use Rattle.pci_stand.specs.declared.region.Region.{Region}
-use Rattle.pci_stand.specs.Held.{is_kept}
-use Rattle.pci_stand.specs.Tables.{index_of, stands_in}
+use Rattle.pci_kept.specs.declared.region.Region.{Region}
+use Rattle.pci_kept.specs.Held.{is_kept}
+use Rattle.pci_kept.specs.Tables.{index_of, stands_in}
 use Rattle.pci_settle.specs.declared.place.Places.{Places}
 use Rattle.pci_grow.specs.declared.there.There.{There}
 use Rattle.pci_grow.specs.Rows.{row_of}

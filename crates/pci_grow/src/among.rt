@@ -17,8 +17,8 @@ use crate::beside::{before, behind};
 use pci_base::range::Range;
 use pci_base::slot::Slot;
 use pci_base::space::Space;
+use pci_kept::region::Region;
 use pci_settle::lines::Line;
-use pci_stand::region::Region;
 use pci_told::told_range::ToldRange;
 
 /// The one of two ranges that ends later.

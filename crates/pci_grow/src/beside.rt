@@ -3,15 +3,15 @@ ghost use Rattle.std.specs.Prelude.{◌≡◌, ◌<◌, ◌≤◌, ℕ, IfOk, If
 ghost use Rattle.std.specs.List.{AllPairs, AllWithin, filter};
 ghost use Rattle.std.specs.List.Sorted.{IsPermutation, IsNonDecreasingBy};
 ghost use Rattle.pci_base.specs.Space.{space_of};
-ghost use Rattle.pci_stand.specs.Held.{is_kept};
+ghost use Rattle.pci_kept.specs.Held.{is_kept};
 ghost use Rattle.pci_grow.specs.Rows.{row_number, row_of, IsLower, IsInRowOrder, AreRows, IsBefore, IsBehind, AreAllInLowerRows, AreAllInHigherRows};
 
 use pci_base::memory::OutOfMemory;
 use pci_base::range::Range;
 use pci_base::space::Space;
+use pci_kept::region::Region;
 use pci_settle::bus::kept_by;
 use pci_settle::kept::Kept;
-use pci_stand::region::Region;
 use std::alloc::Allocator;
 
 /// Sorts parts by rising first addresses; those of one first address stay in their order.

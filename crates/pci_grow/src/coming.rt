@@ -15,7 +15,7 @@ ghost use Rattle.pci_settle.specs.Lines.{AreLineRows, AreLines, level_of};
 ghost use Rattle.pci_settle.specs.Own.{asked_item_value};
 ghost use Rattle.pci_settle.specs.Placings.{at_places};
 ghost use Rattle.pci_settle.specs.Turns.{HasExtent};
-ghost use Rattle.pci_stay.specs.Windows.{AreAllLawful};
+ghost use Rattle.pci_kept.specs.Windows.{AreAllLawful};
 ghost use Rattle.pci_grow.specs.Arounds.{AreInOrder, ArePlacesAround, HaveNoPlaces};
 ghost use Rattle.pci_grow.specs.Grounds.{ground_value, AreAlike};
 ghost use Rattle.pci_settle.specs.PlaceTables.{IsItemPart};
@@ -37,6 +37,7 @@ use pci_base::slot::BUSES;
 use pci_base::space::Space;
 use pci_base::window_kind::{ByKind, WindowKind};
 use pci_function::record::Bridge;
+use pci_kept::region::Region;
 use pci_settle::bus::items_in_turn;
 use pci_settle::extent::Extent;
 use pci_settle::item::Item;
@@ -44,7 +45,6 @@ use pci_settle::kept::{Kept, Part as KeptPart};
 use pci_settle::lines::{Line, add_lines_on};
 use pci_settle::listing::{Classing, Listing};
 use pci_settle::table::{WindowRanges, tell};
-use pci_stand::region::Region;
 use std::alloc::Allocator;
 
 /// What windows come to is found by.

@@ -18,8 +18,8 @@ ghost use Rattle.pci_place.specs.Items.{function_in};
 ghost use Rattle.pci_place.specs.Records.{IsRecordOf};
 ghost use Rattle.pci_settle.specs.Lists.{lists_value};
 ghost use Rattle.pci_settle.specs.declared.kept.Part.TheVariants.{Window};
-ghost use Rattle.pci_stand.specs.declared.region.Region.{Region as CodeRegion};
-ghost use Rattle.pci_stand.specs.Boards.{IsBoard, IsKnown};
+ghost use Rattle.pci_kept.specs.declared.region.Region.{Region as CodeRegion};
+ghost use Rattle.pci_kept.specs.Boards.{IsBoard, IsKnown};
 ghost use Rattle.pci_grow.specs.Reaches.{IsAmong, given_value, AreToldOver, StandsInRows, IsToldAbove, AreFirstReaches, TellsSameOutside, AreReaches};
 
 use crate::among::{Among, with_neighbours};
@@ -29,12 +29,12 @@ use pci_base::range::Range;
 use pci_base::slot::BUSES;
 use pci_base::window_kind::WindowKind;
 use pci_function::record::Record;
+use pci_kept::region::Region;
 use pci_settle::kept::Part;
 use pci_settle::lines::Line;
 use pci_settle::list::Lists;
 use pci_settle::new_window::highest_in;
 use pci_settle::table::{WindowRanges, tell, told_of};
-use pci_stand::region::Region;
 use pci_told::told_range::ToldRange;
 
 /// The whole pages of what is free around a window, up to which it can grow.

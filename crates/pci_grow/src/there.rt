@@ -12,12 +12,12 @@ use crate::beside::first_from;
 use pci_base::memory::OutOfMemory;
 use pci_base::range::Range;
 use pci_base::window_kind::WindowKind;
+use pci_kept::region::Region;
 use pci_settle::bus::kept_by;
 use pci_settle::item::Item;
 use pci_settle::kept::{Kept, Part};
 use pci_settle::place::Places;
 use pci_settle::table::{WindowRanges, told_of};
-use pci_stand::region::Region;
 use std::alloc::Allocator;
 
 /// What is there, by function in slot order.

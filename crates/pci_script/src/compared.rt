@@ -8,9 +8,9 @@ ghost use Rattle.pci_script.specs.Scripts.{compared_with};
 use pci_base::memory::OutOfMemory;
 use pci_base::slot::Slot;
 use pci_dump::block::Block;
+use pci_kept::fixed::flags_of;
 use pci_plan::start::add_shown;
 use pci_plan::write::Write;
-use pci_stand::fixed::flags_of;
 use std::alloc::Allocator;
 
 /// The slot of each write.

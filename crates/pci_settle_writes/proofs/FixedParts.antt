@@ -33,7 +33,7 @@ use Rattle.pci_settling.proofs.KeptClaims.{left_is, rom_on_is}
 use Rattle.pci_settling.proofs.PlacedImages.{register_place}
 use Rattle.pci_settle.specs.declared.kept.Kept.{Kept}
 use Rattle.pci_settle.specs.Kept.{kept_of}
-use Rattle.pci_stand.proofs.OfRecord.{window_is}
+use Rattle.pci_kept.proofs.OfRecord.{window_is}
 use Rattle.pci_settle_writes.specs.declared.lack.SettleFault.TheVariants.{Fixed}
 use Rattle.pci_settle_writes.specs.Fixed.{fixed_part, first, is_bar_without, bar_without, window_without, bridge_without, rom_without, part_without, record_without}
 use Rattle.pci_settle_writes.proofs.Firsts.{first_none, first-append, first_same, first-filter, first-map, first_pair, map_twice}

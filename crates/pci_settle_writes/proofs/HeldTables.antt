@@ -26,12 +26,12 @@ use Rattle.pci_settle.specs.Keeping.{TellsKept}
 use Rattle.pci_settle.specs.Over.{AreOpenOver}
 use Rattle.pci_settle.proofs.AsItStands.{stands_told}
 use Rattle.pci_grow.specs.Growing.{Grown, AreGrown}
-use Rattle.pci_stand.specs.Known.{asked_by}
-use Rattle.pci_stand.specs.Passing.{AreStanding}
-use Rattle.pci_stand.specs.declared.rules.Rules.{Rules}
-use Rattle.pci_stand.specs.Boards.{IsTree}
-use Rattle.pci_stay.specs.Staying.{AreStaying, AreStayingBy, stays_by}
-use Rattle.pci_stand.proofs.Opened.{tree_of}
+use Rattle.pci_kept.specs.Known.{asked_by}
+use Rattle.pci_kept.specs.Passing.{AreStanding}
+use Rattle.pci_kept.specs.declared.rules.Rules.{Rules}
+use Rattle.pci_kept.specs.Boards.{IsTree}
+use Rattle.pci_kept.specs.Staying.{AreStaying, AreStayingBy, stays_by}
+use Rattle.pci_kept.proofs.Opened.{tree_of}
 use Rattle.pci_settled.specs.Placed.{IsLeaving, CanBeLeft}
 use Rattle.pci_settled.proofs.NothingLeft.{leaves}
 use Rattle.pci_settle_writes.specs.Requests.{IsAskedOf}

@@ -29,7 +29,7 @@ use Rattle.pci_settled.specs.declared.anew.Unplaced.TheVariants as unplaced
 use Rattle.pci_settled.specs.Candidates.{candidate_value}
 use Rattle.pci_settle.specs.declared.over.Left.{Left}
 use Rattle.pci_settled.specs.Placed.{IsFirstWindowTooLarge, IsLeaving, CanBeLeft, IsUnplacedOff}
-use Rattle.pci_stay.specs.declared.windows.TooLarge.{TooLarge}
+use Rattle.pci_kept.specs.declared.windows.TooLarge.{TooLarge}
 use Rattle.pci_settle_writes.specs.declared.lack.SettleFault.{SettleFault}
 use Rattle.pci_settle_writes.specs.declared.lack.SettleFault.TheVariants as fault
 use Rattle.pci_settle_writes.specs.Lacks.{IsSettleFaultOf, too_large, unplaced_class}

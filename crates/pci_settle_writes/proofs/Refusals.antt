@@ -25,8 +25,8 @@ use Rattle.pci_settled.specs.declared.anew.Unplaced.{Unplaced}
 use Rattle.pci_settled.specs.declared.anew.Unplaced.TheVariants as unplaced
 use Rattle.pci_settled.specs.Spaces.{space_lack}
 use Rattle.pci_settled.specs.Placed.{CanBeLeft, IsUnplacedOff}
-use Rattle.pci_stay.specs.declared.windows.TooLarge.{TooLarge}
-use Rattle.pci_stay.specs.Windows.{HasWholeWindow}
+use Rattle.pci_kept.specs.declared.windows.TooLarge.{TooLarge}
+use Rattle.pci_kept.specs.Windows.{HasWholeWindow}
 use Rattle.pci_settle_writes.specs.declared.lack.SettleFault.{SettleFault}
 use Rattle.pci_settle_writes.specs.declared.lack.SettleFault.TheVariants as fault
 use Rattle.pci_settle_writes.specs.Requests.{CanStay}

@@ -20,8 +20,8 @@ use Rattle.settle_spec.proofs.BridgeOver.{over_leads}
 use Rattle.settle_spec.specs.Keeping.Writes.{is_not_reached, does_not_stay}
 use Rattle.pci_base.specs.declared.window_kind.WindowKind.{WindowKind as CodeKind}
 use Rattle.pci_base.specs.WindowKinds.{kind_value}
-use Rattle.pci_stand.specs.declared.told_line.ToldLine.{ToldLine}
-use Rattle.pci_stand.specs.ToldLines.{IsToldLine}
+use Rattle.pci_kept.specs.declared.told_line.ToldLine.{ToldLine}
+use Rattle.pci_kept.specs.ToldLines.{IsToldLine}
 use Rattle.pci_settle_writes.specs.declared.way.ByClass.{ByClass}
 use Rattle.pci_settle_writes.specs.Shut.{in_class}
 use Rattle.pci_settle_writes.specs.ToldEndings.{KnownTold, HasEachFlag, KnowsTold, are_kept_above, AreKeptAbove}

@@ -56,7 +56,7 @@ use Rattle.pci_settle.specs.Keeping.{told_of_kind}
 use Rattle.pci_settle.specs.Tables.{untold, told}
 use Rattle.pci_settled.specs.declared.places.Places.{Places}
 use Rattle.pci_settled.specs.Places.{place_range_in, placed_at}
-use Rattle.pci_stand.proofs.OfRecord.{window_is}
+use Rattle.pci_kept.proofs.OfRecord.{window_is}
 use Rattle.pci_settling.specs.Live.{HasAllPlaces}
 use Rattle.pci_settling.proofs.PlacedParts.{placed_is_part}
 use Rattle.pci_settling.proofs.PlacedImages.{register_place}

@@ -6,7 +6,7 @@ use Rattle.settle_spec.specs.Lists.{Request}
 use Rattle.settle_spec.specs.Kept.{Kept}
 use Rattle.settle_spec.specs.Writes.{fixed_without}
 use Rattle.settle_spec.specs.Keeping.Writes.{does_not_stay}
-use Rattle.pci_stand.specs.Flags.{AreFlags}
+use Rattle.pci_kept.specs.Flags.{AreFlags}
 use Rattle.pci_settle_writes.specs.declared.bounds.Bounds.{Bounds}
 use Rattle.pci_settle_writes.specs.declared.lack.SettleFault.{SettleFault}
 use Rattle.pci_settle_writes.specs.Fixed.{fixed_part}

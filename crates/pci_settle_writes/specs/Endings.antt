@@ -28,7 +28,7 @@ use Rattle.pci_settle.specs.Slots.{Demand}
 use Rattle.pci_settle.specs.NewWindows.{IsTooLarge}
 use Rattle.pci_settled.specs.Spaces.{space_lack}
 use Rattle.pci_settled.specs.Placed.{IsLeaving}
-use Rattle.pci_stay.specs.Windows.{HasWholeWindow}
+use Rattle.pci_kept.specs.Windows.{HasWholeWindow}
 use Rattle.pci_settle_writes.specs.declared.lack.SettleFault.{SettleFault}
 use Rattle.pci_settle_writes.specs.declared.lack.SettleFault.TheVariants as fault
 use Rattle.pci_settle_writes.specs.Requests.{IsAskedOf}

@@ -17,7 +17,7 @@ use Rattle.pci_settled.specs.declared.anew.Unplaced.{Unplaced}
 use Rattle.pci_settled.specs.declared.anew.Unplaced.TheVariants as unplaced
 use Rattle.pci_settled.specs.Candidates.{candidate_value}
 use Rattle.pci_settled.specs.Places.{IsPlacesPart}
-use Rattle.pci_stay.specs.declared.windows.TooLarge.{TooLarge}
+use Rattle.pci_kept.specs.declared.windows.TooLarge.{TooLarge}
 use Rattle.pci_settle_writes.specs.declared.lack.Lack.{Lack}
 use Rattle.pci_settle_writes.specs.declared.lack.SettleFault.{SettleFault}
 use Rattle.pci_settle_writes.specs.declared.lack.SettleFault.TheVariants as fault

@@ -20,8 +20,8 @@ use Rattle.settle_spec.specs.Keeping.Registers.{settled}
 use Rattle.settle_spec.specs.Keeping.Writes.{is_shut_itself, earliest}
 use Rattle.pci_base.specs.Space.{is_on}
 use Rattle.pci_settle.specs.declared.told.ToldRanges.{ToldRanges}
-use Rattle.pci_stand.specs.declared.told_line.ToldLine.{ToldLine}
-use Rattle.pci_stand.specs.ToldLines.{AreToldLines}
+use Rattle.pci_kept.specs.declared.told_line.ToldLine.{ToldLine}
+use Rattle.pci_kept.specs.ToldLines.{AreToldLines}
 use Rattle.pci_settling.specs.Answers.{AreFlagsOfTold}
 use Rattle.pci_settle_writes.specs.declared.told.KnownRanges.{KnownRanges}
 use Rattle.pci_settle_writes.specs.declared.told.Told.{Told as CodeTold}

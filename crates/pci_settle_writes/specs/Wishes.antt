@@ -21,7 +21,7 @@ use Rattle.pci_function.specs.declared.record.Record.{Record}
 use Rattle.pci_function.specs.Values.{record_value}
 use Rattle.pci_tree.specs.declared.roots.Roots.{Roots}
 use Rattle.pci_tree.specs.Roots.{buses_of}
-use Rattle.pci_stand.specs.Flags.{AreFlags}
+use Rattle.pci_kept.specs.Flags.{AreFlags}
 use Rattle.pci_settle.specs.declared.list.Lists.{Lists}
 use Rattle.pci_settle.specs.declared.slots.Slots.{Slots}
 use Rattle.pci_settle.specs.Keeping.{told_of_kind}

@@ -10,7 +10,7 @@ ghost use Rattle.pci_place.specs.Above.{system_in};
 ghost use Rattle.pci_plan.specs.Writes.{write_value};
 ghost use Rattle.pci_settle.specs.Slots.{demand_value};
 ghost use Rattle.pci_settling.specs.Shown.{HasRegister};
-ghost use Rattle.pci_stand.specs.Flags.{AreFlags};
+ghost use Rattle.pci_kept.specs.Flags.{AreFlags};
 ghost use Rattle.pci_settle_writes.specs.Requests.{IsAskedOf};
 ghost use Rattle.pci_settle_writes.specs.Told.{IsTableOf};
 ghost use Rattle.pci_settle_writes.specs.Fixed.{fixed_part, fixed_register, is_bar_without, bar_without, window_without, bridge_without, rom_without, part_without, record_without};

@@ -6,7 +6,7 @@ ghost use Rattle.pci_base.specs.declared.window_kind.WindowKind.{WindowKind as C
 ghost use Rattle.pci_base.specs.WindowKinds.{kind_value, by_kind};
 ghost use Rattle.pci_settle.specs.Slots.{wanted_of, spare_by};
 ghost use Rattle.pci_settle.specs.Spots.{IsExtent};
-ghost use Rattle.pci_stand.specs.Flags.{AreFlags};
+ghost use Rattle.pci_kept.specs.Flags.{AreFlags};
 ghost use Rattle.pci_spare.specs.Granting.{spare_up_to, AreExtents};
 ghost use Rattle.pci_settle_writes.specs.Before.{AreFlagsOf};
 

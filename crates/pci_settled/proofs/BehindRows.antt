@@ -25,7 +25,7 @@ use Rattle.pci_settle.specs.declared.lines.Line.{Line}
 use Rattle.pci_settle.specs.Lines.{Row, row_of, told_row, rows_from, AreLines}
 use Rattle.pci_settle.proofs.NearRanges.{AreNear, near_place}
 use Rattle.pci_settle.proofs.Rows.{row_at}
-use Rattle.pci_stand.proofs.ToldIndexes.{told_at, told_by}
+use Rattle.pci_kept.proofs.ToldIndexes.{told_at, told_by}
 use Rattle.pci_settled.specs.declared.stretch.Sought.{Sought}
 use Rattle.pci_settled.specs.Stretches.{is_row_behind, IsFar, AreSought}
 use Rattle.pci_settled.specs.Taken.{AreNearListed}

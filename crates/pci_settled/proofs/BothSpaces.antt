@@ -32,9 +32,9 @@ use Rattle.pci_settled.specs.declared.anew.Unplaced.TheVariants as unplaced
 use Rattle.pci_settled.specs.declared.candidate.Candidate.{Candidate}
 use Rattle.pci_settled.specs.declared.candidate.SpaceWindows.{SpaceWindows}
 use Rattle.pci_settled.specs.declared.places.Places.{Places}
-use Rattle.pci_stand.specs.declared.held.Held.{Held}
+use Rattle.pci_kept.specs.declared.held.Held.{Held}
 use Rattle.pci_settled.specs.declared.staying.Staying.{Staying}
-use Rattle.pci_stand.specs.Held.{AreHeld, AreHeldIn}
+use Rattle.pci_kept.specs.Held.{AreHeld, AreHeldIn}
 use Rattle.pci_settled.specs.Staying.{IsStaying, setting}
 use Rattle.pci_settled.specs.Candidates.{candidate_value, HasWindowsIn, KnowsRequest, pass}
 use Rattle.pci_settled.specs.Places.{place_range_in}

@@ -41,7 +41,7 @@ use Rattle.pci_settle.specs.Kept.{kept_of, nothing_kept}
 use Rattle.pci_settle.specs.Tables.{untold}
 use Rattle.pci_settle.specs.PlaceTables as ToldOf
 use Rattle.pci_settle.specs.Keeping.{told_of_kind, told_if_grown, IsInKept, TellsKept}
-use Rattle.pci_stand.proofs.OfRecord.{window_is}
+use Rattle.pci_kept.proofs.OfRecord.{window_is}
 use Rattle.pci_settled.specs.declared.places.Places.{Places}
 use Rattle.pci_settled.specs.declared.candidate.Candidate.{Candidate}
 use Rattle.pci_settled.specs.Candidates.{candidate_value}

@@ -41,8 +41,8 @@ use Rattle.pci_settle.specs.declared.lines.Line.{Line}
 use Rattle.pci_settle.specs.declared.placing.Wanted.{Wanted}
 use Rattle.pci_settle.specs.Lines.{row_of, told_row, rows_from, AreForwardRanges, AreLines, AreAdded}
 use Rattle.pci_settle.specs.Spots.{FirstsRise, AreRisingRanges}
-use Rattle.pci_stand.specs.Held.{held_range, is_level_on}
-use Rattle.pci_stand.proofs.Helds.{same_parts}
+use Rattle.pci_kept.specs.Held.{held_range, is_level_on}
+use Rattle.pci_kept.proofs.Helds.{same_parts}
 use Rattle.pci_settled.specs.declared.candidate.Candidate.{Candidate}
 use Rattle.pci_settled.specs.declared.staying.Staying.{Staying}
 use Rattle.pci_settled.specs.Candidates.{candidate_value}

@@ -9,7 +9,7 @@ use Rattle.pci_settle.specs.declared.own.Terms.{Terms}
 use Rattle.pci_settle.specs.Buses.{Classing, TellsClasses}
 use Rattle.pci_settle.specs.Keeping.{TellsKept}
 use Rattle.pci_settle.specs.Lines.{AreLines}
-use Rattle.pci_stand.specs.Held.{AreHeld}
+use Rattle.pci_kept.specs.Held.{AreHeld}
 use Rattle.pci_settled.specs.declared.staying.Staying.{Staying}
 use Rattle.pci_settled.specs.declared.setting.Setting as declared
 

@@ -16,7 +16,7 @@ use Rattle.pci_function.specs.Values.{record_value}
 use Rattle.pci_settle.specs.declared.lines.Line.{Line}
 use Rattle.pci_settle.specs.Lines.{AreLines}
 use Rattle.pci_settle.specs.declared.placing.Wanted.{Wanted}
-use Rattle.pci_stand.specs.Held.{AreHeld}
+use Rattle.pci_kept.specs.Held.{AreHeld}
 use Rattle.pci_settled.specs.declared.candidate.Candidate.{Candidate}
 use Rattle.pci_settled.specs.declared.staying.Staying.{Staying}
 use Rattle.pci_settled.specs.Candidates.{candidate_value, HasPart}

@@ -3,16 +3,16 @@ ghost use Rattle.std.specs.Prelude.{IfOk};
 ghost use Rattle.pci_base.specs.Space.{space_of};
 ghost use Rattle.pci_settle.specs.Lines.{AreLineRows};
 ghost use Rattle.pci_settle.specs.Spots.{AreRisingRanges};
-ghost use Rattle.pci_stand.specs.Held.{AreByLevel};
+ghost use Rattle.pci_kept.specs.Held.{AreByLevel};
 ghost use Rattle.pci_settled.specs.Taken.{AreTakenAt};
 
 use crate::staying::Staying;
 use pci_base::memory::OutOfMemory;
 use pci_base::range::Range;
 use pci_base::space::Space;
+use pci_kept::held::taken_on;
 use pci_settle::lines::add_lines_on;
 use pci_settle::spot::sort_by_first;
-use pci_stand::held::taken_on;
 use std::alloc::Allocator;
 
 /// What is taken on a level in a space, by rising first addresses: by the parts that stay there, and by lines.

@@ -7,7 +7,7 @@ ghost use Rattle.pci_place.specs.Above.{AreAboves, system_in};
 ghost use Rattle.pci_settle.specs.Lists.{lists_value};
 ghost use Rattle.pci_settle.specs.Slots.{demand_value};
 ghost use Rattle.pci_settle.specs.Own.{AreTerms};
-ghost use Rattle.pci_stand.specs.Held.{AreByLevel};
+ghost use Rattle.pci_kept.specs.Held.{AreByLevel};
 ghost use Rattle.pci_settle.specs.Lines.{AreLineRows};
 ghost use Rattle.pci_settled.specs.Stretches.{AreStretches};
 ghost use Rattle.pci_settled.specs.Candidates.{AreSpaceWindows, HasWindowsIn, KnowsWindows, KnowsRequest, pass_value};

@@ -1,8 +1,8 @@
 //! What stays where it is, while all else is placed.
 use crate::stretch::Stretch;
+use pci_kept::held::Held;
 use pci_settle::lines::Line;
 use pci_settle::over::Left;
-use pci_stand::held::Held;
 
 /// What stays where it is.
 #[derive(Clone, Copy, Debug)]

@@ -3,7 +3,7 @@ use Rattle.std.specs.List.{AllPairs}
 use Rattle.std.specs.List.Sorted.{IsPermutation}
 use Rattle.std.proofs.lemmas.List.Kept.{AllPairs-filter}
 use Rattle.std.proofs.lemmas.List.Sorted.{IsPermutation-trans}
-use Rattle.pci_stand.specs.Held.{is_kept}
+use Rattle.pci_kept.specs.Held.{is_kept}
 use Rattle.pci_grow.proofs.beside.standing_in_rows.Goals as goal
 
 pub returns-clause-rows : goal.returns-clause-rows

@@ -1,6 +1,6 @@
 use Rattle.std.proofs.Common.{◌≡◌, take}
 use Rattle.std.specs.List.{filter}
-use Rattle.pci_stand.specs.Held.{is_kept}
+use Rattle.pci_kept.specs.Held.{is_kept}
 use Rattle.pci_grow.proofs.beside.standing_parts.Given as goal
 
 abbrev pub invariant-loop-region : goal.invariant-loop-region

@@ -3,7 +3,7 @@ use Rattle.std.specs.List.{All}
 use Rattle.pci_base.specs.WindowKinds.{kind_value}
 use Rattle.pci_settle.specs.Own.{asked_item_value}
 use Rattle.pci_settle.specs.Placings.{at_places}
-use Rattle.pci_stand.proofs.Whole.{slice_back}
+use Rattle.pci_kept.proofs.Whole.{slice_back}
 use Rattle.pci_grow.specs.Putting.{ArePutOver, HasItemPart}
 use Rattle.pci_grow.specs.There.{tables_of}
 use Rattle.pci_grow.proofs.Noting.{noted_from}

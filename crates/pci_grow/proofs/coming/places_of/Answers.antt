@@ -1,5 +1,5 @@
 use Rattle.std.proofs.Common.{◌∙◌, length, ap, sym, arith}
-use Rattle.pci_stand.proofs.Whole.{slice_back}
+use Rattle.pci_kept.proofs.Whole.{slice_back}
 use Rattle.pci_grow.specs.Grounds.{ground_value}
 use Rattle.pci_grow.proofs.Lacking.{one_lacks, none_lacks}
 use Rattle.pci_grow.proofs.coming.places_of.Goals as goal

@@ -3,7 +3,7 @@ use Rattle.pci_function.specs.declared.record.Record.{Record}
 use Rattle.pci_place.specs.Above.{system_in}
 use Rattle.pci_place.specs.Items.{function_in}
 use Rattle.pci_place.proofs.Records.{lent}
-use Rattle.pci_stay.proofs.Held.{record_at}
+use Rattle.pci_kept.proofs.HeldTables.{record_at}
 use Rattle.pci_grow.specs.There.{tables_of}
 use Rattle.pci_grow.specs.Telling.{setting_value}
 use Rattle.pci_grow.proofs.Taking.{no_bridge, no_reach, window_of, there_told_is, behind_in_order}

@@ -1,7 +1,7 @@
 use Rattle.std.proofs.Common.{◌⊎◌, ◌≡◌, None, false, refl, subst}
 use Rattle.std.specs.List.{All}
 use Rattle.pci_settle.specs.Slots.{demand_value}
-use Rattle.pci_stay.proofs.Asked.{left_of}
+use Rattle.pci_kept.proofs.Asked.{left_of}
 use Rattle.pci_grow.specs.Reaching.{reaching_value, tells_whole, TellsWhole}
 use Rattle.pci_grow.proofs.Growable.{can_grow, large_of}
 use Rattle.pci_grow.proofs.growing.growing.Goals as goal

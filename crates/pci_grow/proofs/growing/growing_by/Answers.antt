@@ -10,12 +10,12 @@ use Rattle.pci_place.proofs.Records.{lent, same_count}
 use Rattle.pci_settle.specs.Buses.{classing_value}
 use Rattle.pci_settle.specs.Lines.{AreLineRows}
 use Rattle.pci_settle.specs.Lists.{lists_value}
-use Rattle.pci_stand.specs.Known.{AreParts}
-use Rattle.pci_stand.specs.Passing.{CanBeNoted, AreStanding}
-use Rattle.pci_stand.proofs.Whole.{ready, slice_back}
-use Rattle.pci_stay.specs.Rooms.{region_bus}
-use Rattle.pci_stay.specs.Staying.{AreStayingBy}
-use Rattle.pci_stay.proofs.Stays.{room_stands, buses_rise}
+use Rattle.pci_kept.specs.Known.{AreParts}
+use Rattle.pci_kept.specs.Passing.{CanBeNoted, AreStanding}
+use Rattle.pci_kept.proofs.Whole.{ready, slice_back}
+use Rattle.pci_kept.specs.Rooms.{region_bus}
+use Rattle.pci_kept.specs.Staying.{AreStayingBy}
+use Rattle.pci_kept.proofs.Stays.{room_stands, buses_rise}
 use Rattle.pci_grow.specs.Growing.{AreComing}
 use Rattle.pci_grow.specs.Reaching.{reaching_value}
 use Rattle.pci_grow.specs.Rows.{row_of}

@@ -1,7 +1,7 @@
 use Rattle.std.proofs.Common.{sym, ◌∙◌, subst}
 use Rattle.settle_spec.specs.Growth.{takes}
 use Rattle.settle_spec.specs.Kept.{is_kept}
-use Rattle.pci_stay.specs.Holding.{AreNoted}
+use Rattle.pci_kept.specs.Holding.{AreNoted}
 use Rattle.pci_grow.proofs.Grows.{takes_only, kept_only, marks_noted, all_noted, grown_left}
 use Rattle.pci_grow.proofs.growing.stay_grown.Goals as goal
 

@@ -3,8 +3,8 @@ use Rattle.pci_place.specs.Above.{system_in}
 use Rattle.pci_place.proofs.Records.{lent, same_count}
 use Rattle.pci_settle.specs.Lines.{AreLineRows, AreLines}
 use Rattle.pci_settle.specs.Slots.{demand_value}
-use Rattle.pci_stand.specs.Known.{asked_by}
-use Rattle.pci_stand.proofs.Whole.{slice_back}
+use Rattle.pci_kept.specs.Known.{asked_by}
+use Rattle.pci_kept.proofs.Whole.{slice_back}
 use Rattle.pci_grow.specs.Reaches.{AreReaches}
 use Rattle.pci_grow.specs.Rows.{AreRows}
 use Rattle.pci_settle.specs.Tables.{told, AreUntold}

@@ -1,6 +1,6 @@
 use Rattle.std.proofs.Common.{map, subst, sym}
 use Rattle.pci_plan.specs.Writes.{write_value}
-use Rattle.pci_stand.specs.Flags.{AreFlags}
+use Rattle.pci_kept.specs.Flags.{AreFlags}
 use Rattle.pci_script.proofs.Scripts.{block_more}
 use Rattle.pci_script.proofs.compared.compared_of.Goals as goal
 

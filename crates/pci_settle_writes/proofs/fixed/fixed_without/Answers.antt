@@ -12,7 +12,7 @@ use Rattle.pci_place.proofs.Records.{FunctionAt, function_read}
 use Rattle.pci_settle.specs.Slots.{demand_value}
 use Rattle.pci_settle.specs.Own.{AreTerms}
 use Rattle.pci_settling.proofs.Registers.{have_registers}
-use Rattle.pci_stand.specs.Flags.{AreFlags}
+use Rattle.pci_kept.specs.Flags.{AreFlags}
 use Rattle.pci_settle_writes.specs.Requests.{IsAskedOf}
 use Rattle.pci_settle_writes.specs.Told.{IsTableOf}
 use Rattle.pci_settle_writes.specs.Fixed.{fixed_part, first}

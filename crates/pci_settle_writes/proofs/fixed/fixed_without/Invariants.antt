@@ -5,7 +5,7 @@ use Rattle.settle_spec.specs.Parts.{FunctionPart, function_parts}
 use Rattle.settle_spec.specs.Writes.{fixed_without}
 use Rattle.pci_place.specs.Above.{system_in}
 use Rattle.pci_settle.specs.Slots.{demand_value}
-use Rattle.pci_stand.specs.Flags.{AreFlags}
+use Rattle.pci_kept.specs.Flags.{AreFlags}
 use Rattle.pci_settle_writes.specs.Requests.{IsAskedOf}
 use Rattle.pci_settle_writes.specs.Told.{IsTableOf}
 use Rattle.pci_settle_writes.specs.Fixed.{fixed_part}

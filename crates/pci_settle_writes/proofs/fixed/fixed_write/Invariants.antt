@@ -3,7 +3,7 @@ use Rattle.std.specs.Option.{option_map}
 use Rattle.settle_spec.specs.Lists.{Request}
 use Rattle.settle_spec.specs.Writes.{fixed_write}
 use Rattle.pci_plan.specs.Writes.{write_value}
-use Rattle.pci_stand.specs.Flags.{AreFlags}
+use Rattle.pci_kept.specs.Flags.{AreFlags}
 use Rattle.pci_settle_writes.specs.Fixed.{fixed_register}
 use Rattle.pci_settle_writes.proofs.fixed.fixed_write.Given as goal
 

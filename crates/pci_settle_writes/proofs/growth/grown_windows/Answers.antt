@@ -1,7 +1,7 @@
 use Rattle.std.proofs.Common.{subst}
 use Rattle.pci_place.specs.Above.{system_in}
 use Rattle.pci_settle.specs.Slots.{demand_value}
-use Rattle.pci_stand.specs.Known.{asked_by}
+use Rattle.pci_kept.specs.Known.{asked_by}
 use Rattle.pci_grow.specs.Reaching.{IsTooLargeAround}
 use Rattle.pci_settle_writes.proofs.Outcomes.{large_not_grown}
 use Rattle.pci_settle_writes.proofs.growth.grown_windows.Goals as goal

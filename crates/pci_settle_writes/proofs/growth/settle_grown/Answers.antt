@@ -5,7 +5,7 @@ use Rattle.pci_base.specs.declared.memory.Refused.TheVariants as refused
 use Rattle.pci_place.specs.Above.{system_in}
 use Rattle.pci_settle.specs.declared.told.ToldRanges.{ToldRanges}
 use Rattle.pci_settle.specs.Slots.{demand_value}
-use Rattle.pci_stand.specs.Known.{asked_by}
+use Rattle.pci_kept.specs.Known.{asked_by}
 use Rattle.pci_grow.specs.Growing.{grown_value}
 use Rattle.pci_settle_writes.specs.Ended.{held_value, IsEnded}
 use Rattle.pci_settle_writes.proofs.HeldTables.{asked_is, table_stay, left_opened, grown_can_be_left, told_grown}

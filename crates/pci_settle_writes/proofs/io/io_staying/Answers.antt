@@ -1,7 +1,7 @@
 use Rattle.std.proofs.Common.{subst}
 use Rattle.pci_place.specs.Above.{system_in}
 use Rattle.pci_settle.specs.Slots.{demand_value}
-use Rattle.pci_stay.specs.Staying.{IsTooLargeInIo, asked_in_io}
+use Rattle.pci_kept.specs.Staying.{IsTooLargeInIo, asked_in_io}
 use Rattle.pci_settle_writes.proofs.IoFirst.{large_in_io}
 use Rattle.pci_settle_writes.proofs.io.io_staying.Goals as goal
 

@@ -4,7 +4,7 @@ use Rattle.std.proofs.lemmas.Bool.{and_parts, both_ways}
 use Rattle.std.proofs.lemmas.Result.{IfOk-weaker}
 use Rattle.judge_spec.specs.Told.{ToldRange}
 use Rattle.pci_settle.specs.Slots.{demand_value}
-use Rattle.pci_stand.specs.Known.{asked_by}
+use Rattle.pci_kept.specs.Known.{asked_by}
 use Rattle.pci_settle_writes.proofs.IoFirst.{empty_if}
 use Rattle.pci_settle_writes.proofs.settle.settle_listed.Goals as goal
 

@@ -1,7 +1,7 @@
 use Rattle.std.proofs.Common.{sym, subst}
 use Rattle.pci_place.specs.Above.{system_in}
 use Rattle.pci_settle.specs.Slots.{demand_value}
-use Rattle.pci_stand.specs.Known.{asked_by}
+use Rattle.pci_kept.specs.Known.{asked_by}
 use Rattle.pci_settle_writes.specs.Ended.{ended_value}
 use Rattle.pci_settle_writes.specs.ToldEndings.{HasEachFlag, KnowsTold}
 use Rattle.pci_settle_writes.proofs.Outcomes.{ended_growing}

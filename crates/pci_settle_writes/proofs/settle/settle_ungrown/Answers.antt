@@ -1,6 +1,6 @@
 use Rattle.std.proofs.Common.{sym, ◌∙◌}
 use Rattle.pci_settle.specs.Slots.{demand_value}
-use Rattle.pci_stand.specs.Known.{asked_by}
+use Rattle.pci_kept.specs.Known.{asked_by}
 use Rattle.pci_settle_writes.specs.Ended.{ended_value}
 use Rattle.pci_settle_writes.proofs.Outcomes.{ended_standing}
 use Rattle.pci_settle_writes.proofs.settle.settle_ungrown.Goals as goal

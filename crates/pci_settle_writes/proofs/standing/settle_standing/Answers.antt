@@ -6,7 +6,7 @@ use Rattle.settle_spec.specs.Kept.{as_it_stands}
 use Rattle.pci_place.specs.Above.{system_in}
 use Rattle.pci_settle.specs.declared.told.ToldRanges.{ToldRanges}
 use Rattle.pci_settle.specs.Slots.{demand_value}
-use Rattle.pci_stand.specs.Known.{asked_by}
+use Rattle.pci_kept.specs.Known.{asked_by}
 use Rattle.pci_settle_writes.specs.Ended.{held_value, IsEnded}
 use Rattle.pci_settle_writes.proofs.HeldTables.{asked_is, table_stand, table_stay, rest_can_be_left, told_rest}
 use Rattle.pci_settle_writes.proofs.Refusals.{unstanding, kept_standing, ended_too_large}

@@ -2,8 +2,8 @@ use Rattle.std.proofs.Common.{subst}
 use Rattle.std.proofs.lemmas.Result.{err_from_is_err_and}
 use Rattle.pci_place.specs.Above.{system_in}
 use Rattle.pci_settle.specs.Slots.{demand_value}
-use Rattle.pci_stand.specs.Known.{asked_by}
-use Rattle.pci_stay.specs.Staying.{IsTooLargeFor}
+use Rattle.pci_kept.specs.Known.{asked_by}
+use Rattle.pci_kept.specs.Staying.{IsTooLargeFor}
 use Rattle.pci_settle_writes.proofs.Refusals.{asked_too_large, asked_io}
 use Rattle.pci_settle_writes.proofs.standing.staying_parts.Goals as goal
 

@@ -11,7 +11,7 @@ use Rattle.settle_spec.specs.Kept.{Kept}
 use Rattle.settle_spec.specs.Keeping.Writes.{does_not_stay}
 use Rattle.pci_base.specs.declared.window_kind.WindowKind.TheVariants as kinds
 use Rattle.pci_base.specs.WindowKinds.{kind_value}
-use Rattle.pci_stand.specs.declared.told_line.ToldLine.{ToldLine}
+use Rattle.pci_kept.specs.declared.told_line.ToldLine.{ToldLine}
 use Rattle.pci_settle_writes.specs.declared.way.ByClass.{ByClass}
 use Rattle.pci_settle_writes.specs.declared.lack.SettleFault.TheVariants as fault
 use Rattle.pci_settle_writes.specs.Shut.{in_class}

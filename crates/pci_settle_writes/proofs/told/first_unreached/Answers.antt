@@ -5,7 +5,7 @@ use Rattle.settle_spec.specs.Keeping.Writes.{is_not_reached}
 use Rattle.std.proofs.lemmas.Option.{same_Some}
 use Rattle.judge_spec.specs.ToldClaims.{told_register}
 use Rattle.pci_base.specs.declared.window_kind.WindowKind.TheVariants as kinds
-use Rattle.pci_stand.specs.declared.told_line.ToldLine.{ToldLine}
+use Rattle.pci_kept.specs.declared.told_line.ToldLine.{ToldLine}
 use Rattle.pci_settle_writes.specs.declared.lack.SettleFault.TheVariants as fault
 use Rattle.pci_settle_writes.specs.ToldEndings.{told_fault, told_value}
 use Rattle.pci_settle_writes.proofs.ToldFirsts.{told_at, none_yet, none_next, none_past, none_at_all, one_there}

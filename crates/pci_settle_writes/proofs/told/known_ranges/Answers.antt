@@ -2,8 +2,8 @@ use Rattle.std.proofs.Common.{refl, length, sym, ap, ◌∙◌}
 use Rattle.pci_place.specs.Above.{system_in}
 use Rattle.pci_place.proofs.Records.{lent}
 use Rattle.pci_settle.specs.Slots.{demand_value}
-use Rattle.pci_stand.specs.Boards.{IsTree}
-use Rattle.pci_stand.specs.Known.{asked_by}
+use Rattle.pci_kept.specs.Boards.{IsTree}
+use Rattle.pci_kept.specs.Known.{asked_by}
 use Rattle.pci_settle_writes.proofs.told.known_ranges.Goals as goal
 
 pub returns-clause-flags : goal.returns-clause-flags

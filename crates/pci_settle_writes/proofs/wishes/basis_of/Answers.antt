@@ -1,5 +1,5 @@
 use Rattle.std.proofs.Common.{sym, subst}
-use Rattle.pci_stand.specs.Flags.{AreFlags}
+use Rattle.pci_kept.specs.Flags.{AreFlags}
 use Rattle.pci_settle_writes.proofs.wishes.basis_of.Goals as goal
 
 pub flags_by_function-requires : goal.flags_by_function-requires

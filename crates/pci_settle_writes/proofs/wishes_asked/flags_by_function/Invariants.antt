@@ -1,6 +1,6 @@
 use Rattle.std.proofs.Common.{List}
 use Rattle.pci_spec.specs.Slot.{Slot}
-use Rattle.pci_stand.specs.Flags.{AreFlags}
+use Rattle.pci_kept.specs.Flags.{AreFlags}
 use Rattle.pci_settle_writes.proofs.WishesLists.{AreFlagsTo}
 use Rattle.pci_settle_writes.proofs.wishes_asked.flags_by_function.Given as goal
 

@@ -1,0 +1,15 @@
+use Rattle.std.proofs.Common.{rules, ltb}
+use Rattle.std.proofs.lemmas.Bool.{ltb-true, ltb-false}
+use Rattle.std.proofs.lemmas.List.Sorted.{IsPartitionPoint-from_clause}
+use Rattle.pci_kept.proofs.ToldIndexes.{parted_ranges}
+use Rattle.pci_kept.proofs.told_line.first_from.Goals as goal
+
+pub returns-clause-before : goal.returns-clause-before
+returns-clause-before c k d low high =
+    ltb-true _ _ ((IsPartitionPoint-from_clause (λ r. ltb r.slot.bus c.args.bus) c.args.ranges.now c.partition_point.result c.partition_point.ensures.partitioned
+    (parted_ranges c.args.ranges.now c.args.bus c.requires) (λ a r f q. search rules)).0 k d low high)
+
+pub returns-clause-after : goal.returns-clause-after
+returns-clause-after c k d low high =
+    ltb-false _ _ ((IsPartitionPoint-from_clause (λ r. ltb r.slot.bus c.args.bus) c.args.ranges.now c.partition_point.result c.partition_point.ensures.partitioned
+    (parted_ranges c.args.ranges.now c.args.bus c.requires) (λ a r f q. search rules)).1 k d low high)

@@ -1,5 +1,0 @@
-use Rattle.pci_stand.proofs.Reaching.{AreReachableBelow}
-use Rattle.pci_stand.proofs.leads.reachable_indexes.Given as goal
-
-abbrev pub invariant-loop-index : goal.invariant-loop-index
-invariant-loop-index g l = AreReachableBelow l.ranges l.index l.indexes.items

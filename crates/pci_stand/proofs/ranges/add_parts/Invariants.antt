@@ -1,8 +1,0 @@
-use Rattle.std.proofs.Common.{◌≡◌, ◌++◌, map, take}
-use Rattle.std.specs.List.{filter}
-use Rattle.pci_stand.specs.Held.{is_kept}
-use Rattle.pci_stand.specs.StandingRanges.{part_row}
-use Rattle.pci_stand.proofs.ranges.add_parts.Given as goal
-
-abbrev pub invariant-loop-region : goal.invariant-loop-region
-invariant-loop-region g l = l.rows.items ≡ l.fn.rows.items ++ map part_row (filter (is_kept l.table) (take l.region-index l.regions))

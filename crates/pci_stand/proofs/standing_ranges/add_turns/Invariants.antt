@@ -1,6 +1,0 @@
-use Rattle.std.proofs.Common.{◌≡◌, ◌++◌}
-use Rattle.pci_stand.specs.RangePass.{turns_up_to}
-use Rattle.pci_stand.proofs.standing_ranges.add_turns.Given as goal
-
-abbrev pub invariant-loop-index : goal.invariant-loop-index
-invariant-loop-index g l = l.turns.items ≡ l.fn.turns.items ++ turns_up_to l.on l.lines l.index
