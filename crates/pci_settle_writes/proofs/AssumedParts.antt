@@ -20,7 +20,7 @@ use Rattle.pci_tree.proofs.Lifting.{same_bridge, same_slot_of}
 use Rattle.pci_place.specs.Records.{IsRecordOf}
 use Rattle.pci_place.proofs.Parts.{bars_in, bars_of, rom_of, rom_there}
 use Rattle.pci_place.proofs.Owned.{no_rom}
-use Rattle.pci_settling.specs.Claims.{is_rom_on}
+use Rattle.pci_settle_places.specs.Claims.{is_rom_on}
 use Rattle.pci_settle_writes.specs.declared.lack.SettleFault.TheVariants.{Assumed}
 use Rattle.pci_settle_writes.specs.Fixed.{assumed_part, first}
 use Rattle.pci_settle_writes.specs.Assumed.{bar_assumed, rom_assumed, record_assumed}

@@ -17,7 +17,7 @@ use Rattle.pci_tree.specs.Passes.{range_in}
 use Rattle.pci_tree.proofs.Lifting.{same_bridge}
 use Rattle.pci_place.specs.Records.{IsRecordOf}
 use Rattle.pci_kept.proofs.OfRecord.{window_is as shown_window}
-use Rattle.pci_settling.specs.Images.{is_window_kept}
+use Rattle.pci_settle_places.specs.Images.{is_window_kept}
 use Rattle.pci_settle_writes.specs.declared.way.ByClass.{ByClass}
 use Rattle.pci_settle_writes.specs.Shut.{in_class, by_class, is_window_changed, changed_window}
 use Rattle.pci_settle_writes.proofs.Moving.{window_is}

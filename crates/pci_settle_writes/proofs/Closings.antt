@@ -21,7 +21,7 @@ use Rattle.pci_tree.proofs.Lifting.{same_bridge}
 use Rattle.pci_tree.proofs.RegionParts.{same_bridge_of}
 use Rattle.pci_place.specs.Records.{IsRecordOf}
 use Rattle.pci_place.proofs.BusTables.{AreTo, none_yet, of_bus, same_after, put_after}
-use Rattle.pci_settling.specs.Images.{is_window_kept}
+use Rattle.pci_settle_places.specs.Images.{is_window_kept}
 use Rattle.pci_settle_writes.specs.declared.closed.Closing.{Closing}
 use Rattle.pci_settle_writes.specs.declared.shut.Around.{Around}
 use Rattle.pci_settle_writes.specs.declared.way.BySpace.{BySpace}

@@ -29,8 +29,8 @@ use Rattle.pci_place.proofs.Parts.{bars_in, bars_of, rom_of}
 use Rattle.pci_settle.specs.declared.own.Terms.{Terms}
 use Rattle.pci_settle.specs.Slots.{demand_of}
 use Rattle.pci_settle.specs.Own.{AreTerms}
-use Rattle.pci_settling.proofs.KeptClaims.{left_is, rom_on_is}
-use Rattle.pci_settling.proofs.PlacedImages.{register_place}
+use Rattle.pci_settle_places.proofs.KeptClaims.{left_is, rom_on_is}
+use Rattle.pci_settle_places.proofs.PlacedImages.{register_place}
 use Rattle.pci_settle.specs.declared.kept.Kept.{Kept}
 use Rattle.pci_settle.specs.Kept.{kept_of}
 use Rattle.pci_kept.proofs.OfRecord.{window_is}

@@ -12,9 +12,9 @@ use Rattle.pci_base.specs.declared.range.Range.{Range}
 use Rattle.pci_base.specs.declared.window_kind.ByKind.{ByKind}
 use Rattle.pci_tree.specs.Admission.{Admission}
 use Rattle.pci_settle.specs.declared.kept.Kept.{Kept}
-use Rattle.pci_settled.specs.declared.places.Places.{Places}
-use Rattle.pci_settled.specs.Places.{placed_at}
-use Rattle.pci_settling.specs.Live.{HasAllPlaces}
+use Rattle.pci_settle_places.specs.declared.places.Places.{Places}
+use Rattle.pci_settle_places.specs.Places.{placed_at}
+use Rattle.pci_settle_places.specs.Live.{HasAllPlaces}
 use Rattle.pci_settle_writes.specs.Told.{TellsKeeping}
 use Rattle.pci_settle_writes.specs.Dumps.{IsSettledDump}
 

@@ -32,8 +32,8 @@ use Rattle.pci_kept.specs.declared.rules.Rules.{Rules}
 use Rattle.pci_kept.specs.Boards.{IsTree}
 use Rattle.pci_kept.specs.Staying.{AreStaying, AreStayingBy, stays_by}
 use Rattle.pci_kept.proofs.Opened.{tree_of}
-use Rattle.pci_settled.specs.Placed.{IsLeaving, CanBeLeft}
-use Rattle.pci_settled.proofs.NothingLeft.{leaves}
+use Rattle.pci_settle_places.specs.Placed.{IsLeaving, CanBeLeft}
+use Rattle.pci_settle_places.proofs.NothingLeft.{leaves}
 use Rattle.pci_settle_writes.specs.Requests.{IsAskedOf}
 use Rattle.pci_settle_writes.specs.Told.{IsTableOf}
 use Rattle.settle_spec.specs.Writes.{fixed_without}

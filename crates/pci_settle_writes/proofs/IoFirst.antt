@@ -14,7 +14,7 @@ use Rattle.settle_spec.specs.Items.{Item, Placing, AllPlaced, Lacks}
 use Rattle.settle_spec.specs.Places.{first_lack}
 use Rattle.settle_spec.specs.Kept.{Kept, as_it_stands}
 use Rattle.settle_spec.specs.Keeping.Places.{placing_on, space_items, lacking_on, lacking}
-use Rattle.pci_settled.proofs.Parts.{each_in}
+use Rattle.pci_settle_places.proofs.Parts.{each_in}
 use Rattle.settle_laws.proofs.IoAlone.{io_alone, placing_alone, standing_alike, has_alone, window_alone}
 use Rattle.pci_base.specs.declared.memory.Refused.{Refused}
 use Rattle.pci_base.specs.declared.memory.Refused.TheVariants as refused
@@ -24,18 +24,18 @@ use Rattle.pci_place.specs.Above.{system_in}
 use Rattle.pci_place.specs.Items.{function_in}
 use Rattle.pci_settle.specs.Slots.{Demand, demand_of}
 use Rattle.pci_settle.specs.NewWindows.{IsTooLarge}
-use Rattle.pci_settled.specs.declared.anew.Unplaced.{Unplaced}
-use Rattle.pci_settled.specs.declared.anew.Unplaced.TheVariants as unplaced
-use Rattle.pci_settled.specs.Candidates.{candidate_value}
+use Rattle.pci_settle_places.specs.declared.anew.Unplaced.{Unplaced}
+use Rattle.pci_settle_places.specs.declared.anew.Unplaced.TheVariants as unplaced
+use Rattle.pci_settle_places.specs.Candidates.{candidate_value}
 use Rattle.pci_settle.specs.declared.over.Left.{Left}
-use Rattle.pci_settled.specs.Placed.{IsFirstWindowTooLarge, IsLeaving, CanBeLeft, IsUnplacedOff}
+use Rattle.pci_settle_places.specs.Placed.{IsFirstWindowTooLarge, IsLeaving, CanBeLeft, IsUnplacedOff}
 use Rattle.pci_kept.specs.declared.windows.TooLarge.{TooLarge}
 use Rattle.pci_settle_writes.specs.declared.lack.SettleFault.{SettleFault}
 use Rattle.pci_settle_writes.specs.declared.lack.SettleFault.TheVariants as fault
 use Rattle.pci_settle_writes.specs.Lacks.{IsSettleFaultOf, too_large, unplaced_class}
 use Rattle.pci_settle_writes.specs.Endings.{IsLack, IsLargeInIo}
 use Rattle.settle_spec.specs.Writes.{or_lack}
-use Rattle.pci_settled.specs.Spaces.{space_lack}
+use Rattle.pci_settle_places.specs.Spaces.{space_lack}
 use Rattle.pci_settle_writes.proofs.Lacking.{first_cases, space_has}
 
 of_space : (q : Request) (s : System) (keep : Kept) (space : Space) (bus : ℕ) (i : Item) → Contains (space_items q s keep space bus) i → window_space i.class ≡ space

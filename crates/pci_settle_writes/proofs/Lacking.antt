@@ -27,10 +27,10 @@ use Rattle.pci_place.specs.Records.{IsRecordOf}
 use Rattle.pci_settle.specs.declared.item.Part.{Part as CodePart}
 use Rattle.pci_settle.specs.declared.item.Part.TheVariants as parts
 use Rattle.pci_settle.specs.Own.{class_part}
-use Rattle.pci_settled.specs.declared.candidate.Candidate.{Candidate}
-use Rattle.pci_settled.specs.Candidates.{candidate_value}
-use Rattle.pci_settled.specs.Places.{IsPlacesPart}
-use Rattle.pci_settled.proofs.Parts.{real_in}
+use Rattle.pci_settle_places.specs.declared.candidate.Candidate.{Candidate}
+use Rattle.pci_settle_places.specs.Candidates.{candidate_value}
+use Rattle.pci_settle_places.specs.Places.{IsPlacesPart}
+use Rattle.pci_settle_places.proofs.Parts.{real_in}
 use Rattle.pci_settle_writes.specs.Lacks.{part_register, lack_by, no_room}
 
 -- ---- what lacks a place is one of the items

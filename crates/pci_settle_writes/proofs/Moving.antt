@@ -35,11 +35,11 @@ use Rattle.pci_place.proofs.Parts.{rom_of}
 use Rattle.pci_settle.specs.Kept.{kept_of}
 use Rattle.pci_settle.specs.Own.{is_left_bar, bar_class_of}
 use Rattle.pci_settle.proofs.OwnItems.{class_by}
-use Rattle.pci_settling.specs.Answers.{is_answering}
-use Rattle.pci_settling.specs.Claims.{has_left_bar, has_kept}
-use Rattle.pci_settling.proofs.AnsweringFunctions.{answering_is}
-use Rattle.pci_settling.proofs.PlacedImages.{register_place}
-use Rattle.pci_settling.proofs.KeptClaims.{any_map, any_filter, any_bar, on_is, bar_space, left_is, left_are, rom_on_is, kept_are}
+use Rattle.pci_settle_places.specs.Answers.{is_answering}
+use Rattle.pci_settle_places.specs.Claims.{has_left_bar, has_kept}
+use Rattle.pci_settle_places.proofs.AnsweringFunctions.{answering_is}
+use Rattle.pci_settle_places.proofs.PlacedImages.{register_place}
+use Rattle.pci_settle_places.proofs.KeptClaims.{any_map, any_filter, any_bar, on_is, bar_space, left_is, left_are, rom_on_is, kept_are}
 use Rattle.pci_settle_writes.specs.declared.shut.Around.{Around}
 use Rattle.pci_settle_writes.specs.declared.way.BySpace.{BySpace}
 use Rattle.pci_settle_writes.specs.Shut.{IsAround, in_space, in_class, differs_in, window_registers, is_window_changed, is_bar_changed, is_moving_bar, has_moving_rom, has_moving_by, has_own_by, is_cut_off_by, is_shut_by, closing_by}

@@ -21,10 +21,10 @@ use Rattle.pci_place.specs.Above.{system_in}
 use Rattle.pci_settle.specs.declared.over.Left.{Left}
 use Rattle.pci_settle.specs.Slots.{Demand}
 use Rattle.pci_settle.specs.NewWindows.{IsTooLarge}
-use Rattle.pci_settled.specs.declared.anew.Unplaced.{Unplaced}
-use Rattle.pci_settled.specs.declared.anew.Unplaced.TheVariants as unplaced
-use Rattle.pci_settled.specs.Spaces.{space_lack}
-use Rattle.pci_settled.specs.Placed.{CanBeLeft, IsUnplacedOff}
+use Rattle.pci_settle_places.specs.declared.anew.Unplaced.{Unplaced}
+use Rattle.pci_settle_places.specs.declared.anew.Unplaced.TheVariants as unplaced
+use Rattle.pci_settle_places.specs.Spaces.{space_lack}
+use Rattle.pci_settle_places.specs.Placed.{CanBeLeft, IsUnplacedOff}
 use Rattle.pci_kept.specs.declared.windows.TooLarge.{TooLarge}
 use Rattle.pci_kept.specs.Windows.{HasWholeWindow}
 use Rattle.pci_settle_writes.specs.declared.lack.SettleFault.{SettleFault}

@@ -33,14 +33,14 @@ use Rattle.pci_place.specs.Records.{IsRecordOf}
 use Rattle.pci_settle.specs.declared.own.Terms.{Terms}
 use Rattle.pci_settle.specs.Slots.{Demand, demand_of}
 use Rattle.pci_settle.specs.Own.{AreTerms}
-use Rattle.pci_settled.specs.declared.places.Places.{Places}
-use Rattle.pci_settled.specs.Places.{place_range_in}
-use Rattle.pci_settling.specs.Images.{HasPlacesAndWindows}
-use Rattle.pci_settling.specs.declared.answering.Answering.{Answering}
-use Rattle.pci_settling.specs.Answers.{AreFlagsOfTold}
-use Rattle.pci_settling.specs.Live.{is_live, IsRequestOf, HasAllPlaces, AreLiveBuses, is_live_on, is_live_behind}
-use Rattle.pci_settling.specs.declared.settled.Behind.{Behind}
-use Rattle.pci_settling.specs.Settled.{IsCommandTold}
+use Rattle.pci_settle_places.specs.declared.places.Places.{Places}
+use Rattle.pci_settle_places.specs.Places.{place_range_in}
+use Rattle.pci_settle_places.specs.Images.{HasPlacesAndWindows}
+use Rattle.pci_settle_places.specs.declared.answering.Answering.{Answering}
+use Rattle.pci_settle_places.specs.Answers.{AreFlagsOfTold}
+use Rattle.pci_settle_places.specs.Live.{is_live, IsRequestOf, HasAllPlaces, AreLiveBuses, is_live_on, is_live_behind}
+use Rattle.pci_settle_places.specs.declared.settled.Behind.{Behind}
+use Rattle.pci_settle_places.specs.Settled.{IsCommandTold}
 use Rattle.pci_plan.proofs.PlannedDumps.{ArePlanned, next_planned, function_here}
 use Rattle.pci_settle.specs.declared.kept.Kept.{Kept}
 use Rattle.pci_settle.specs.Kept.{kept_of}

@@ -22,7 +22,7 @@ use Rattle.settle_spec.specs.Keeping.Writes.{closed_function, closing_of, settin
 use Rattle.settle_laws.proofs.Keeping.ClosedImages.{closed_low, closed_device, closed_command}
 use Rattle.pci_settle.specs.declared.kept.Kept.{Kept as CodeKept}
 use Rattle.pci_settle.specs.Kept.{kept_of}
-use Rattle.pci_settling.specs.Images.{is_window_kept}
+use Rattle.pci_settle_places.specs.Images.{is_window_kept}
 use Rattle.settle_laws.proofs.Images.{same_number}
 use Rattle.pci_plan.proofs.WriteLists.{flat_map_more}
 use Rattle.pci_settle_writes.specs.declared.writes.Span.{Span}

@@ -12,7 +12,7 @@ use Rattle.settle_spec.specs.Keeping.Writes.{changes_window, is_shut_itself}
 use Rattle.pci_base.specs.Space.{is_on}
 use Rattle.pci_function.specs.declared.record.Record.{Record}
 use Rattle.pci_place.specs.Records.{IsRecordOf}
-use Rattle.pci_settling.proofs.KeptClaims.{on_is}
+use Rattle.pci_settle_places.proofs.KeptClaims.{on_is}
 use Rattle.pci_settle_writes.specs.declared.way.BySpace.{BySpace}
 use Rattle.pci_settle_writes.specs.declared.way.ByClass.{ByClass}
 use Rattle.pci_settle_writes.specs.declared.way.Way.{Way}

@@ -54,13 +54,13 @@ use Rattle.pci_settle.specs.declared.kept.Kept.{Kept}
 use Rattle.pci_settle.specs.Kept.{kept_of}
 use Rattle.pci_settle.specs.Keeping.{told_of_kind}
 use Rattle.pci_settle.specs.Tables.{untold, told}
-use Rattle.pci_settled.specs.declared.places.Places.{Places}
-use Rattle.pci_settled.specs.Places.{place_range_in, placed_at}
+use Rattle.pci_settle_places.specs.declared.places.Places.{Places}
+use Rattle.pci_settle_places.specs.Places.{place_range_in, placed_at}
 use Rattle.pci_kept.proofs.OfRecord.{window_is}
-use Rattle.pci_settling.specs.Live.{HasAllPlaces}
-use Rattle.pci_settling.proofs.PlacedParts.{placed_is_part}
-use Rattle.pci_settling.proofs.PlacedImages.{register_place}
-use Rattle.pci_settling.proofs.Registers.{registers_at}
+use Rattle.pci_settle_places.specs.Live.{HasAllPlaces}
+use Rattle.pci_settle_places.proofs.PlacedParts.{placed_is_part}
+use Rattle.pci_settle_places.proofs.PlacedImages.{register_place}
+use Rattle.pci_settle_places.proofs.Registers.{registers_at}
 use Rattle.pci_spare.specs.declared.board.BridgeWindow.{BridgeWindow}
 use Rattle.pci_spare.specs.declared.fill.Located.{Located}
 use Rattle.pci_spare.specs.Rows.{level, row_number}

@@ -24,7 +24,7 @@ use Rattle.pci_function.specs.declared.record.Record.{Record}
 use Rattle.pci_tree.specs.Regions.{space_in}
 use Rattle.pci_settle.specs.declared.kept.Kept.{Kept}
 use Rattle.pci_settle.specs.Tables.{untold, told}
-use Rattle.pci_settled.specs.declared.places.Places.{Places}
+use Rattle.pci_settle_places.specs.declared.places.Places.{Places}
 use Rattle.pci_spare.specs.declared.fill.Located.{Located}
 use Rattle.pci_spare.proofs.Filled.{sum_more}
 use Rattle.pci_spare.specs.Rows.{level, row_number}

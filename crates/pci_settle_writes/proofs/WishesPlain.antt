@@ -20,7 +20,7 @@ use Rattle.settle_spec.specs.Kept.{Kept}
 use Rattle.settle_spec.specs.Wishes.{taken_then, with_window, with_bridge, ending_at, end_over, can_end_at, with_room_above, ending_if, ending_within, ending, range_of_window, Spared, spot_behind, spared_at, spared_above, held_by, opened_at, spared_if, spared_within, spared_behind, Granted, or_denied, with_spare_of, with_spares_of, with_all_spares, granted}
 use Rattle.settle_spec.proofs.BridgeOver.{over_leads}
 use Rattle.settle_laws.proofs.Wishing.Granted.{spare_is}
-use Rattle.pci_settled.proofs.Parts.{rank_one}
+use Rattle.pci_settle_places.proofs.Parts.{rank_one}
 
 module _ (q : Request) (s : System) (r : FunctionPart) (other : (c : WindowKind) (b : Function) → Contains s b → is_bridge b ≡ true → rank r ≡ rank (window_part c b) → ⊥) where
   -- what is wished of it stays

@@ -26,8 +26,8 @@ use Rattle.settle_laws.proofs.Keeping.Buses.{of_space}
 use Rattle.settle_laws.proofs.NonePasses.{none_passes}
 use Rattle.settle_laws.proofs.PartClasses.{io_of_class, prefetch_windows}
 use Rattle.settle_laws.proofs.PartPlaces.{IsBehindOf, behind_of}
-use Rattle.pci_settled.proofs.Parts.{each_in, real_in, rank_one}
-use Rattle.pci_settled.proofs.Reached.{item_here}
+use Rattle.pci_settle_places.proofs.Parts.{each_in, real_in, rank_one}
+use Rattle.pci_settle_places.proofs.Reached.{item_here}
 
 -- a window is placed where something of its class is behind its bridge
 abbrev HasBehind : Request → System → Item → Type 0

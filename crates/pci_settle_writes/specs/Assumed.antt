@@ -6,7 +6,7 @@ use Rattle.pci_spec.specs.Header.{rom_place}
 use Rattle.pci_spec.specs.Mark.{AssumedRegister, is_size_assumed}
 use Rattle.pci_image.specs.declared.bar.Bar.{Bar as CodeBar}
 use Rattle.pci_function.specs.declared.record.Record.{Record}
-use Rattle.pci_settling.specs.Claims.{is_rom_on}
+use Rattle.pci_settle_places.specs.Claims.{is_rom_on}
 use Rattle.pci_settle_writes.specs.Fixed.{first}
 use Rattle.pci_settle_writes.specs.declared.lack.SettleFault.{SettleFault}
 use Rattle.pci_settle_writes.specs.declared.lack.SettleFault.TheVariants.{Assumed}

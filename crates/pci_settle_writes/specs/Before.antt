@@ -23,9 +23,9 @@ use Rattle.pci_settle.specs.declared.kept.Kept.{Kept}
 use Rattle.pci_settle.specs.Kept.{kept_of}
 use Rattle.pci_settle.specs.Keeping.{told_of_kind}
 use Rattle.pci_settle.specs.Tables.{untold, told}
-use Rattle.pci_settled.specs.declared.places.Places.{Places}
-use Rattle.pci_settled.specs.Places.{place_range_in}
-use Rattle.pci_settling.specs.Shown.{HasRegister}
+use Rattle.pci_settle_places.specs.declared.places.Places.{Places}
+use Rattle.pci_settle_places.specs.Places.{place_range_in}
+use Rattle.pci_settle_places.specs.Shown.{HasRegister}
 use Rattle.pci_spare.specs.declared.fill.Located.{Located}
 use Rattle.pci_spare.specs.Rows.{level, row_number}
 use Rattle.pci_spare.specs.Located.{told_weight, located_total}

@@ -8,7 +8,7 @@ use Rattle.pci_settle.specs.declared.list.Lists.{Lists}
 use Rattle.pci_settle.specs.declared.over.OpenWindows.{OpenWindows}
 use Rattle.pci_settle.specs.Slots.{demand_value}
 use Rattle.pci_settle.specs.Over.{AreOpenOver}
-use Rattle.pci_settling.specs.Answers.{AreFlagsOfTold}
+use Rattle.pci_settle_places.specs.Answers.{AreFlagsOfTold}
 use Rattle.pci_settle_writes.specs.declared.dump.Images.{Images}
 use Rattle.pci_settle_writes.specs.declared.tables.Tables.{Tables}
 use Rattle.pci_settle_writes.specs.Requests.{IsAskedOf}

@@ -13,9 +13,9 @@ use Rattle.pci_tree.specs.Admission.{Admission}
 use Rattle.pci_place.specs.Above.{system_in}
 use Rattle.pci_plan.specs.Writes.{write_value}
 use Rattle.pci_settle.specs.declared.kept.Kept.{Kept}
-use Rattle.pci_settled.specs.declared.places.Places.{Places}
-use Rattle.pci_settling.specs.Live.{HasAllPlaces}
-use Rattle.pci_settling.specs.Answers.{AreFlagsOfTold}
+use Rattle.pci_settle_places.specs.declared.places.Places.{Places}
+use Rattle.pci_settle_places.specs.Live.{HasAllPlaces}
+use Rattle.pci_settle_places.specs.Answers.{AreFlagsOfTold}
 use Rattle.pci_settle_writes.specs.declared.ended.Held.{Held}
 use Rattle.pci_settle_writes.specs.declared.ended.Ended.{Ended as CodeEnded}
 use Rattle.pci_settle_writes.specs.Told.{TellsKeeping}

@@ -26,8 +26,8 @@ use Rattle.pci_settle.specs.declared.kept.Kept.{Kept}
 use Rattle.pci_settle.specs.declared.over.Left.{Left}
 use Rattle.pci_settle.specs.Slots.{Demand}
 use Rattle.pci_settle.specs.NewWindows.{IsTooLarge}
-use Rattle.pci_settled.specs.Spaces.{space_lack}
-use Rattle.pci_settled.specs.Placed.{IsLeaving}
+use Rattle.pci_settle_places.specs.Spaces.{space_lack}
+use Rattle.pci_settle_places.specs.Placed.{IsLeaving}
 use Rattle.pci_kept.specs.Windows.{HasWholeWindow}
 use Rattle.pci_settle_writes.specs.declared.lack.SettleFault.{SettleFault}
 use Rattle.pci_settle_writes.specs.declared.lack.SettleFault.TheVariants as fault

@@ -16,7 +16,7 @@ use Rattle.pci_tree.specs.Passes.{range_in}
 use Rattle.pci_place.specs.declared.above.Above.{Above}
 use Rattle.pci_settle.specs.declared.own.Terms.{Terms}
 use Rattle.pci_settle.specs.Own.{is_left_bar}
-use Rattle.pci_settling.specs.Claims.{is_rom_on}
+use Rattle.pci_settle_places.specs.Claims.{is_rom_on}
 use Rattle.pci_settle.specs.declared.kept.Kept.{Kept}
 use Rattle.pci_settle.specs.Kept.{kept_of}
 use Rattle.pci_settle_writes.specs.declared.lack.SettleFault.{SettleFault}

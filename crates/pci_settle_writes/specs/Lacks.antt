@@ -12,11 +12,11 @@ use Rattle.pci_function.specs.declared.record.Record.{Record}
 use Rattle.pci_place.specs.Items.{function_in}
 use Rattle.pci_settle.specs.declared.item.Part.{Part as CodePart}
 use Rattle.pci_settle.specs.declared.item.Part.TheVariants as parts
-use Rattle.pci_settled.specs.declared.candidate.Candidate.{Candidate}
-use Rattle.pci_settled.specs.declared.anew.Unplaced.{Unplaced}
-use Rattle.pci_settled.specs.declared.anew.Unplaced.TheVariants as unplaced
-use Rattle.pci_settled.specs.Candidates.{candidate_value}
-use Rattle.pci_settled.specs.Places.{IsPlacesPart}
+use Rattle.pci_settle_places.specs.declared.candidate.Candidate.{Candidate}
+use Rattle.pci_settle_places.specs.declared.anew.Unplaced.{Unplaced}
+use Rattle.pci_settle_places.specs.declared.anew.Unplaced.TheVariants as unplaced
+use Rattle.pci_settle_places.specs.Candidates.{candidate_value}
+use Rattle.pci_settle_places.specs.Places.{IsPlacesPart}
 use Rattle.pci_kept.specs.declared.windows.TooLarge.{TooLarge}
 use Rattle.pci_settle_writes.specs.declared.lack.Lack.{Lack}
 use Rattle.pci_settle_writes.specs.declared.lack.SettleFault.{SettleFault}

@@ -24,9 +24,9 @@ use Rattle.pci_settle.specs.Slots.{demand_of}
 use Rattle.pci_settle.specs.Kept.{kept_of}
 use Rattle.pci_settle.specs.Own.{AreTerms, is_left_bar, bar_class_of}
 use Rattle.pci_settle.specs.Over.{IsOverBus}
-use Rattle.pci_settling.specs.Answers.{is_answering, AreFlagsOfTold}
-use Rattle.pci_settling.specs.declared.answering.Answering.{Answering}
-use Rattle.pci_settling.specs.Claims.{is_bar_in, has_left_bar, is_rom_on, has_kept}
+use Rattle.pci_settle_places.specs.Answers.{is_answering, AreFlagsOfTold}
+use Rattle.pci_settle_places.specs.declared.answering.Answering.{Answering}
+use Rattle.pci_settle_places.specs.Claims.{is_bar_in, has_left_bar, is_rom_on, has_kept}
 use Rattle.pci_settle_writes.specs.declared.closed.Closing.{Closing}
 use Rattle.pci_settle_writes.specs.declared.shut.Around.{Around}
 use Rattle.pci_settle_writes.specs.declared.way.BySpace.{BySpace}

@@ -22,7 +22,7 @@ use Rattle.pci_base.specs.Space.{is_on}
 use Rattle.pci_settle.specs.declared.told.ToldRanges.{ToldRanges}
 use Rattle.pci_kept.specs.declared.told_line.ToldLine.{ToldLine}
 use Rattle.pci_kept.specs.ToldLines.{AreToldLines}
-use Rattle.pci_settling.specs.Answers.{AreFlagsOfTold}
+use Rattle.pci_settle_places.specs.Answers.{AreFlagsOfTold}
 use Rattle.pci_settle_writes.specs.declared.told.KnownRanges.{KnownRanges}
 use Rattle.pci_settle_writes.specs.declared.told.Told.{Told as CodeTold}
 use Rattle.pci_settle_writes.specs.declared.way.ByClass.{ByClass}

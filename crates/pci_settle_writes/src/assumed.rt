@@ -14,7 +14,7 @@ use pci_dump::block::Block;
 use pci_dump::mark::{is_size_assumed, marked};
 use pci_function::record::Record;
 use pci_image::bar::Bar;
-use pci_settling::claim::is_rom_on;
+use pci_settle_places::claim::is_rom_on;
 use pci_tree::admitted::Admitted;
 use std::alloc::Allocator;
 

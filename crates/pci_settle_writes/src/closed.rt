@@ -20,7 +20,7 @@ use pci_base::window_kind::WindowKind;
 use pci_function::record::Record;
 use pci_image::window::Windows;
 use pci_settle::over::open_range;
-use pci_settling::write::{write, write_bounds};
+use pci_settle_places::write::{write, write_bounds};
 
 /// Whether a register of four bytes of a window changes.
 fn differs(old: &Image, new: &Image, register: u8) -> bool

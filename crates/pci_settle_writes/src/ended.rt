@@ -5,7 +5,7 @@ use crate::settle::Settled;
 use crate::tables::Tables;
 use pci_settle::kept::Kept;
 use pci_settle::table::WindowRanges;
-use pci_settled::places::Places;
+use pci_settle_places::places::Places;
 use std::alloc::Allocator;
 
 /// What is settled, and where all parts are placed.

@@ -9,7 +9,7 @@ ghost use Rattle.pci_base.specs.WindowKinds.{kind_value};
 ghost use Rattle.pci_place.specs.Above.{system_in};
 ghost use Rattle.pci_plan.specs.Writes.{write_value};
 ghost use Rattle.pci_settle.specs.Slots.{demand_value};
-ghost use Rattle.pci_settling.specs.Shown.{HasRegister};
+ghost use Rattle.pci_settle_places.specs.Shown.{HasRegister};
 ghost use Rattle.pci_kept.specs.Flags.{AreFlags};
 ghost use Rattle.pci_settle_writes.specs.Requests.{IsAskedOf};
 ghost use Rattle.pci_settle_writes.specs.Told.{IsTableOf};
@@ -26,7 +26,7 @@ use pci_plan::write::Write;
 use pci_settle::kept::Kept;
 use pci_settle::list::Lists;
 use pci_settle::own::{Terms, is_left_bar};
-use pci_settling::claim::is_rom_on;
+use pci_settle_places::claim::is_rom_on;
 use pci_tree::admitted::Admitted;
 use std::alloc::Allocator;
 

@@ -1,7 +1,7 @@
 //! What is known of each function before any wish, as tables in slot order.
 use pci_settle::kept::Kept;
 use pci_settle::table::WindowRanges;
-use pci_settled::places::Places;
+use pci_settle_places::places::Places;
 
 /// What settling comes to before any wish, by function in slot order.
 #[derive(Clone, Copy)]

@@ -11,7 +11,7 @@ ghost use Rattle.pci_tree.specs.Ways.{IsBridgeToBus};
 ghost use Rattle.pci_settle.specs.Lines.{AreLineRows, AreLines};
 ghost use Rattle.pci_settle.specs.Slots.{demand_value};
 ghost use Rattle.pci_kept.specs.Flags.{AreFlags};
-ghost use Rattle.pci_settling.specs.Live.{HasAllPlaces};
+ghost use Rattle.pci_settle_places.specs.Live.{HasAllPlaces};
 ghost use Rattle.pci_spare.specs.Granting.{AreExtents};
 ghost use Rattle.pci_settle_writes.specs.Requests.{IsAskedOf};
 ghost use Rattle.pci_settle_writes.specs.Told.{TellsKeeping};

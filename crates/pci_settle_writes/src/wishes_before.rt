@@ -9,7 +9,7 @@ ghost use Rattle.pci_base.specs.Space.{space_of};
 ghost use Rattle.pci_base.specs.WindowKinds.{kind_value, by_kind};
 ghost use Rattle.pci_image.specs.Windows.{window_of};
 ghost use Rattle.pci_tree.specs.Passes.{range_in};
-ghost use Rattle.pci_settling.specs.Shown.{HasRegister};
+ghost use Rattle.pci_settle_places.specs.Shown.{HasRegister};
 ghost use Rattle.pci_spare.specs.Rows.{level, row_number};
 ghost use Rattle.pci_spare.specs.Located.{told_weight, located_total};
 ghost use Rattle.pci_settle_writes.specs.Before.{window_before, windows_before, AreWindowsBefore, bar_before, rom_before, bar_weight, record_weight, AreOwnBefore, HaveRegisters};
@@ -27,7 +27,7 @@ use pci_image::window::Windows;
 use pci_settle::kept::Kept;
 use pci_settle::over::open_range;
 use pci_settle::table::{UNTOLD, WindowRanges, ranges_told};
-use pci_settled::places::Places;
+use pci_settle_places::places::Places;
 use pci_spare::fill::Located;
 use std::alloc::Allocator;
 

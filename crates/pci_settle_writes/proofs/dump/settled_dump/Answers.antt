@@ -13,9 +13,9 @@ use Rattle.pci_place.specs.Above.{system_in}
 use Rattle.pci_place.proofs.Records.{same_count}
 use Rattle.pci_settle.specs.Kept.{nothing_kept}
 use Rattle.pci_settle.specs.Slots.{Demand, demand_value}
-use Rattle.pci_settling.specs.Answers.{AreFlagsOfTold}
-use Rattle.pci_settling.specs.declared.answering.Answering.{Answering}
-use Rattle.pci_settling.proofs.Registers.{have_registers}
+use Rattle.pci_settle_places.specs.Answers.{AreFlagsOfTold}
+use Rattle.pci_settle_places.specs.declared.answering.Answering.{Answering}
+use Rattle.pci_settle_places.proofs.Registers.{have_registers}
 use Rattle.pci_plan.proofs.PlannedDumps.{ArePlanned, none_planned, found_count, next_above, all_planned}
 use Rattle.pci_settle_writes.proofs.SettledDumps.{IsSettledOf, IsHere, request_by, placed_here, told_here, block_here, next_settled, all_settled}
 use Rattle.pci_settle_writes.proofs.dump.settled_dump.Goals as goal

@@ -11,7 +11,7 @@ use Rattle.pci_place.specs.Above.{system_in, IsAbove}
 use Rattle.pci_place.proofs.Records.{FunctionAt, function_read}
 use Rattle.pci_settle.specs.Slots.{demand_value}
 use Rattle.pci_settle.specs.Own.{AreTerms}
-use Rattle.pci_settling.proofs.Registers.{have_registers}
+use Rattle.pci_settle_places.proofs.Registers.{have_registers}
 use Rattle.pci_kept.specs.Flags.{AreFlags}
 use Rattle.pci_settle_writes.specs.Requests.{IsAskedOf}
 use Rattle.pci_settle_writes.specs.Told.{IsTableOf}

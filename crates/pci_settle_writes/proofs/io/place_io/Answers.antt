@@ -4,7 +4,7 @@ use Rattle.pci_base.specs.WindowKinds.{kind_value}
 use Rattle.pci_place.specs.Above.{system_in}
 use Rattle.pci_settle.specs.Slots.{demand_value, demand_in_io}
 use Rattle.pci_base.specs.declared.memory.Refused.TheVariants as refused
-use Rattle.pci_settled.specs.Placed.{IsUnplacedOff}
+use Rattle.pci_settle_places.specs.Placed.{IsUnplacedOff}
 use Rattle.pci_kept.specs.Known.{asked_by}
 use Rattle.pci_settle_writes.specs.Lacks.{unplaced_class}
 use Rattle.pci_settle_writes.proofs.HeldTables.{rest_can_be_left, leaving_rest}

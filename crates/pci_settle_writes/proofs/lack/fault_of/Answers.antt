@@ -6,8 +6,8 @@ use Rattle.pci_tree.proofs.Lifting.{same_slot_of}
 use Rattle.pci_place.specs.Above.{system_in}
 use Rattle.pci_place.specs.Items.{no_function, function_in}
 use Rattle.pci_place.proofs.Records.{lent, FunctionAt, same_count, function_read}
-use Rattle.pci_settled.specs.declared.anew.Unplaced.{Unplaced}
-use Rattle.pci_settled.specs.declared.anew.Unplaced.TheVariants as unplaced
+use Rattle.pci_settle_places.specs.declared.anew.Unplaced.{Unplaced}
+use Rattle.pci_settle_places.specs.declared.anew.Unplaced.TheVariants as unplaced
 use Rattle.pci_settle_writes.specs.declared.lack.SettleFault.TheVariants as fault
 use Rattle.pci_settle_writes.specs.Lacks.{IsOfSystem, IsSettleFaultOf, no_room}
 use Rattle.pci_settle_writes.proofs.Lacking.{lack_is}

@@ -1,7 +1,7 @@
 use Rattle.std.proofs.Common.{subst}
 use Rattle.pci_place.specs.Above.{system_in}
 use Rattle.pci_settle.specs.Slots.{demand_value}
-use Rattle.pci_settled.specs.Placed.{IsUnplacedOff}
+use Rattle.pci_settle_places.specs.Placed.{IsUnplacedOff}
 use Rattle.pci_settle_writes.proofs.Refusals.{named, lack_of_fault}
 use Rattle.pci_settle_writes.proofs.settle.places.Goals as goal
 

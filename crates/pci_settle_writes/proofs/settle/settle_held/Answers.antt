@@ -12,7 +12,7 @@ use Rattle.pci_tree.specs.Admission.{Admission}
 use Rattle.pci_place.specs.Above.{system_in}
 use Rattle.pci_plan.specs.Writes.{write_value}
 use Rattle.pci_settle.specs.Slots.{Demand, demand_value}
-use Rattle.pci_settling.specs.Live.{HasAllPlaces}
+use Rattle.pci_settle_places.specs.Live.{HasAllPlaces}
 use Rattle.pci_settle_writes.specs.declared.tables.Tables.{Tables}
 use Rattle.pci_settle_writes.specs.Bounded.{AreBounds}
 use Rattle.pci_settle_writes.specs.Dumps.{IsSettledBy, IsSettledDump}

@@ -21,10 +21,10 @@ use Rattle.pci_settle.specs.Kept.{nothing_kept}
 use Rattle.pci_settle.specs.Slots.{Demand, demand_of, demand_value}
 use Rattle.pci_settle.specs.Over.{AreClassWindows, no_windows}
 use Rattle.pci_settle.specs.Own.{AreTerms}
-use Rattle.pci_settling.specs.Answers.{AreFlagsOfTold}
-use Rattle.pci_settling.specs.declared.answering.Answering.{Answering}
-use Rattle.pci_settling.proofs.Registers.{have_registers}
-use Rattle.pci_settling.specs.Images.{is_window_kept}
+use Rattle.pci_settle_places.specs.Answers.{AreFlagsOfTold}
+use Rattle.pci_settle_places.specs.declared.answering.Answering.{Answering}
+use Rattle.pci_settle_places.proofs.Registers.{have_registers}
+use Rattle.pci_settle_places.specs.Images.{is_window_kept}
 use Rattle.pci_settle_writes.specs.declared.closed.Closing.{Closing}
 use Rattle.pci_settle_writes.specs.declared.shut.Around.{Around}
 use Rattle.pci_settle_writes.specs.declared.way.Way.{Way}

@@ -5,8 +5,8 @@ use Rattle.settle_spec.specs.Wishes.{granted}
 use Rattle.settle_laws.proofs.Wishing.Alike.{granted_alike}
 use Rattle.pci_place.specs.Above.{system_in}
 use Rattle.pci_place.proofs.Records.{lent}
-use Rattle.pci_settling.specs.Live.{HasAllPlaces}
-use Rattle.pci_settling.specs.Answers.{AreFlagsOfTold}
+use Rattle.pci_settle_places.specs.Live.{HasAllPlaces}
+use Rattle.pci_settle_places.specs.Answers.{AreFlagsOfTold}
 use Rattle.pci_settle.specs.Over.{AreOpenOver}
 use Rattle.pci_settle_writes.specs.Told.{TellsKeeping}
 use Rattle.pci_settle_writes.specs.Wished.{TellsWishes}

@@ -10,7 +10,7 @@ use Rattle.pci_place.specs.Above.{system_in}
 use Rattle.pci_place.proofs.Records.{same_count}
 use Rattle.pci_settle.specs.Slots.{demand_value}
 use Rattle.pci_settle.specs.Kept.{AreNone}
-use Rattle.pci_settled.proofs.NothingLeft.{can_be_left}
+use Rattle.pci_settle_places.proofs.NothingLeft.{can_be_left}
 use Rattle.pci_settle_writes.specs.Ended.{held_value, IsEnded}
 use Rattle.pci_settle_writes.specs.Endings.{kept_after}
 use Rattle.pci_settle_writes.proofs.Outcomes.{ended_anew, after_anew}

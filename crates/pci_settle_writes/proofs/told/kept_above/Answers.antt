@@ -8,7 +8,7 @@ use Rattle.pci_place.specs.Above.{system_in}
 use Rattle.pci_place.proofs.Records.{lent, FunctionAt, same_count, function_read}
 use Rattle.pci_place.proofs.BusTables.{AreTo}
 use Rattle.pci_settle.specs.Kept.{nothing_kept}
-use Rattle.pci_settling.specs.Images.{is_window_kept}
+use Rattle.pci_settle_places.specs.Images.{is_window_kept}
 use Rattle.pci_settle_writes.specs.declared.way.ByClass.{ByClass}
 use Rattle.pci_settle_writes.specs.Shut.{in_class}
 use Rattle.pci_settle_writes.proofs.Ways.{by_classes}

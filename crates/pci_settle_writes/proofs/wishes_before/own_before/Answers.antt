@@ -2,7 +2,7 @@ use Rattle.std.proofs.Common.{arith, sym}
 use Rattle.std.specs.List.{All}
 use Rattle.std.proofs.lemmas.List.Elements.{All-contains}
 use Rattle.pci_function.specs.declared.record.Record.{Record}
-use Rattle.pci_settling.specs.Shown.{HasRegister}
+use Rattle.pci_settle_places.specs.Shown.{HasRegister}
 use Rattle.pci_settle_writes.proofs.WishesLists.{told_at, own_none, own_next, own_end}
 use Rattle.pci_settle_writes.proofs.wishes_before.own_before.Goals as goal
 

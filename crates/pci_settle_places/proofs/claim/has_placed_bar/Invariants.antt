@@ -1,0 +1,8 @@
+use Rattle.std.proofs.Common.{◌≡◌, false, take}
+use Rattle.std.specs.List.{list_any}
+use Rattle.pci_base.specs.Space.{space_of}
+use Rattle.pci_settle_places.specs.Claims.{is_placed_bar}
+use Rattle.pci_settle_places.proofs.claim.has_placed_bar.Given as goal
+
+abbrev pub invariant-loop-bar : goal.invariant-loop-bar
+invariant-loop-bar l = list_any (is_placed_bar (space_of l.space) l.places) (take l.bar-index l.bars) ≡ false

@@ -1,0 +1,17 @@
+pub mod Stretches
+pub mod Staying
+pub mod Candidates
+pub mod Taken
+pub mod Columns
+pub mod Places
+pub mod Windows
+pub mod BusPlaces
+pub mod Spaces
+pub mod Placed
+pub mod Anew
+pub mod Shown
+pub mod Images
+pub mod Claims
+pub mod Answers
+pub mod Live
+pub mod Settled

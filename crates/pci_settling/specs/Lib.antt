@@ -1,6 +1,0 @@
-pub mod Shown
-pub mod Images
-pub mod Claims
-pub mod Answers
-pub mod Live
-pub mod Settled
