@@ -21,12 +21,12 @@ use Rattle.pci_tree.specs.Admission.{Admission, IsAdmitted}
 use Rattle.pci_place.specs.Above.{system_in}
 use Rattle.pci_place.specs.Items.{no_function, function_in}
 use Rattle.pci_place.proofs.Records.{lent}
-use Rattle.pci_settle.specs.declared.kept.Kept.{Kept}
-use Rattle.pci_settle.specs.declared.kept.Part.{Part as CodePart}
-use Rattle.pci_settle.specs.declared.lines.Line.{Line}
-use Rattle.pci_settle.specs.Lines.{AreLineRows, AreLines}
-use Rattle.pci_settle.specs.Slots.{Demand}
-use Rattle.pci_settle.specs.Kept.{spec_part}
+use Rattle.pci_first_fit.specs.declared.kept.Kept.{Kept}
+use Rattle.pci_first_fit.specs.declared.kept.Part.{Part as CodePart}
+use Rattle.pci_first_fit.specs.declared.lines.Line.{Line}
+use Rattle.pci_first_fit.specs.Lines.{AreLineRows, AreLines}
+use Rattle.pci_first_fit.specs.Slots.{Demand}
+use Rattle.pci_first_fit.specs.Kept.{spec_part}
 use Rattle.pci_kept.specs.declared.region.Region.{Region}
 use Rattle.pci_kept.specs.declared.rules.Rules.{Rules}
 use Rattle.pci_kept.specs.Boards.{IsBoard}
@@ -34,7 +34,7 @@ use Rattle.pci_kept.specs.Known.{asked_by, region_value, AreParts}
 use Rattle.pci_kept.specs.Passing.{AreStanding}
 use Rattle.pci_grow.specs.Reaches.{Given, StandsInRows, TellsSameOutside}
 use Rattle.pci_grow.specs.Rows.{AreRows}
-use Rattle.pci_settle.specs.Tables.{told, AreUntold}
+use Rattle.pci_first_fit.specs.Tables.{told, AreUntold}
 use Rattle.pci_grow.proofs.StandingRows.{row_at}
 use Rattle.pci_grow.proofs.Untold.{at_untold, untold_is}
 

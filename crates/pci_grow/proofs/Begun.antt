@@ -24,9 +24,9 @@ use Rattle.pci_base.specs.Ranges.{decoded_range_of}
 use Rattle.pci_kept.specs.Tables.{index_of, stands_in}
 use Rattle.pci_kept.proofs.Indexes.{table_at}
 use Rattle.pci_kept.proofs.Rooms.{part_there}
-use Rattle.pci_settle.specs.declared.place.Places.{Places}
-use Rattle.pci_settle.specs.PlaceTables.{place_in, no_place, placed, ArePlaceless}
-use Rattle.pci_settle.specs.Tables.{untold}
+use Rattle.pci_first_fit.specs.declared.place.Places.{Places}
+use Rattle.pci_first_fit.specs.PlaceTables.{place_in, no_place, placed, ArePlaceless}
+use Rattle.pci_first_fit.specs.Tables.{untold}
 use Rattle.pci_grow.specs.There.{Tables, by_class, grown_in, with_own, grown_told, there_told}
 use Rattle.pci_grow.specs.Telling.{part_row, AreToldFrom, IsBegun}
 use Rattle.pci_grow.proofs.Ranked.{at_index}

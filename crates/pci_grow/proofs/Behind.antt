@@ -30,15 +30,15 @@ use Rattle.pci_tree.proofs.Faces.{SameFace, face_of}
 use Rattle.pci_place.specs.Items.{no_function, function_in}
 use Rattle.pci_place.specs.Records.{IsRecordOf}
 use Rattle.pci_place.proofs.Records.{same_count}
-use Rattle.pci_settle.specs.declared.item.Item.{Item}
-use Rattle.pci_settle.specs.declared.item.Part.{Part as ItemPart}
-use Rattle.pci_settle.specs.declared.item.Part.TheVariants as items
-use Rattle.pci_settle.specs.declared.extent.Extent.{Extent}
-use Rattle.pci_settle.specs.declared.spot.Spot.{Spot}
-use Rattle.pci_settle.specs.declared.lines.Line.{Line}
-use Rattle.pci_settle.specs.Lines.{row_of, told_row, rows_from, AreForwardRanges, AreLines, AreAdded}
-use Rattle.pci_settle.specs.Own.{class_part}
-use Rattle.pci_settle.specs.Spots.{IsBetweenTaken, extent_range}
+use Rattle.pci_first_fit.specs.declared.item.Item.{Item}
+use Rattle.pci_first_fit.specs.declared.item.Part.{Part as ItemPart}
+use Rattle.pci_first_fit.specs.declared.item.Part.TheVariants as items
+use Rattle.pci_first_fit.specs.declared.extent.Extent.{Extent}
+use Rattle.pci_first_fit.specs.declared.spot.Spot.{Spot}
+use Rattle.pci_first_fit.specs.declared.lines.Line.{Line}
+use Rattle.pci_first_fit.specs.Lines.{row_of, told_row, rows_from, AreForwardRanges, AreLines, AreAdded}
+use Rattle.pci_first_fit.specs.Own.{class_part}
+use Rattle.pci_first_fit.specs.Spots.{IsBetweenTaken, extent_range}
 use Rattle.pci_kept.proofs.HeldTables.{record_at}
 use Rattle.pci_grow.specs.Arounds.{AreInOrder, IsPutAt}
 use Rattle.pci_grow.specs.Grounds.{is_new_window, Ground, IsBehindItem, AreOff, AreAlike}

@@ -19,10 +19,10 @@ use Rattle.settle_spec.specs.Growth.{place_around, grown_to, grown_around, there
 use Rattle.settle_spec.proofs.SameTaken.{HaveSame}
 use Rattle.pci_base.specs.declared.range.Range.{Range}
 use Rattle.pci_base.specs.Ranges.{decoded_range_of}
-use Rattle.pci_settle.specs.declared.item.Item.{Item}
-use Rattle.pci_settle.specs.Own.{asked_item_value}
-use Rattle.pci_settle.specs.Placings.{at_places}
-use Rattle.pci_settle.specs.Turns.{HasExtent}
+use Rattle.pci_first_fit.specs.declared.item.Item.{Item}
+use Rattle.pci_first_fit.specs.Own.{asked_item_value}
+use Rattle.pci_first_fit.specs.Placings.{at_places}
+use Rattle.pci_first_fit.specs.Turns.{HasExtent}
 use Rattle.pci_grow.specs.declared.around.Around.{Around}
 use Rattle.pci_grow.specs.Grounds.{Ground, AreAlike}
 use Rattle.pci_grow.specs.Arounds.{find_around, HaveExtents, HaveBehind, ArePlacesAround, HaveNoPlaces}

@@ -13,12 +13,12 @@ use Rattle.settle_spec.specs.Growth.{place_around}
 use Rattle.settle_spec.proofs.SameTaken.{HaveSame}
 use Rattle.pci_base.specs.declared.range.Range.{Range}
 use Rattle.pci_base.specs.Ranges.{decoded_range_of}
-use Rattle.pci_settle.specs.declared.extent.Extent.{Extent}
-use Rattle.pci_settle.specs.declared.item.Item.{Item}
-use Rattle.pci_settle.specs.Spots.{extent_value, extent_range, IsPutIn}
-use Rattle.pci_settle.specs.Placings.{at_places, lacks_first, placing_of}
-use Rattle.pci_settle.specs.Turns.{HasExtent}
-use Rattle.pci_settle.proofs.AllPlaced.{and_all, all_append, all_lack, all_placed, at_append, put_same, drop_all, take_table}
+use Rattle.pci_first_fit.specs.declared.extent.Extent.{Extent}
+use Rattle.pci_first_fit.specs.declared.item.Item.{Item}
+use Rattle.pci_first_fit.specs.Spots.{extent_value, extent_range, IsPutIn}
+use Rattle.pci_first_fit.specs.Placings.{at_places, lacks_first, placing_of}
+use Rattle.pci_first_fit.specs.Turns.{HasExtent}
+use Rattle.pci_first_fit.proofs.AllPlaced.{and_all, all_append, all_lack, all_placed, at_append, put_same, drop_all, take_table}
 use Rattle.pci_grow.specs.declared.around.Around.{Around}
 use Rattle.pci_grow.specs.Arounds.{find_around, AreInOrder, IsPutAt, HaveExtents, AreEndingAll, HaveBehind}
 use Rattle.pci_grow.specs.Grounds.{Ground, IsBehindItem, AreAlike}

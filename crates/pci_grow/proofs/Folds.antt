@@ -11,9 +11,9 @@ use Rattle.settle_spec.proofs.SameTaken.{HaveSame}
 use Rattle.pci_base.specs.declared.range.Range.{Range}
 use Rattle.pci_base.specs.Ranges.{decoded_range_of}
 use Rattle.pci_place.proofs.Owned.{map_twice}
-use Rattle.pci_settle.specs.declared.item.Item.{Item}
-use Rattle.pci_settle.specs.Own.{asked_item_value}
-use Rattle.pci_settle.specs.Placings.{at_places}
+use Rattle.pci_first_fit.specs.declared.item.Item.{Item}
+use Rattle.pci_first_fit.specs.Own.{asked_item_value}
+use Rattle.pci_first_fit.specs.Placings.{at_places}
 use Rattle.pci_spec.specs.System.{System}
 use Rattle.pci_spec.specs.Window.{WindowKind}
 use Rattle.pci_grow.specs.There.{holding, placed_ranges}

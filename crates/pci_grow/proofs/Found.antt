@@ -10,8 +10,8 @@ use Rattle.settle_spec.specs.Parts.{lies_within}
 use Rattle.settle_spec.specs.Reach.{ranges_for}
 use Rattle.pci_base.specs.declared.range.RootRange.{RootRange as CodeRange}
 use Rattle.pci_base.specs.Ranges.{decoded_range_of}
-use Rattle.pci_settle.specs.declared.list.Lists.{Lists}
-use Rattle.pci_settle.specs.Lists.{root_range_value, lists_value, root_range_holds}
+use Rattle.pci_first_fit.specs.declared.list.Lists.{Lists}
+use Rattle.pci_first_fit.specs.Lists.{root_range_value, lists_value, root_range_holds}
 use Rattle.pci_grow.specs.Rooms.{had_ranges, else_range, find_in_either}
 
 -- what an index past the end is read as

@@ -27,15 +27,15 @@ use Rattle.pci_base.specs.Ranges.{decoded_range_of}
 use Rattle.pci_base.specs.Space.{space_of}
 use Rattle.pci_function.specs.declared.record.Record.{Record}
 use Rattle.pci_place.specs.Items.{no_function, function_in}
-use Rattle.pci_settle.specs.declared.kept.Part.{Part as CodePart}
-use Rattle.pci_settle.specs.declared.kept.Part.TheVariants as parts
-use Rattle.pci_settle.specs.Kept.{spec_part}
+use Rattle.pci_first_fit.specs.declared.kept.Part.{Part as CodePart}
+use Rattle.pci_first_fit.specs.declared.kept.Part.TheVariants as parts
+use Rattle.pci_first_fit.specs.Kept.{spec_part}
 use Rattle.pci_kept.specs.declared.region.Region.{Region}
 use Rattle.pci_kept.specs.Known.{Known, region_value}
 use Rattle.pci_kept.specs.Boards.{IsKnown}
 use Rattle.pci_kept.proofs.Indexes.{part_cases, index_at}
 use Rattle.pci_grow.specs.Rows.{row_number}
-use Rattle.pci_settle.specs.Tables.{told, TellsSame}
+use Rattle.pci_first_fit.specs.Tables.{told, TellsSame}
 use Rattle.pci_grow.specs.Reaches.{AreToldOver, Given, StandsInRows, AreFirstReaches, TellsSameOutside, AreReaches}
 use Rattle.pci_grow.proofs.StandingRows.{no_region, IsInRows, in_rows, rows_rise}
 use Rattle.pci_grow.proofs.Reached.{row_is, standing}

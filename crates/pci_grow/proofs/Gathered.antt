@@ -7,8 +7,8 @@ use Rattle.std.proofs.lemmas.List.{take_more, take_all, append-nil, map-append}
 use Rattle.std.proofs.lemmas.List.Concat.{flat_map-append}
 use Rattle.std.proofs.lemmas.List.Sums.{fold_push}
 use Rattle.pci_base.specs.declared.range.Range.{Range}
-use Rattle.pci_settle.specs.declared.item.Item.{Item}
-use Rattle.pci_settle.specs.Spots.{extent_range}
+use Rattle.pci_first_fit.specs.declared.item.Item.{Item}
+use Rattle.pci_first_fit.specs.Spots.{extent_range}
 use Rattle.pci_kept.specs.declared.region.Region.{Region}
 use Rattle.pci_grow.specs.Rows.{row_of}
 use Rattle.pci_grow.specs.There.{listed, in_row, holding, placed_ranges}

@@ -11,14 +11,14 @@ use Rattle.pci_function.specs.declared.record.Record.{Record}
 use Rattle.pci_function.specs.Values.{record_value}
 use Rattle.pci_tree.specs.Admission.{Admission, IsAdmitted}
 use Rattle.pci_place.specs.Above.{system_in}
-use Rattle.pci_settle.specs.declared.extent.Extent.{Extent}
-use Rattle.pci_settle.specs.declared.kept.Kept.{Kept}
-use Rattle.pci_settle.specs.declared.lines.Line.{Line}
-use Rattle.pci_settle.specs.declared.over.OpenWindows.{OpenWindows}
-use Rattle.pci_settle.specs.declared.own.Terms.{Terms}
-use Rattle.pci_settle.specs.Lines.{AreLineRows, AreLines}
-use Rattle.pci_settle.specs.Slots.{Demand}
-use Rattle.pci_settle.specs.Buses.{Classing, classing_of, TellsClasses}
+use Rattle.pci_first_fit.specs.declared.extent.Extent.{Extent}
+use Rattle.pci_first_fit.specs.declared.kept.Kept.{Kept}
+use Rattle.pci_first_fit.specs.declared.lines.Line.{Line}
+use Rattle.pci_first_fit.specs.declared.over.OpenWindows.{OpenWindows}
+use Rattle.pci_first_fit.specs.declared.own.Terms.{Terms}
+use Rattle.pci_first_fit.specs.Lines.{AreLineRows, AreLines}
+use Rattle.pci_first_fit.specs.Slots.{Demand}
+use Rattle.pci_first_fit.specs.Buses.{Classing, classing_of, TellsClasses}
 use Rattle.pci_kept.specs.declared.region.Region.{Region}
 use Rattle.pci_kept.specs.declared.rules.Rules.{Rules}
 use Rattle.pci_kept.specs.Boards.{IsBoard}
@@ -27,10 +27,10 @@ use Rattle.pci_kept.specs.declared.windows.TooLarge.{TooLarge}
 use Rattle.pci_kept.specs.Holding.{IsAsking, AreHolding}
 use Rattle.pci_kept.specs.Windows.{AreAllNew}
 use Rattle.pci_grow.specs.Growing.{CanGrow}
-use Rattle.pci_settle.specs.PlaceTables.{ArePlaceless}
+use Rattle.pci_first_fit.specs.PlaceTables.{ArePlaceless}
 use Rattle.pci_grow.specs.Reaches.{AreReaches}
 use Rattle.pci_grow.specs.Reaching.{Reaching, IsReaching, tells_whole, TellsWhole, IsTooLargeAround}
-use Rattle.pci_settle.specs.Tables.{AreUntold}
+use Rattle.pci_first_fit.specs.Tables.{AreUntold}
 use Rattle.pci_grow.specs.There.{Tables}
 use Rattle.pci_grow.specs.Telling.{AreStandingRows, IsGrowing, IsBegun}
 use Rattle.pci_grow.proofs.AllRows.{standing_rows}

@@ -24,12 +24,12 @@ use Rattle.pci_base.specs.declared.window_kind.WindowKind.TheVariants.{Io, Memor
 use Rattle.pci_base.specs.declared.window_kind.ByKind.{ByKind}
 use Rattle.pci_base.specs.Ranges.{decoded_range_of}
 use Rattle.pci_base.specs.WindowKinds.{kind_value, by_kind}
-use Rattle.pci_settle.specs.declared.kept.Kept.{Kept}
-use Rattle.pci_settle.specs.Kept.{kept_of, nothing_kept}
+use Rattle.pci_first_fit.specs.declared.kept.Kept.{Kept}
+use Rattle.pci_first_fit.specs.Kept.{kept_of, nothing_kept}
 use Rattle.pci_kept.proofs.Indexes.{table_at}
 use Rattle.pci_kept.specs.Holding.{AreNoted, AreHolding}
 use Rattle.pci_kept.specs.Staying.{HoldsWhereStands, AreStayingBy}
-use Rattle.pci_settle.specs.Tables.{untold, told}
+use Rattle.pci_first_fit.specs.Tables.{untold, told}
 use Rattle.pci_grow.specs.Marks.{marks_of, AreKeptToo, AreLeftToldOf}
 use Rattle.pci_grow.specs.Growing.{AreComing}
 

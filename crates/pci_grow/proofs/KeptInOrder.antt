@@ -8,8 +8,8 @@ use Rattle.std.proofs.lemmas.List.Elements.{Contains-append_cases, Contains-appe
 use Rattle.std.proofs.lemmas.List.Sorted.{IsPermutation-sym, Contains-permutation}
 use Rattle.pci_spec.proofs.Members.{in_nil, in_head, in_cons_cases}
 use Rattle.pci_base.specs.declared.range.Range.{Range}
-use Rattle.pci_settle.specs.Lines.{AreForwardRanges}
-use Rattle.pci_settle.specs.Spots.{FirstsRise}
+use Rattle.pci_first_fit.specs.Lines.{AreForwardRanges}
+use Rattle.pci_first_fit.specs.Spots.{FirstsRise}
 use Rattle.pci_grow.specs.Arounds.{AreInOrder}
 use Rattle.pci_grow.specs.Widest.{is_beyond, KeptBy, LiesInOne}
 

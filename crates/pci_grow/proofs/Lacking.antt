@@ -5,8 +5,8 @@ use Rattle.pci_spec.specs.Decoded.{Range as DecodedRange}
 use Rattle.settle_spec.specs.Items.{Item as ItemValue, are_placed, place_each}
 use Rattle.pci_base.specs.declared.range.Range.{Range}
 use Rattle.pci_base.specs.Ranges.{decoded_range_of}
-use Rattle.pci_settle.specs.declared.item.Item.{Item}
-use Rattle.pci_settle.specs.Placings.{lacks_first, placing_of}
+use Rattle.pci_first_fit.specs.declared.item.Item.{Item}
+use Rattle.pci_first_fit.specs.Placings.{lacks_first, placing_of}
 use Rattle.pci_grow.specs.declared.around.Around.{Around}
 use Rattle.pci_grow.specs.Grounds.{Ground}
 use Rattle.pci_grow.specs.Arounds.{find_around, HaveExtents, HaveBehind, AreEndingAll, ArePlacesAround, HaveNoPlaces}

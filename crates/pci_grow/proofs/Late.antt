@@ -13,8 +13,8 @@ use Rattle.settle_spec.specs.LastPlace.{lowered_to, last_place_in}
 use Rattle.settle_spec.proofs.FirstSpot.{IsApart}
 use Rattle.pci_base.specs.declared.range.Range.{Range}
 use Rattle.pci_base.specs.Ranges.{decoded_range_of}
-use Rattle.pci_settle.specs.declared.extent.Extent.{Extent}
-use Rattle.pci_settle.specs.Spots.{extent_value, IsExtent}
+use Rattle.pci_first_fit.specs.declared.extent.Extent.{Extent}
+use Rattle.pci_first_fit.specs.Spots.{extent_value, IsExtent}
 use Rattle.pci_grow.specs.declared.last_place.LateSpot.{LateSpot}
 use Rattle.pci_grow.specs.LastPlaces.{LastsRise, IsDescended, IsLateSpotAt}
 use Rattle.pci_grow.proofs.Places.{lowered, place_gives, place_from, last_from, none_from}

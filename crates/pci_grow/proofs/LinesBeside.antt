@@ -25,8 +25,8 @@ use Rattle.settle_laws.specs.Order.{level}
 use Rattle.settle_laws.proofs.Standing.{one_level}
 use Rattle.pci_base.specs.Ranges.{decoded_range_of}
 use Rattle.pci_base.specs.Space.{space_of}
-use Rattle.pci_settle.specs.declared.lines.Line.{Line}
-use Rattle.pci_settle.specs.Lines.{level_of, Row, row_of, told_row, rows_from, AreLines}
+use Rattle.pci_first_fit.specs.declared.lines.Line.{Line}
+use Rattle.pci_first_fit.specs.Lines.{level_of, Row, row_of, told_row, rows_from, AreLines}
 use Rattle.pci_kept.proofs.Passing.{levels_one}
 use Rattle.pci_grow.specs.OffLines.{pieces, told_at, row_keeps_off, rows_beside, HaveRanges}
 

@@ -9,9 +9,9 @@ use Rattle.pci_base.specs.declared.window_kind.WindowKind.{WindowKind}
 use Rattle.pci_base.specs.declared.window_kind.WindowKind.TheVariants.{Io, Memory, Prefetchable}
 use Rattle.pci_base.specs.declared.window_kind.ByKind.{ByKind}
 use Rattle.pci_base.specs.WindowKinds.{kind_value, by_kind}
-use Rattle.pci_settle.specs.declared.kept.Kept.{Kept}
-use Rattle.pci_settle.specs.Kept.{kept_of, nothing_kept}
-use Rattle.pci_settle.specs.Tables.{untold}
+use Rattle.pci_first_fit.specs.declared.kept.Kept.{Kept}
+use Rattle.pci_first_fit.specs.Kept.{kept_of, nothing_kept}
+use Rattle.pci_first_fit.specs.Tables.{untold}
 use Rattle.pci_grow.specs.Marks.{is_window_kept, AreKeptToo, AreLeftToldOf}
 
 -- of the first functions an entry is made of the old one and the marks, and of the rest it is the old one

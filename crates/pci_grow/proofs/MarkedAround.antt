@@ -19,10 +19,10 @@ use Rattle.settle_spec.specs.Items.{Item as ItemValue, Placing, AllPlaced, Lacks
 use Rattle.settle_spec.proofs.FirstSpot.{least_spot, spot_gives}
 use Rattle.settle_spec.proofs.Grown.{some_page}
 use Rattle.settle_spec.proofs.NewWindows.{window_is_around}
-use Rattle.pci_settle.specs.declared.extent.Extent.{Extent}
-use Rattle.pci_settle.specs.Spots.{extent_value}
-use Rattle.pci_settle.specs.NewWindows.{nowhere, HasMarkedWindows, told_extent}
-use Rattle.pci_settle.proofs.Marked.{told_fits, same_or_large}
+use Rattle.pci_first_fit.specs.declared.extent.Extent.{Extent}
+use Rattle.pci_first_fit.specs.Spots.{extent_value}
+use Rattle.pci_first_fit.specs.NewWindows.{nowhere, HasMarkedWindows, told_extent}
+use Rattle.pci_first_fit.proofs.Marked.{told_fits, same_or_large}
 use Rattle.pci_kept.specs.Windows.{IsWhole}
 use Rattle.pci_grow.specs.declared.around.Around.{Around}
 use Rattle.pci_base.specs.Ranges.{decoded_range_of}

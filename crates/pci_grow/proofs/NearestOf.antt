@@ -13,7 +13,7 @@ use Rattle.settle_spec.specs.Reach.{before_window, past_window}
 use Rattle.settle_spec.proofs.SameTaken.{HaveSame}
 use Rattle.pci_base.specs.declared.range.Range.{Range as CodeRange}
 use Rattle.pci_base.specs.Ranges.{decoded_range_of}
-use Rattle.pci_settle.specs.declared.lines.Line.{Line}
+use Rattle.pci_first_fit.specs.declared.lines.Line.{Line}
 use Rattle.pci_grow.specs.declared.among.Among.{Among}
 use Rattle.pci_grow.specs.Rooms.{IsNearestBelow, NoneBelow, Below, IsNearestAbove, NoneAbove, Above}
 use Rattle.pci_grow.specs.OffLines.{ending_later, beginning_sooner, part_before, part_behind, pieces, IsAmongAlso}

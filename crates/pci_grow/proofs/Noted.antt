@@ -31,15 +31,15 @@ use Rattle.pci_base.specs.declared.window_kind.ByKind.{ByKind}
 use Rattle.pci_base.specs.Ranges.{decoded_range_of}
 use Rattle.pci_base.specs.WindowKinds.{kind_value, by_kind}
 use Rattle.pci_place.specs.Items.{no_function, function_in}
-use Rattle.pci_settle.specs.declared.kept.Part.TheVariants as parts
-use Rattle.pci_settle.specs.Kept.{kept_of, nothing_kept, spec_part}
+use Rattle.pci_first_fit.specs.declared.kept.Part.TheVariants as parts
+use Rattle.pci_first_fit.specs.Kept.{kept_of, nothing_kept, spec_part}
 use Rattle.pci_kept.specs.declared.region.Region.{Region}
 use Rattle.pci_kept.specs.Known.{region_value}
 use Rattle.pci_kept.specs.Tables.{stands_in}
 use Rattle.pci_kept.proofs.Indexes.{part_cases, index_at, table_at}
-use Rattle.pci_settle.specs.PlaceTables.{placed}
+use Rattle.pci_first_fit.specs.PlaceTables.{placed}
 use Rattle.pci_grow.specs.Putting.{ArePutOver}
-use Rattle.pci_settle.specs.Tables.{untold, told}
+use Rattle.pci_first_fit.specs.Tables.{untold, told}
 use Rattle.pci_grow.specs.There.{Tables, in_row, by_class, grown_in, with_own, grown_told, there_told, place_told}
 use Rattle.pci_grow.specs.Telling.{AreStandingRows, IsDone, grown_there, as_it_stands, place_there, IsUnder, IsToldAs, AreToldTo, IsNoted}
 use Rattle.pci_grow.proofs.Clearing.{step}

@@ -14,13 +14,13 @@ use Rattle.settle_spec.specs.Items.{Item as ItemValue, Placed}
 use Rattle.settle_spec.specs.Places.{place_among}
 use Rattle.settle_spec.specs.Kept.{place_of}
 use Rattle.pci_place.specs.Items.{function_in, no_function}
-use Rattle.pci_settle.specs.declared.item.Item.{Item}
-use Rattle.pci_settle.specs.declared.item.Part.TheVariants.{Bar}
-use Rattle.pci_settle.specs.Own.{class_part, asked_item_value}
-use Rattle.pci_settle.specs.Placings.{at_places}
+use Rattle.pci_first_fit.specs.declared.item.Item.{Item}
+use Rattle.pci_first_fit.specs.declared.item.Part.TheVariants.{Bar}
+use Rattle.pci_first_fit.specs.Own.{class_part, asked_item_value}
+use Rattle.pci_first_fit.specs.Placings.{at_places}
 use Rattle.pci_kept.proofs.Indexes.{index_at}
-use Rattle.pci_settle.specs.declared.place.Places.{Places}
-use Rattle.pci_settle.specs.PlaceTables.{placed, PlacesSame}
+use Rattle.pci_first_fit.specs.declared.place.Places.{Places}
+use Rattle.pci_first_fit.specs.PlaceTables.{placed, PlacesSame}
 use Rattle.pci_grow.specs.Putting.{ArePutOver, HasItemPart}
 use Rattle.pci_grow.proofs.Ranked.{rank_parts}
 

@@ -25,12 +25,12 @@ use Rattle.pci_tree.proofs.Lifting.{record_for, same_bridge, same_secondary}
 use Rattle.pci_tree.proofs.Ways.{bridge_at, no_bridge, some_bridge}
 use Rattle.pci_place.specs.Items.{function_in}
 use Rattle.pci_place.proofs.Records.{function_at}
-use Rattle.pci_settle.specs.declared.kept.Part.TheVariants as parts
+use Rattle.pci_first_fit.specs.declared.kept.Part.TheVariants as parts
 use Rattle.pci_kept.specs.declared.region.Region.{Region}
 use Rattle.pci_kept.specs.Known.{Known}
 use Rattle.pci_kept.specs.Boards.{IsBoard, IsKnown}
 use Rattle.pci_grow.specs.Reaches.{AreToldOver}
-use Rattle.pci_settle.specs.Tables.{told}
+use Rattle.pci_first_fit.specs.Tables.{told}
 
 record_there : (records : List Record) (k : ℕ) → k < length records → (x : Record) × (slice_get records k ≡ Some x)
 record_there [] k less = absurd (let no : ⊥ = omega (arith, less) in no)

@@ -12,7 +12,7 @@ use Rattle.judge_spec.specs.Told.{ToldRange}
 use Rattle.settle_spec.specs.Parts.{are_same_space}
 use Rattle.pci_base.specs.Ranges.{decoded_range_of}
 use Rattle.pci_base.specs.Space.{space_of}
-use Rattle.pci_settle.specs.declared.lines.Line.{Line}
+use Rattle.pci_first_fit.specs.declared.lines.Line.{Line}
 use Rattle.pci_grow.specs.OffLines.{pieces, row_keeps_off, rows_beside, HaveRanges}
 
 pub one_level : (p : Line → Bool) (level : ℕ) → ((l : Line) → p l ≡ true → l.level ≡ level) → (l : Line) → p l ≡ true → (level ≤ l.level) × (l.level ≤ level)

@@ -13,13 +13,13 @@ use Rattle.settle_spec.specs.PlacingLaws.{TakesMore}
 use Rattle.settle_spec.proofs.MoreTaken.{same_extent, none_in}
 use Rattle.pci_base.specs.declared.range.Range.{Range}
 use Rattle.pci_base.specs.Ranges.{decoded_range_of}
-use Rattle.pci_settle.specs.declared.extent.Extent.{Extent}
-use Rattle.pci_settle.specs.declared.spot.Spot.{Spot}
-use Rattle.pci_settle.specs.declared.spot.Start.{Start}
-use Rattle.pci_settle.specs.Spots.{extent_value, IsExtent, AreRisingRanges, extent_range, IsBetweenTaken, IsPutIn}
-use Rattle.pci_settle.proofs.Inserted.{Under, At, Over, find_where, inserted}
-use Rattle.pci_settle.proofs.AllPlaced.{put_same}
-use Rattle.pci_settle.proofs.Cursors.{start_stays}
+use Rattle.pci_first_fit.specs.declared.extent.Extent.{Extent}
+use Rattle.pci_first_fit.specs.declared.spot.Spot.{Spot}
+use Rattle.pci_first_fit.specs.declared.spot.Start.{Start}
+use Rattle.pci_first_fit.specs.Spots.{extent_value, IsExtent, AreRisingRanges, extent_range, IsBetweenTaken, IsPutIn}
+use Rattle.pci_first_fit.proofs.Inserted.{Under, At, Over, find_where, inserted}
+use Rattle.pci_first_fit.proofs.AllPlaced.{put_same}
+use Rattle.pci_first_fit.proofs.Cursors.{start_stays}
 use Rattle.pci_grow.specs.declared.around.Around.{Around}
 use Rattle.pci_grow.specs.declared.around.Search.{Search}
 use Rattle.pci_grow.specs.declared.last_place.LateSpot.{LateSpot}

@@ -27,8 +27,8 @@ use Rattle.pci_base.specs.Space.{space_of}
 use Rattle.pci_base.specs.declared.space.Space.TheVariants as spaces
 use Rattle.pci_base.specs.declared.window_kind.WindowKind.TheVariants as kinds
 use Rattle.pci_place.specs.Items.{no_function, function_in}
-use Rattle.pci_settle.specs.declared.kept.Part.TheVariants as parts
-use Rattle.pci_settle.specs.Kept.{spec_part, nothing_kept}
+use Rattle.pci_first_fit.specs.declared.kept.Part.TheVariants as parts
+use Rattle.pci_first_fit.specs.Kept.{spec_part, nothing_kept}
 use Rattle.pci_kept.specs.declared.region.Region.{Region}
 use Rattle.pci_kept.specs.Held.{is_kept}
 use Rattle.pci_kept.specs.Known.{Known, region_value}

@@ -39,21 +39,21 @@ use Rattle.pci_tree.specs.Ways.{bus_behind}
 use Rattle.pci_tree.proofs.Lifting.{same_bridge, same_secondary}
 use Rattle.pci_place.specs.Items.{no_function, function_in}
 use Rattle.pci_place.specs.Records.{IsRecordOf}
-use Rattle.pci_settle.specs.declared.item.Item.{Item}
-use Rattle.pci_settle.specs.declared.item.Part.{Part as ItemPart}
-use Rattle.pci_settle.specs.declared.item.Part.TheVariants as items
-use Rattle.pci_settle.specs.declared.kept.Part.{Part as CodePart}
-use Rattle.pci_settle.specs.declared.kept.Part.TheVariants as parts
-use Rattle.pci_settle.specs.Kept.{spec_part}
-use Rattle.pci_settle.specs.Own.{class_part, asked_item_value}
-use Rattle.pci_settle.specs.Placings.{at_places}
+use Rattle.pci_first_fit.specs.declared.item.Item.{Item}
+use Rattle.pci_first_fit.specs.declared.item.Part.{Part as ItemPart}
+use Rattle.pci_first_fit.specs.declared.item.Part.TheVariants as items
+use Rattle.pci_first_fit.specs.declared.kept.Part.{Part as CodePart}
+use Rattle.pci_first_fit.specs.declared.kept.Part.TheVariants as parts
+use Rattle.pci_first_fit.specs.Kept.{spec_part}
+use Rattle.pci_first_fit.specs.Own.{class_part, asked_item_value}
+use Rattle.pci_first_fit.specs.Placings.{at_places}
 use Rattle.pci_kept.specs.declared.region.Region.{Region}
 use Rattle.pci_kept.specs.Known.{region_value}
 use Rattle.pci_grow.specs.Arounds.{AreInOrder}
-use Rattle.pci_settle.specs.PlaceTables.{IsItemPart}
+use Rattle.pci_first_fit.specs.PlaceTables.{IsItemPart}
 use Rattle.pci_grow.specs.Putting.{ArePutOver, HasItemPart}
 use Rattle.pci_grow.specs.Rows.{row_number}
-use Rattle.pci_settle.specs.Tables.{told}
+use Rattle.pci_first_fit.specs.Tables.{told}
 use Rattle.pci_grow.specs.There.{Tables, in_row, there_of, is_past, there_told}
 use Rattle.pci_grow.specs.Telling.{Setting, IsWindowOf, IsThereTold, IsNext, IsNoted, IsLatest, there_among, part_row, AreToldTo}
 use Rattle.pci_grow.proofs.Clearing.{comes_hold, past_is}

@@ -44,11 +44,11 @@ use Rattle.pci_base.specs.declared.window_kind.ByKind.{ByKind}
 use Rattle.pci_base.specs.Ranges.{decoded_range_of}
 use Rattle.pci_base.specs.WindowKinds.{kind_value, by_kind}
 use Rattle.pci_place.specs.Items.{no_function}
-use Rattle.pci_settle.specs.declared.over.Left.{Left}
-use Rattle.pci_settle.specs.Keeping.{told_of_kind, grown_of, told_if_grown, IsInKept, TellsKept}
-use Rattle.pci_settle.specs.PlaceTables.{placed}
-use Rattle.pci_settle.specs.Kept.{kept_of, nothing_kept}
-use Rattle.pci_settle.specs.Tables.{untold, told, AreForward}
+use Rattle.pci_first_fit.specs.declared.over.Left.{Left}
+use Rattle.pci_first_fit.specs.Keeping.{told_of_kind, grown_of, told_if_grown, IsInKept, TellsKept}
+use Rattle.pci_first_fit.specs.PlaceTables.{placed}
+use Rattle.pci_first_fit.specs.Kept.{kept_of, nothing_kept}
+use Rattle.pci_first_fit.specs.Tables.{untold, told, AreForward}
 use Rattle.pci_kept.proofs.Indexes.{index_at}
 use Rattle.pci_grow.specs.Growing.{Grown, AreGrown}
 use Rattle.pci_grow.specs.Telling.{IsUnder}

@@ -16,9 +16,9 @@ use Rattle.pci_base.specs.declared.window_kind.WindowKind.{WindowKind as CodeKin
 use Rattle.pci_base.specs.Ranges.{decoded_range_of}
 use Rattle.pci_base.specs.WindowKinds.{kind_value}
 use Rattle.pci_place.specs.Items.{no_function}
-use Rattle.pci_settle.specs.declared.kept.Part.TheVariants as parts
+use Rattle.pci_first_fit.specs.declared.kept.Part.TheVariants as parts
 use Rattle.pci_grow.specs.Growing.{AreComing, ArePlacedThere}
-use Rattle.pci_settle.specs.Tables.{told}
+use Rattle.pci_first_fit.specs.Tables.{told}
 use Rattle.pci_grow.specs.There.{Tables, grown_told}
 use Rattle.pci_grow.specs.Telling.{AreThere}
 use Rattle.pci_grow.proofs.Told.{grown_at}

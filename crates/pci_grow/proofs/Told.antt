@@ -25,9 +25,9 @@ use Rattle.pci_base.specs.declared.window_kind.ByKind.{ByKind}
 use Rattle.pci_base.specs.Ranges.{decoded_range_of}
 use Rattle.pci_base.specs.WindowKinds.{kind_value, by_kind}
 use Rattle.pci_place.specs.Items.{no_function, function_in}
-use Rattle.pci_settle.specs.declared.kept.Part.{Part as CodePart}
-use Rattle.pci_settle.specs.declared.kept.Part.TheVariants as parts
-use Rattle.pci_settle.specs.Kept.{spec_part}
+use Rattle.pci_first_fit.specs.declared.kept.Part.{Part as CodePart}
+use Rattle.pci_first_fit.specs.declared.kept.Part.TheVariants as parts
+use Rattle.pci_first_fit.specs.Kept.{spec_part}
 use Rattle.pci_kept.specs.declared.region.Region.{Region}
 use Rattle.pci_kept.specs.Boards.{IsKnown}
 use Rattle.pci_kept.specs.Held.{is_kept}
@@ -35,7 +35,7 @@ use Rattle.pci_kept.specs.Known.{Known, region_value}
 use Rattle.pci_kept.specs.Tables.{stands_in}
 use Rattle.pci_kept.proofs.Indexes.{index_at, table_at}
 use Rattle.pci_grow.specs.Rows.{row_number, row_of}
-use Rattle.pci_settle.specs.Tables.{untold}
+use Rattle.pci_first_fit.specs.Tables.{untold}
 use Rattle.pci_grow.specs.There.{Tables, grown_of, or_own, range_told, listed, in_row, by_class, grown_in, with_own, grown_told, there_told}
 use Rattle.pci_grow.specs.Telling.{part_row, AreStandingRows}
 

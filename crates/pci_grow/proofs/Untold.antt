@@ -7,7 +7,7 @@ use Rattle.pci_base.specs.declared.window_kind.WindowKind.{WindowKind as CodeKin
 use Rattle.pci_base.specs.declared.window_kind.WindowKind.TheVariants as kinds
 use Rattle.pci_base.specs.declared.window_kind.ByKind.{ByKind}
 use Rattle.pci_base.specs.WindowKinds.{by_kind}
-use Rattle.pci_settle.specs.Tables.{untold, AreUntold}
+use Rattle.pci_first_fit.specs.Tables.{untold, AreUntold}
 
 pub at_untold : (table : List (ByKind (Option Range))) → AreUntold table → (k : ℕ) → get_or table k untold ≡ untold
 at_untold table none k = elim (cases_lt k (length table)) [

@@ -35,15 +35,15 @@ use Rattle.pci_function.specs.Values.{record_value}
 use Rattle.pci_tree.specs.Ways.{bus_behind}
 use Rattle.pci_tree.proofs.Lifting.{same_bridge, same_secondary}
 use Rattle.pci_place.specs.Items.{function_in}
-use Rattle.pci_settle.specs.declared.item.Item.{Item}
-use Rattle.pci_settle.specs.declared.item.Part.TheVariants.{Rom}
-use Rattle.pci_settle.specs.Buses.{AreInTurn, bus_listing}
-use Rattle.pci_settle.specs.NewWindows.{HasNewWindows, HasMarkedWindows, told_extent}
-use Rattle.pci_settle.specs.Lines.{AreLines, level_of}
-use Rattle.pci_settle.specs.Own.{class_part, asked_item_value}
-use Rattle.pci_settle.specs.Placings.{at_places}
-use Rattle.pci_settle.specs.Turns.{HasExtent}
-use Rattle.pci_settle.proofs.Marked.{told_is}
+use Rattle.pci_first_fit.specs.declared.item.Item.{Item}
+use Rattle.pci_first_fit.specs.declared.item.Part.TheVariants.{Rom}
+use Rattle.pci_first_fit.specs.Buses.{AreInTurn, bus_listing}
+use Rattle.pci_first_fit.specs.NewWindows.{HasNewWindows, HasMarkedWindows, told_extent}
+use Rattle.pci_first_fit.specs.Lines.{AreLines, level_of}
+use Rattle.pci_first_fit.specs.Own.{class_part, asked_item_value}
+use Rattle.pci_first_fit.specs.Placings.{at_places}
+use Rattle.pci_first_fit.specs.Turns.{HasExtent}
+use Rattle.pci_first_fit.proofs.Marked.{told_is}
 use Rattle.pci_kept.specs.declared.region.Region.{Region}
 use Rattle.pci_kept.specs.Known.{Known, region_value}
 use Rattle.pci_kept.specs.Windows.{IsWhole}

@@ -25,14 +25,14 @@ use Rattle.pci_base.specs.declared.window_kind.ByKind.{ByKind}
 use Rattle.pci_base.specs.WindowKinds.{kind_value, by_kind}
 use Rattle.pci_base.specs.Ranges.{decoded_range_of}
 use Rattle.pci_place.specs.Items.{no_function}
-use Rattle.pci_settle.specs.declared.extent.Extent.{Extent}
-use Rattle.pci_settle.specs.Buses.{Classing, TellsClasses}
-use Rattle.pci_settle.specs.NewWindows.{IsTooLarge}
+use Rattle.pci_first_fit.specs.declared.extent.Extent.{Extent}
+use Rattle.pci_first_fit.specs.Buses.{Classing, TellsClasses}
+use Rattle.pci_first_fit.specs.NewWindows.{IsTooLarge}
 use Rattle.pci_kept.specs.declared.windows.TooLarge.{TooLarge}
 use Rattle.pci_kept.specs.Holding.{HasNewBeside, HasNewWhereStands}
 use Rattle.pci_kept.specs.Windows.{AreAllNew, IsWhole, is_whole_range}
 use Rattle.pci_grow.specs.Reaching.{Reaching, IsReaching, tells_whole, TellsWhole, HasWholeReach}
-use Rattle.pci_settle.specs.Tables.{untold, told}
+use Rattle.pci_first_fit.specs.Tables.{untold, told}
 use Rattle.pci_grow.specs.Telling.{HasNewAround}
 use Rattle.pci_grow.proofs.LowReaches.{reach_below}
 

@@ -8,12 +8,12 @@ use Rattle.settle_spec.specs.Items.{Item as ItemValue, AllPlaced, are_placed, pl
 use Rattle.settle_spec.specs.Growth.{place_around}
 use Rattle.pci_base.specs.declared.range.Range.{Range}
 use Rattle.pci_base.specs.Ranges.{decoded_range_of}
-use Rattle.pci_settle.specs.declared.extent.Extent.{Extent}
-use Rattle.pci_settle.specs.declared.item.Item.{Item}
-use Rattle.pci_settle.specs.declared.spot.Spot.{Spot}
-use Rattle.pci_settle.specs.declared.spot.Start.{Start}
-use Rattle.pci_settle.specs.Placings.{at_places}
-use Rattle.pci_settle.specs.Spots.{extent_value, IsExtent, AreRisingRanges, IsPutIn, IsStart}
+use Rattle.pci_first_fit.specs.declared.extent.Extent.{Extent}
+use Rattle.pci_first_fit.specs.declared.item.Item.{Item}
+use Rattle.pci_first_fit.specs.declared.spot.Spot.{Spot}
+use Rattle.pci_first_fit.specs.declared.spot.Start.{Start}
+use Rattle.pci_first_fit.specs.Placings.{at_places}
+use Rattle.pci_first_fit.specs.Spots.{extent_value, IsExtent, AreRisingRanges, IsPutIn, IsStart}
 use Rattle.pci_grow.specs.declared.around.Around.{Around}
 use Rattle.pci_grow.specs.declared.around.Search.{Search}
 use Rattle.pci_grow.specs.declared.last_place.LateSpot.{LateSpot}

@@ -11,12 +11,12 @@ use Rattle.pci_base.specs.WindowKinds.{kind_value}
 use Rattle.pci_function.specs.declared.record.Record.{Record}
 use Rattle.pci_function.specs.Values.{record_value}
 use Rattle.pci_place.specs.Items.{function_in}
-use Rattle.pci_settle.specs.declared.item.Item.{Item}
-use Rattle.pci_settle.specs.declared.item.Part.{Part as ItemPart}
-use Rattle.pci_settle.specs.declared.item.Part.TheVariants as items
-use Rattle.pci_settle.specs.declared.lines.Line.{Line}
-use Rattle.pci_settle.specs.Lines.{AreLines}
-use Rattle.pci_settle.specs.Own.{class_part}
+use Rattle.pci_first_fit.specs.declared.item.Item.{Item}
+use Rattle.pci_first_fit.specs.declared.item.Part.{Part as ItemPart}
+use Rattle.pci_first_fit.specs.declared.item.Part.TheVariants as items
+use Rattle.pci_first_fit.specs.declared.lines.Line.{Line}
+use Rattle.pci_first_fit.specs.Lines.{AreLines}
+use Rattle.pci_first_fit.specs.Own.{class_part}
 use Rattle.pci_grow.specs.declared.ground.Ground.{Ground as CodeGround}
 
 abbrev pub is_new_window : ItemPart → Bool

@@ -16,16 +16,16 @@ use Rattle.pci_base.specs.declared.window_kind.WindowKind.{WindowKind as CodeKin
 use Rattle.pci_base.specs.declared.window_kind.ByKind.{ByKind}
 use Rattle.pci_base.specs.WindowKinds.{kind_value, by_kind}
 use Rattle.pci_base.specs.Ranges.{decoded_range_of}
-use Rattle.pci_settle.specs.declared.extent.Extent.{Extent}
-use Rattle.pci_settle.specs.declared.kept.Kept.{Kept}
-use Rattle.pci_settle.specs.Buses.{Classing, TellsClasses}
+use Rattle.pci_first_fit.specs.declared.extent.Extent.{Extent}
+use Rattle.pci_first_fit.specs.declared.kept.Kept.{Kept}
+use Rattle.pci_first_fit.specs.Buses.{Classing, TellsClasses}
 use Rattle.pci_kept.specs.Tables.{index_of}
 use Rattle.pci_kept.specs.Staying.{AreStayingBy}
 use Rattle.pci_grow.specs.declared.growing.Grown.{Grown as CodeGrown}
-use Rattle.pci_settle.specs.declared.place.Places.{Places}
-use Rattle.pci_settle.specs.PlaceTables.{placed}
+use Rattle.pci_first_fit.specs.declared.place.Places.{Places}
+use Rattle.pci_first_fit.specs.PlaceTables.{placed}
 use Rattle.pci_grow.specs.Reaching.{Reaching, IsReaching}
-use Rattle.pci_settle.specs.Tables.{told}
+use Rattle.pci_first_fit.specs.Tables.{told}
 use Rattle.pci_grow.specs.Telling.{HasNewAround, IsUnder, place_there}
 
 -- a table tells what each window comes to of which a test holds, and nothing of others

@@ -5,8 +5,8 @@ use Rattle.plan_spec.specs.Place.{range_from}
 use Rattle.settle_spec.specs.FirstPlace.{is_place, HasNoPlace}
 use Rattle.pci_base.specs.declared.range.Range.{Range}
 use Rattle.pci_base.specs.Ranges.{decoded_range_of}
-use Rattle.pci_settle.specs.declared.extent.Extent.{Extent}
-use Rattle.pci_settle.specs.Spots.{extent_value}
+use Rattle.pci_first_fit.specs.declared.extent.Extent.{Extent}
+use Rattle.pci_first_fit.specs.Spots.{extent_value}
 use Rattle.pci_grow.specs.declared.last_place.LateSpot.{LateSpot}
 
 -- no last address is below one before it

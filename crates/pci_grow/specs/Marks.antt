@@ -6,9 +6,9 @@ use Rattle.pci_base.specs.declared.range.Range.{Range}
 use Rattle.pci_base.specs.declared.window_kind.WindowKind.{WindowKind}
 use Rattle.pci_base.specs.declared.window_kind.ByKind.{ByKind}
 use Rattle.pci_base.specs.WindowKinds.{kind_value}
-use Rattle.pci_settle.specs.declared.kept.Kept.{Kept}
-use Rattle.pci_settle.specs.Kept.{kept_of, nothing_kept}
-use Rattle.pci_settle.specs.Tables.{told}
+use Rattle.pci_first_fit.specs.declared.kept.Kept.{Kept}
+use Rattle.pci_first_fit.specs.Kept.{kept_of, nothing_kept}
+use Rattle.pci_first_fit.specs.Tables.{told}
 
 -- the windows of a function of which something is told, and nothing else
 abbrev pub marks_of : ByKind (Option Range) → Kept

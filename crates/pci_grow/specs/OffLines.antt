@@ -12,7 +12,7 @@ use Rattle.settle_spec.specs.Parts.{are_same_space}
 use Rattle.settle_spec.specs.Reach.{before_window, past_window}
 use Rattle.pci_base.specs.Ranges.{decoded_range_of}
 use Rattle.pci_base.specs.Space.{space_of}
-use Rattle.pci_settle.specs.declared.lines.Line.{Line}
+use Rattle.pci_first_fit.specs.declared.lines.Line.{Line}
 use Rattle.pci_grow.specs.declared.among.Among.{Among}
 use Rattle.pci_grow.specs.Rooms.{IsNearestBelow, IsNearestAbove}
 

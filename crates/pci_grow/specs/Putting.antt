@@ -6,10 +6,10 @@ use Rattle.settle_spec.specs.FirstPlace.{else_at}
 use Rattle.settle_spec.specs.Items.{Placed}
 use Rattle.settle_spec.specs.Places.{place_among}
 use Rattle.settle_spec.specs.Kept.{place_of}
-use Rattle.pci_settle.specs.declared.item.Item.{Item}
-use Rattle.pci_settle.specs.declared.place.Places.{Places}
-use Rattle.pci_settle.specs.Own.{asked_item_value}
-use Rattle.pci_settle.specs.PlaceTables.{placed}
+use Rattle.pci_first_fit.specs.declared.item.Item.{Item}
+use Rattle.pci_first_fit.specs.declared.place.Places.{Places}
+use Rattle.pci_first_fit.specs.Own.{asked_item_value}
+use Rattle.pci_first_fit.specs.PlaceTables.{placed}
 
 -- a table of a system's functions gets the places of items; of those of one part the first counts
 abbrev pub ArePutOver : System → List Placed → List Places → List Places → Type 0

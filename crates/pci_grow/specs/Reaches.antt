@@ -19,15 +19,15 @@ use Rattle.pci_base.specs.WindowKinds.{kind_value}
 use Rattle.pci_base.specs.Ranges.{decoded_range_of}
 use Rattle.pci_function.specs.declared.record.Record.{Record}
 use Rattle.pci_place.specs.Items.{function_in}
-use Rattle.pci_settle.specs.declared.kept.Part.TheVariants as parts
-use Rattle.pci_settle.specs.declared.lines.Line.{Line}
-use Rattle.pci_settle.specs.Lists.{lists_value}
-use Rattle.pci_settle.specs.Lines.{AreLineRows, AreLines}
+use Rattle.pci_first_fit.specs.declared.kept.Part.TheVariants as parts
+use Rattle.pci_first_fit.specs.declared.lines.Line.{Line}
+use Rattle.pci_first_fit.specs.Lists.{lists_value}
+use Rattle.pci_first_fit.specs.Lines.{AreLineRows, AreLines}
 use Rattle.pci_kept.specs.declared.region.Region.{Region}
 use Rattle.pci_kept.specs.Boards.{IsBoard}
 use Rattle.pci_grow.specs.declared.among.Among.{Among}
 use Rattle.pci_grow.specs.declared.reach.Board.{Board}
-use Rattle.pci_settle.specs.Tables.{told}
+use Rattle.pci_first_fit.specs.Tables.{told}
 use Rattle.pci_grow.specs.Rooms.{IsNearestBelow, IsNearestAbove}
 use Rattle.pci_grow.specs.Rows.{HasRows}
 

@@ -15,10 +15,10 @@ use Rattle.pci_base.specs.declared.window_kind.WindowKind.{WindowKind as CodeKin
 use Rattle.pci_base.specs.declared.window_kind.ByKind.{ByKind}
 use Rattle.pci_base.specs.WindowKinds.{kind_value}
 use Rattle.pci_base.specs.Ranges.{decoded_range_of}
-use Rattle.pci_settle.specs.declared.kept.Kept.{Kept}
-use Rattle.pci_settle.specs.declared.lines.Line.{Line}
-use Rattle.pci_settle.specs.Lines.{AreLineRows, AreLines}
-use Rattle.pci_settle.specs.NewWindows.{IsTooLarge}
+use Rattle.pci_first_fit.specs.declared.kept.Kept.{Kept}
+use Rattle.pci_first_fit.specs.declared.lines.Line.{Line}
+use Rattle.pci_first_fit.specs.Lines.{AreLineRows, AreLines}
+use Rattle.pci_first_fit.specs.NewWindows.{IsTooLarge}
 use Rattle.pci_kept.specs.declared.region.Region.{Region}
 use Rattle.pci_kept.specs.Known.{AreParts}
 use Rattle.pci_kept.specs.Passing.{AreStanding}
@@ -27,7 +27,7 @@ use Rattle.pci_kept.specs.Windows.{IsWhole, is_whole_range}
 use Rattle.pci_grow.specs.declared.reaching.Reaching.{Reaching as CodeReaching}
 use Rattle.pci_grow.specs.Reaches.{AreReaches}
 use Rattle.pci_grow.specs.Rows.{row_of, AreRows}
-use Rattle.pci_settle.specs.Tables.{told}
+use Rattle.pci_first_fit.specs.Tables.{told}
 
 -- the parts of all functions, which of them stand, those row by row, how far each window can grow, and the told ranges
 pub record Reaching : Type 0 where

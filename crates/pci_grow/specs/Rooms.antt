@@ -5,7 +5,7 @@ use Rattle.pci_spec.specs.Decoded.{Range}
 use Rattle.settle_spec.specs.Lists.{is_had_by}
 use Rattle.settle_spec.specs.Lists as asked
 use Rattle.pci_base.specs.declared.range.RootRange.{RootRange}
-use Rattle.pci_settle.specs.Lists.{root_range_value}
+use Rattle.pci_first_fit.specs.Lists.{root_range_value}
 
 -- the ranges of a list that a root has
 abbrev pub had_ranges : ℕ → List RootRange → List Range

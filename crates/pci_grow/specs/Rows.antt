@@ -8,7 +8,7 @@ use Rattle.settle_spec.specs.Lists.{Request}
 use Rattle.pci_base.specs.Ranges.{decoded_range_of}
 use Rattle.pci_base.specs.Space.{space_of}
 use Rattle.pci_base.specs.declared.range.Range.{Range}
-use Rattle.pci_settle.specs.declared.kept.Kept.{Kept}
+use Rattle.pci_first_fit.specs.declared.kept.Kept.{Kept}
 use Rattle.pci_kept.specs.declared.region.Region.{Region}
 use Rattle.pci_kept.specs.Held.{is_kept}
 use Rattle.pci_kept.specs.Known.{AreParts}

@@ -24,14 +24,14 @@ use Rattle.pci_base.specs.WindowKinds.{kind_value, by_kind}
 use Rattle.pci_function.specs.declared.record.Bridge.{Bridge}
 use Rattle.pci_function.specs.declared.record.Record.{Record}
 use Rattle.pci_place.specs.Records.{IsRecordOf}
-use Rattle.pci_settle.specs.declared.extent.Extent.{Extent}
-use Rattle.pci_settle.specs.declared.lines.Line.{Line}
-use Rattle.pci_settle.specs.Lines.{AreLineRows, AreLines}
-use Rattle.pci_settle.specs.Buses.{Classing, classing_value, TellsClasses}
-use Rattle.pci_settle.specs.Kept.{kept_of, nothing_kept, AreKeptParts}
-use Rattle.pci_settle.specs.NewWindows.{HasNewWindows, HasMarkedWindows}
-use Rattle.pci_settle.specs.Own.{asked_item_value}
-use Rattle.pci_settle.specs.Placings.{at_places}
+use Rattle.pci_first_fit.specs.declared.extent.Extent.{Extent}
+use Rattle.pci_first_fit.specs.declared.lines.Line.{Line}
+use Rattle.pci_first_fit.specs.Lines.{AreLineRows, AreLines}
+use Rattle.pci_first_fit.specs.Buses.{Classing, classing_value, TellsClasses}
+use Rattle.pci_first_fit.specs.Kept.{kept_of, nothing_kept, AreKeptParts}
+use Rattle.pci_first_fit.specs.NewWindows.{HasNewWindows, HasMarkedWindows}
+use Rattle.pci_first_fit.specs.Own.{asked_item_value}
+use Rattle.pci_first_fit.specs.Placings.{at_places}
 use Rattle.pci_kept.specs.declared.region.Region.{Region}
 use Rattle.pci_kept.specs.Boards.{IsKnown}
 use Rattle.pci_kept.specs.Known.{region_value}
@@ -40,9 +40,9 @@ use Rattle.pci_kept.specs.Holding.{AreHolding}
 use Rattle.pci_grow.specs.declared.around.Around.{Around}
 use Rattle.pci_grow.specs.declared.coming.Coming.{Coming}
 use Rattle.pci_grow.specs.declared.coming.Setting.{Setting as CodeSetting}
-use Rattle.pci_settle.specs.PlaceTables.{ArePlaceless}
+use Rattle.pci_first_fit.specs.PlaceTables.{ArePlaceless}
 use Rattle.pci_grow.specs.Rows.{row_number, IsInRowOrder}
-use Rattle.pci_settle.specs.Tables.{AreUntold, told, TellsSame}
+use Rattle.pci_first_fit.specs.Tables.{AreUntold, told, TellsSame}
 use Rattle.pci_grow.specs.Reaches.{AreReaches}
 use Rattle.pci_grow.specs.There.{Tables, grown_told, there_told, place_told, in_row}
 

@@ -11,19 +11,19 @@ use Rattle.pci_base.specs.declared.range.Range.{Range}
 use Rattle.pci_base.specs.declared.window_kind.ByKind.{ByKind}
 use Rattle.pci_base.specs.Ranges.{decoded_range_of}
 use Rattle.pci_base.specs.WindowKinds.{kind_value}
-use Rattle.pci_settle.specs.declared.item.Item.{Item}
-use Rattle.pci_settle.specs.declared.kept.Kept.{Kept}
-use Rattle.pci_settle.specs.declared.kept.Part.{Part as CodePart}
-use Rattle.pci_settle.specs.declared.kept.Part.TheVariants as parts
-use Rattle.pci_settle.specs.Spots.{extent_range}
+use Rattle.pci_first_fit.specs.declared.item.Item.{Item}
+use Rattle.pci_first_fit.specs.declared.kept.Kept.{Kept}
+use Rattle.pci_first_fit.specs.declared.kept.Part.{Part as CodePart}
+use Rattle.pci_first_fit.specs.declared.kept.Part.TheVariants as parts
+use Rattle.pci_first_fit.specs.Spots.{extent_range}
 use Rattle.pci_kept.specs.declared.region.Region.{Region}
 use Rattle.pci_kept.specs.Held.{is_kept}
 use Rattle.pci_kept.specs.Tables.{index_of, stands_in}
-use Rattle.pci_settle.specs.declared.place.Places.{Places}
+use Rattle.pci_first_fit.specs.declared.place.Places.{Places}
 use Rattle.pci_grow.specs.declared.there.There.{There}
 use Rattle.pci_grow.specs.Rows.{row_of}
-use Rattle.pci_settle.specs.PlaceTables.{placed}
-use Rattle.pci_settle.specs.Tables.{untold, told}
+use Rattle.pci_first_fit.specs.PlaceTables.{placed}
+use Rattle.pci_first_fit.specs.Tables.{untold, told}
 
 -- ---- what tables tell
 

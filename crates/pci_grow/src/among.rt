@@ -8,7 +8,7 @@ ghost use Rattle.judge_spec.specs.Told.{ToldRange as RangeValue};
 ghost use Rattle.settle_spec.specs.Parts.{are_same_space};
 ghost use Rattle.pci_base.specs.Ranges.{decoded_range_of};
 ghost use Rattle.pci_base.specs.Space.{space_of};
-ghost use Rattle.pci_settle.specs.Lines.{line_level};
+ghost use Rattle.pci_first_fit.specs.Lines.{line_level};
 ghost use Rattle.pci_grow.specs.Rooms.{IsNearestBelow, IsNearestAbove};
 ghost use Rattle.pci_grow.specs.Rows.{row_of, AreApartInRows, AreBeside};
 ghost use Rattle.pci_grow.specs.OffLines.{ending_later, beginning_sooner, part_before, part_behind, pieces, row_keeps_off, row_pieces, rows_beside, HaveRanges, IsAmongAlso};
@@ -17,8 +17,8 @@ use crate::beside::{before, behind};
 use pci_base::range::Range;
 use pci_base::slot::Slot;
 use pci_base::space::Space;
+use pci_first_fit::lines::Line;
 use pci_kept::region::Region;
-use pci_settle::lines::Line;
 use pci_told::told_range::ToldRange;
 
 /// The one of two ranges that ends later.

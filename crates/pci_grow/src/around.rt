@@ -7,10 +7,10 @@ ghost use Rattle.settle_spec.specs.FirstPlace.{first_place_in};
 ghost use Rattle.settle_spec.specs.Items.{Item as ItemValue, place_each};
 ghost use Rattle.settle_spec.specs.Growth.{place_around};
 ghost use Rattle.pci_base.specs.Ranges.{decoded_range_of};
-ghost use Rattle.pci_settle.specs.Spots.{extent_value, IsExtent, FirstsRise, IsBetweenTaken, spot_place};
-ghost use Rattle.pci_settle.specs.Lines.{AreLineRows};
-ghost use Rattle.pci_settle.specs.Placings.{placing_of};
-ghost use Rattle.pci_settle.specs.Turns.{HasExtent};
+ghost use Rattle.pci_first_fit.specs.Spots.{extent_value, IsExtent, FirstsRise, IsBetweenTaken, spot_place};
+ghost use Rattle.pci_first_fit.specs.Lines.{AreLineRows};
+ghost use Rattle.pci_first_fit.specs.Placings.{placing_of};
+ghost use Rattle.pci_first_fit.specs.Turns.{HasExtent};
 ghost use Rattle.pci_grow.specs.LastPlaces.{LastsRise};
 ghost use Rattle.pci_grow.specs.Grounds.{ground_value, IsBehindItem};
 ghost use Rattle.pci_grow.specs.Arounds.{onward, backward, last_place_of, find_around, IsSearch, IsBelowLast, AreInOrder, IsPutAt, HaveExtents, HaveBehind, AreEndingAll};
@@ -19,9 +19,9 @@ use crate::ground::{Ground, can_hold, taken_for};
 use crate::last_place::{LateSpot, last_place, last_start};
 use pci_base::memory::OutOfMemory;
 use pci_base::range::Range;
-use pci_settle::extent::Extent;
-use pci_settle::item::Item;
-use pci_settle::spot::{Spot, Start, first_place};
+use pci_first_fit::extent::Extent;
+use pci_first_fit::item::Item;
+use pci_first_fit::spot::{Spot, Start, first_place};
 use std::alloc::Allocator;
 
 /// A window and how far it can grow.

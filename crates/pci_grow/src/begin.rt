@@ -1,14 +1,14 @@
 //! What is there before any window is found to take: what holds as it stands.
 ghost use Rattle.std.specs.Prelude.{◌≡◌, IfOk, length};
-ghost use Rattle.pci_settle.specs.PlaceTables.{ArePlaceless};
-ghost use Rattle.pci_settle.specs.Tables.{AreUntold};
+ghost use Rattle.pci_first_fit.specs.PlaceTables.{ArePlaceless};
+ghost use Rattle.pci_first_fit.specs.Tables.{AreUntold};
 
 use crate::there::There;
 use pci_base::memory::OutOfMemory;
 use pci_base::window_kind::ByKind;
-use pci_settle::kept::Kept;
-use pci_settle::place::no_places;
-use pci_settle::table::nothing_told;
+use pci_first_fit::kept::Kept;
+use pci_first_fit::place::no_places;
+use pci_first_fit::table::nothing_told;
 use std::alloc::Allocator;
 
 /// Marks of a function as another one has them.

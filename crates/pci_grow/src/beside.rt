@@ -9,9 +9,9 @@ ghost use Rattle.pci_grow.specs.Rows.{row_number, row_of, IsLower, IsInRowOrder,
 use pci_base::memory::OutOfMemory;
 use pci_base::range::Range;
 use pci_base::space::Space;
+use pci_first_fit::bus::kept_by;
+use pci_first_fit::kept::Kept;
 use pci_kept::region::Region;
-use pci_settle::bus::kept_by;
-use pci_settle::kept::Kept;
 use std::alloc::Allocator;
 
 /// Sorts parts by rising first addresses; those of one first address stay in their order.

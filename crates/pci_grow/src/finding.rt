@@ -5,7 +5,7 @@ ghost use Rattle.settle_spec.specs.Lists.{Request};
 ghost use Rattle.pci_base.specs.WindowKinds.{kind_value};
 ghost use Rattle.pci_place.specs.Above.{AreAboves, system_in};
 ghost use Rattle.pci_place.specs.Items.{function_in};
-ghost use Rattle.pci_settle.specs.declared.kept.Part.TheVariants.{Window};
+ghost use Rattle.pci_first_fit.specs.declared.kept.Part.TheVariants.{Window};
 ghost use Rattle.pci_kept.specs.Windows.{AreAllLawful};
 ghost use Rattle.pci_grow.specs.Rows.{row_of};
 ghost use Rattle.pci_grow.specs.There.{tables_of, in_row, there_told};
@@ -17,9 +17,9 @@ use crate::there::{There, in_row, is_past, later};
 use pci_base::memory::OutOfMemory;
 use pci_base::slot::BUSES;
 use pci_base::window_kind::WindowKind;
+use pci_first_fit::kept::Part;
+use pci_first_fit::table::told_of;
 use pci_kept::region::Region;
-use pci_settle::kept::Part;
-use pci_settle::table::told_of;
 use std::alloc::Allocator;
 
 /// What the next part of a row comes to, which is a window of a bridge.

@@ -3,7 +3,7 @@ ghost use Rattle.std.specs.Prelude.{◌≡◌, ◌++◌, [], IfOk, OnOk, IsTrue,
 ghost use Rattle.std.specs.List.{Contains};
 ghost use Rattle.pci_spec.specs.Decoded.{Range as DecodedRange};
 ghost use Rattle.pci_base.specs.Ranges.{decoded_range_of};
-ghost use Rattle.pci_settle.specs.Lines.{AreForwardRanges, AreLineRows, AreAdded};
+ghost use Rattle.pci_first_fit.specs.Lines.{AreForwardRanges, AreLineRows, AreAdded};
 ghost use Rattle.pci_grow.specs.Arounds.{AreInOrder};
 ghost use Rattle.pci_grow.specs.Grounds.{ground_value, is_new_window, IsBehindItem, AreAlike};
 ghost use Rattle.pci_grow.specs.Widest.{LiesInOne};
@@ -14,9 +14,9 @@ use pci_base::memory::OutOfMemory;
 use pci_base::range::Range;
 use pci_base::space::Space;
 use pci_base::window_kind::WindowKind;
+use pci_first_fit::item::{Item, Part};
+use pci_first_fit::lines::{Line, add_lines_behind};
 use pci_function::record::Record;
-use pci_settle::item::{Item, Part};
-use pci_settle::lines::{Line, add_lines_behind};
 use std::alloc::Allocator;
 
 /// Where items are placed: around a window, and off what told ranges hold behind new windows.

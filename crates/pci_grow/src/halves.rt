@@ -12,7 +12,7 @@ ghost use Rattle.pci_base.specs.WindowKinds.{kind_value};
 
 use pci_base::range::Range;
 use pci_base::window_kind::WindowKind;
-use pci_settle::spot::raised;
+use pci_first_fit::spot::raised;
 
 /// So many addresses have one upper half of a base or a limit.
 fn half_size(class: WindowKind) -> u64

@@ -1,13 +1,13 @@
 //! Ranges that may share addresses, in an order in which places are looked for: without those that lie in others.
 ghost use Rattle.std.specs.Prelude.{◌≡◌, IfOk};
 ghost use Rattle.std.specs.List.{Contains};
-ghost use Rattle.pci_settle.specs.Lines.{AreForwardRanges};
+ghost use Rattle.pci_first_fit.specs.Lines.{AreForwardRanges};
 ghost use Rattle.pci_grow.specs.Arounds.{AreInOrder};
 ghost use Rattle.pci_grow.specs.Widest.{is_beyond, KeptBy, LiesInOne};
 
 use pci_base::memory::OutOfMemory;
 use pci_base::range::Range;
-use pci_settle::spot::sort_by_first;
+use pci_first_fit::spot::sort_by_first;
 use std::alloc::Allocator;
 
 /// Whether a range ends behind an address, if there is one.

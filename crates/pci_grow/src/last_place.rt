@@ -3,11 +3,11 @@ ghost use Rattle.std.specs.Prelude.{◌≡◌, ◌+◌, ◌≤◌, None, IfSome,
 ghost use Rattle.settle_spec.specs.FirstPlace.{HasNoPlace};
 ghost use Rattle.settle_spec.specs.LastPlace.{lowered_to, last_place_in};
 ghost use Rattle.pci_base.specs.Ranges.{decoded_range_of};
-ghost use Rattle.pci_settle.specs.Spots.{extent_value, IsExtent};
+ghost use Rattle.pci_first_fit.specs.Spots.{extent_value, IsExtent};
 ghost use Rattle.pci_grow.specs.LastPlaces.{LastsRise, HasNone, IsDescended, IsLateStart, IsLateSpotAt, late_place};
 
 use pci_base::range::Range;
-use pci_settle::extent::Extent;
+use pci_first_fit::extent::Extent;
 
 /// A free place, and where it belongs in the list of what is taken.
 #[derive(Clone, Copy, Debug, PartialEq, Eq)]

@@ -1,7 +1,7 @@
 //! Marks of windows of which a table tells something, by function in slot order.
 ghost use Rattle.std.specs.Prelude.{◌≡◌, ◌||◌, IfOk, length, map, if◌then◌else◌, None};
 ghost use Rattle.pci_spec.specs.System.{Part as PartValue};
-ghost use Rattle.pci_settle.specs.Kept.{kept_of};
+ghost use Rattle.pci_first_fit.specs.Kept.{kept_of};
 ghost use Rattle.pci_base.specs.WindowKinds.{by_kind};
 ghost use Rattle.pci_base.specs.declared.window_kind.WindowKind.{WindowKind as Kind};
 ghost use Rattle.pci_grow.specs.Marks.{marks_of, is_window_kept, AreKeptToo, AreLeftToldOf};
@@ -9,8 +9,8 @@ ghost use Rattle.pci_grow.specs.Marks.{marks_of, is_window_kept, AreKeptToo, Are
 use pci_base::memory::OutOfMemory;
 use pci_base::range::Range;
 use pci_base::window_kind::ByKind;
-use pci_settle::kept::Kept;
-use pci_settle::table::WindowRanges;
+use pci_first_fit::kept::Kept;
+use pci_first_fit::table::WindowRanges;
 use std::alloc::Allocator;
 
 /// Marks of the windows of one function of which something is told.

@@ -3,14 +3,14 @@ ghost use Rattle.std.specs.Prelude.{◌≡◌, ◌<◌, length, map};
 ghost use Rattle.std.specs.List.{All};
 ghost use Rattle.pci_spec.specs.System.{System, IsSystem};
 ghost use Rattle.pci_base.specs.WindowKinds.{kind_value};
-ghost use Rattle.pci_settle.specs.Own.{asked_item_value};
-ghost use Rattle.pci_settle.specs.Placings.{at_places};
-ghost use Rattle.pci_settle.specs.PlaceTables.{IsItemPart};
+ghost use Rattle.pci_first_fit.specs.Own.{asked_item_value};
+ghost use Rattle.pci_first_fit.specs.Placings.{at_places};
+ghost use Rattle.pci_first_fit.specs.PlaceTables.{IsItemPart};
 ghost use Rattle.pci_grow.specs.Putting.{ArePutOver, HasItemPart};
 
 use pci_base::window_kind::WindowKind;
-use pci_settle::item::Item;
-use pci_settle::place::{Places, put};
+use pci_first_fit::item::Item;
+use pci_first_fit::place::{Places, put};
 
 /// Puts the places of items of a class into a table. What is listed first counts, so it is put last.
 pub fn put_all(table: &mut [Places], class: WindowKind, items: &[Item], places: &[u64])

@@ -2,23 +2,23 @@
 ghost use Rattle.std.specs.Prelude.{◌≡◌, ◌⊎◌, None, Some, IsTrue, IsFalse, IfSome, IfOk};
 ghost use Rattle.std.specs.List.{All};
 ghost use Rattle.pci_place.specs.Above.{system_in};
-ghost use Rattle.pci_settle.specs.Slots.{demand_value};
+ghost use Rattle.pci_first_fit.specs.Slots.{demand_value};
 ghost use Rattle.pci_kept.specs.Known.{asked_by};
 ghost use Rattle.pci_grow.specs.Reaching.{reaching_value, IsReaching, tells_whole, TellsWhole};
 
 use crate::beside::standing_in_rows;
 use crate::reach::{Board, find_reaches};
 use pci_base::memory::OutOfMemory;
+use pci_first_fit::kept::Kept;
+use pci_first_fit::lines::{Line, lines};
+use pci_first_fit::list::Lists;
+use pci_first_fit::table::{WindowRanges, nothing_told};
 use pci_kept::collect::regions;
 use pci_kept::pass::standing;
 use pci_kept::place::bridges_over;
 use pci_kept::region::Region;
 use pci_kept::rules::Rules;
 use pci_kept::windows::{TooLarge, is_whole_range};
-use pci_settle::kept::Kept;
-use pci_settle::lines::{Line, lines};
-use pci_settle::list::Lists;
-use pci_settle::table::{WindowRanges, nothing_told};
 use pci_tree::admitted::Admitted;
 use std::alloc::Allocator;
 

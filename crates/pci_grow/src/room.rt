@@ -8,12 +8,12 @@ ghost use Rattle.settle_spec.specs.Parts.{lies_within};
 ghost use Rattle.settle_spec.specs.Reach.{clear_of, no_higher, ranges_for};
 ghost use Rattle.pci_base.specs.Ranges.{decoded_range_of};
 ghost use Rattle.pci_base.specs.WindowKinds.{kind_value};
-ghost use Rattle.pci_settle.specs.Lists.{lists_value};
+ghost use Rattle.pci_first_fit.specs.Lists.{lists_value};
 ghost use Rattle.pci_grow.specs.Rooms.{had_ranges, find_in_either, first_behind, last_before, IsNearestBelow, IsNearestAbove};
 
 use pci_base::range::{Range, RootRange};
 use pci_base::window_kind::WindowKind;
-use pci_settle::list::{Lists, has_range};
+use pci_first_fit::list::{Lists, has_range};
 
 /// The first range of a list that a root has and that holds another range.
 fn range_with(list: &[RootRange], bus: u8, range: Range) -> Option<Range>

@@ -3,7 +3,7 @@ ghost use Rattle.std.specs.Prelude.{◌≡◌, ◌+◌, ◌<◌, ◌^◌, min, m
 ghost use Rattle.std.specs.List.{All};
 ghost use Rattle.std.specs.List.Sorted.{IsNonDecreasingBy};
 ghost use Rattle.pci_base.specs.WindowKinds.{kind_value};
-ghost use Rattle.pci_settle.specs.Turns.{HasExtent};
+ghost use Rattle.pci_first_fit.specs.Turns.{HasExtent};
 ghost use Rattle.pci_grow.specs.Arounds.{AreEndingAll};
 ghost use Rattle.pci_grow.specs.Rows.{row_of};
 ghost use Rattle.pci_grow.specs.There.{tables_of, grown_of, range_told, class_told, there_of, there_of_class, in_row, holding, placed_ranges, is_past, later_of};
@@ -12,12 +12,12 @@ use crate::beside::first_from;
 use pci_base::memory::OutOfMemory;
 use pci_base::range::Range;
 use pci_base::window_kind::WindowKind;
+use pci_first_fit::bus::kept_by;
+use pci_first_fit::item::Item;
+use pci_first_fit::kept::{Kept, Part};
+use pci_first_fit::place::Places;
+use pci_first_fit::table::{WindowRanges, told_of};
 use pci_kept::region::Region;
-use pci_settle::bus::kept_by;
-use pci_settle::item::Item;
-use pci_settle::kept::{Kept, Part};
-use pci_settle::place::Places;
-use pci_settle::table::{WindowRanges, told_of};
 use std::alloc::Allocator;
 
 /// What is there, by function in slot order.

@@ -20,15 +20,15 @@ use Rattle.pci_function.specs.declared.record.Record.{Record}
 use Rattle.pci_function.specs.Values.{record_value}
 use Rattle.pci_tree.specs.Admission.{Admission, IsAdmitted}
 use Rattle.pci_place.specs.Above.{system_in}
-use Rattle.pci_settle.specs.declared.extent.Extent.{Extent}
-use Rattle.pci_settle.specs.declared.kept.Kept.{Kept}
-use Rattle.pci_settle.specs.declared.over.OpenWindows.{OpenWindows}
-use Rattle.pci_settle.specs.declared.own.Terms.{Terms}
-use Rattle.pci_settle.specs.Spots.{IsExtent}
-use Rattle.pci_settle.specs.Slots.{Demand, demand_in_io}
-use Rattle.pci_settle.specs.Over.{AreOpenOver}
-use Rattle.pci_settle.specs.Own.{AreTerms}
-use Rattle.pci_settle.specs.Buses.{AreWindows, Classing, classing_of, TellsClasses}
+use Rattle.pci_first_fit.specs.declared.extent.Extent.{Extent}
+use Rattle.pci_first_fit.specs.declared.kept.Kept.{Kept}
+use Rattle.pci_first_fit.specs.declared.over.OpenWindows.{OpenWindows}
+use Rattle.pci_first_fit.specs.declared.own.Terms.{Terms}
+use Rattle.pci_first_fit.specs.Spots.{IsExtent}
+use Rattle.pci_first_fit.specs.Slots.{Demand, demand_in_io}
+use Rattle.pci_first_fit.specs.Over.{AreOpenOver}
+use Rattle.pci_first_fit.specs.Own.{AreTerms}
+use Rattle.pci_first_fit.specs.Buses.{AreWindows, Classing, classing_of, TellsClasses}
 use Rattle.pci_kept.specs.declared.rules.Rules.{Rules}
 use Rattle.pci_kept.specs.Boards.{IsTree}
 use Rattle.pci_kept.specs.Known.{asked_by}

@@ -29,13 +29,13 @@ use Rattle.pci_tree.proofs.Lifting.{same_bridge}
 use Rattle.pci_tree.proofs.RegionParts.{same_bridge_of}
 use Rattle.pci_place.specs.Items.{function_in, no_function}
 use Rattle.pci_place.proofs.Records.{FunctionAt, function_at, same_count}
-use Rattle.pci_settle.specs.declared.extent.Extent.{Extent}
-use Rattle.pci_settle.specs.declared.item.Item.{Item}
-use Rattle.pci_settle.specs.declared.item.Part.{Part as CodePart}
-use Rattle.pci_settle.specs.declared.item.Part.TheVariants as parts
-use Rattle.pci_settle.specs.declared.lines.Line.{Line}
-use Rattle.pci_settle.specs.Lines.{row_of, told_row, rows_from, AreLines, AreAdded}
-use Rattle.pci_settle.specs.Own.{asked_item_value}
+use Rattle.pci_first_fit.specs.declared.extent.Extent.{Extent}
+use Rattle.pci_first_fit.specs.declared.item.Item.{Item}
+use Rattle.pci_first_fit.specs.declared.item.Part.{Part as CodePart}
+use Rattle.pci_first_fit.specs.declared.item.Part.TheVariants as parts
+use Rattle.pci_first_fit.specs.declared.lines.Line.{Line}
+use Rattle.pci_first_fit.specs.Lines.{row_of, told_row, rows_from, AreLines, AreAdded}
+use Rattle.pci_first_fit.specs.Own.{asked_item_value}
 use Rattle.pci_kept.specs.Behind.{AreAddedBehind, AreBehindTo}
 
 -- ---- where no line is told of

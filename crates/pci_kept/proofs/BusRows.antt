@@ -12,10 +12,10 @@ use Rattle.settle_spec.specs.Lists.{Request}
 use Rattle.settle_spec.specs.Lines.{lines_on}
 use Rattle.pci_base.specs.declared.range.Range.{Range}
 use Rattle.pci_base.specs.Ranges.{decoded_range_of}
-use Rattle.pci_settle.specs.declared.kept.Kept.{Kept}
-use Rattle.pci_settle.specs.declared.lines.Line.{Line}
-use Rattle.pci_settle.specs.Lines.{level_of, AreForwardRanges, AreLines, AreAdded}
-use Rattle.pci_settle.specs.Spots.{FirstsRise, AreRisingRanges}
+use Rattle.pci_first_fit.specs.declared.kept.Kept.{Kept}
+use Rattle.pci_first_fit.specs.declared.lines.Line.{Line}
+use Rattle.pci_first_fit.specs.Lines.{level_of, AreForwardRanges, AreLines, AreAdded}
+use Rattle.pci_first_fit.specs.Spots.{FirstsRise, AreRisingRanges}
 use Rattle.pci_kept.specs.declared.region.Region.{Region}
 use Rattle.pci_kept.specs.Passing.{CanBeNoted}
 use Rattle.pci_kept.specs.Rooms.{region_range, is_taken, is_taken_on, AreTakenOn}

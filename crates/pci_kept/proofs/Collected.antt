@@ -34,14 +34,14 @@ use Rattle.pci_place.specs.Above.{IsAbove, AreAboves}
 use Rattle.pci_place.specs.Items.{no_function, function_in}
 use Rattle.pci_place.specs.Records.{IsRecordOf}
 use Rattle.pci_place.proofs.Records.{FunctionAt, same_count, function_at}
-use Rattle.pci_settle.specs.declared.over.OpenWindows.{OpenWindows}
-use Rattle.pci_settle.specs.declared.over.Over.{Over}
-use Rattle.pci_settle.specs.declared.own.Terms.{Terms}
-use Rattle.pci_settle.specs.Slots.{demand_of}
-use Rattle.pci_settle.specs.Over.{no_windows, AreClassWindows, AreOpenOver, IsOverBus}
-use Rattle.pci_settle.specs.Own.{AreTerms, is_left_bar}
+use Rattle.pci_first_fit.specs.declared.over.OpenWindows.{OpenWindows}
+use Rattle.pci_first_fit.specs.declared.over.Over.{Over}
+use Rattle.pci_first_fit.specs.declared.own.Terms.{Terms}
+use Rattle.pci_first_fit.specs.Slots.{demand_of}
+use Rattle.pci_first_fit.specs.Over.{no_windows, AreClassWindows, AreOpenOver, IsOverBus}
+use Rattle.pci_first_fit.specs.Own.{AreTerms, is_left_bar}
 use Rattle.pci_kept.specs.declared.region.Owner.{Owner}
-use Rattle.pci_settle.specs.declared.kept.Part.TheVariants as parts
+use Rattle.pci_first_fit.specs.declared.kept.Part.TheVariants as parts
 use Rattle.pci_kept.specs.declared.region.Region.{Region as CodeRegion}
 use Rattle.pci_kept.specs.Regions.{owned_region, owned_bar_region, owned_bar_regions, owned_window_regions, owned_bridge_regions, owned_rom_region, owned_rom_regions, record_regions}
 use Rattle.pci_kept.specs.Known.{known, known_of, HasAddress, AreParts}

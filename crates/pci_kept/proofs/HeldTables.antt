@@ -20,9 +20,9 @@ use Rattle.pci_function.specs.declared.record.Record.{Record}
 use Rattle.pci_function.specs.Values.{record_value}
 use Rattle.pci_place.specs.Records.{IsRecordOf}
 use Rattle.pci_place.proofs.Records.{same_count, function_at}
-use Rattle.pci_settle.specs.declared.kept.Kept.{Kept}
-use Rattle.pci_settle.specs.Kept.{kept_of, nothing_kept, AreKeptParts}
-use Rattle.pci_settle.proofs.NewWindows.{comes_later}
+use Rattle.pci_first_fit.specs.declared.kept.Kept.{Kept}
+use Rattle.pci_first_fit.specs.Kept.{kept_of, nothing_kept, AreKeptParts}
+use Rattle.pci_first_fit.proofs.NewWindows.{comes_later}
 use Rattle.pci_kept.specs.Boards.{AreOpen}
 use Rattle.pci_kept.specs.Passing.{AreStanding}
 use Rattle.pci_kept.specs.Tables.{stands_in}

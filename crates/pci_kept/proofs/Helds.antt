@@ -28,16 +28,16 @@ use Rattle.pci_base.specs.Ranges.{decoded_range_of}
 use Rattle.pci_base.specs.Space as code
 use Rattle.pci_base.specs.declared.space.Space.TheVariants as spaces
 use Rattle.pci_place.specs.Items.{function_in, no_function}
-use Rattle.pci_settle.specs.declared.kept.Kept.{Kept}
-use Rattle.pci_settle.specs.declared.kept.Part.{Part as CodePart}
-use Rattle.pci_settle.specs.declared.kept.Part.TheVariants as parts
-use Rattle.pci_settle.specs.Slots.{Demand}
-use Rattle.pci_settle.specs.Kept.{spec_part, AreKeptParts}
-use Rattle.pci_settle.specs.Tables.{AreForward}
-use Rattle.pci_settle.specs.Keeping.{grown_of, AreKeptRanges}
-use Rattle.pci_settle.specs.Spots.{FirstsRise, AreRisingRanges}
-use Rattle.pci_settle.proofs.Headers.{header_has}
-use Rattle.pci_settle.proofs.Tables.{none_noted}
+use Rattle.pci_first_fit.specs.declared.kept.Kept.{Kept}
+use Rattle.pci_first_fit.specs.declared.kept.Part.{Part as CodePart}
+use Rattle.pci_first_fit.specs.declared.kept.Part.TheVariants as parts
+use Rattle.pci_first_fit.specs.Slots.{Demand}
+use Rattle.pci_first_fit.specs.Kept.{spec_part, AreKeptParts}
+use Rattle.pci_first_fit.specs.Tables.{AreForward}
+use Rattle.pci_first_fit.specs.Keeping.{grown_of, AreKeptRanges}
+use Rattle.pci_first_fit.specs.Spots.{FirstsRise, AreRisingRanges}
+use Rattle.pci_first_fit.proofs.Headers.{header_has}
+use Rattle.pci_first_fit.proofs.Tables.{none_noted}
 use Rattle.pci_kept.specs.declared.region.Region.{Region as CodeRegion}
 use Rattle.pci_kept.specs.Known.{Known, asked, known, known_of, region_value, AreParts}
 use Rattle.pci_kept.proofs.Passing.{levels_one, spaces_one, one_space}

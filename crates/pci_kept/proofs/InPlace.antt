@@ -26,10 +26,10 @@ use Rattle.pci_tree.proofs.Lifting.{record_for, same_bridge, same_secondary}
 use Rattle.pci_tree.proofs.Ways.{bridge_at, no_bridge, some_bridge}
 use Rattle.pci_place.proofs.Records.{FunctionAt, function_at}
 use Rattle.pci_kept.specs.declared.region.Region.{Region as CodeRegion}
-use Rattle.pci_settle.specs.declared.kept.Kept.{Kept}
-use Rattle.pci_settle.specs.Kept.{kept_of, nothing_kept}
+use Rattle.pci_first_fit.specs.declared.kept.Kept.{Kept}
+use Rattle.pci_first_fit.specs.Kept.{kept_of, nothing_kept}
 use Rattle.pci_kept.specs.Tables.{stands_in}
-use Rattle.pci_settle.specs.Over.{range_holds}
+use Rattle.pci_first_fit.specs.Over.{range_holds}
 use Rattle.pci_kept.specs.Places.{held_in, is_in_windows}
 use Rattle.pci_kept.specs.Known.{Known, region_value}
 use Rattle.pci_kept.specs.Boards.{IsBoard, IsKnown, AreOpen}

@@ -24,9 +24,9 @@ use Rattle.pci_tree.specs.Passes.{range_in}
 use Rattle.pci_tree.specs.Ways.{IsBridgeToBus}
 use Rattle.pci_tree.proofs.Lifting.{same_bridge}
 use Rattle.pci_place.proofs.Records.{FunctionAt}
-use Rattle.pci_settle.specs.declared.kept.Kept.{Kept}
-use Rattle.pci_settle.specs.Kept.{kept_of}
-use Rattle.pci_settle.specs.Over.{range_holds}
+use Rattle.pci_first_fit.specs.declared.kept.Kept.{Kept}
+use Rattle.pci_first_fit.specs.Kept.{kept_of}
+use Rattle.pci_first_fit.specs.Over.{range_holds}
 use Rattle.pci_kept.specs.declared.told_line.ToldLine.{ToldLine}
 use Rattle.pci_kept.specs.Boards.{IsTree}
 use Rattle.pci_kept.specs.Passing.{AreStanding}

@@ -10,8 +10,8 @@ use Rattle.pci_spec.specs.Window.{WindowKind, IoWindow, MemoryWindow, PrefetchWi
 use Rattle.pci_spec.specs.System.{System, Function, Part, Bar, Rom, Window, IsSystem}
 use Rattle.plan_spec.proofs.Planning.AllItems.{slots_rise}
 use Rattle.settle_spec.specs.Parts.{FunctionPart}
-use Rattle.pci_settle.specs.declared.kept.Kept.{Kept}
-use Rattle.pci_settle.specs.Kept.{kept_of, nothing_kept}
+use Rattle.pci_first_fit.specs.declared.kept.Kept.{Kept}
+use Rattle.pci_first_fit.specs.Kept.{kept_of, nothing_kept}
 use Rattle.pci_kept.specs.Tables.{index_of, stands_in}
 
 -- ---- parts are one or two

@@ -9,7 +9,7 @@ use Rattle.settle_spec.specs.Lists.{Request}
 use Rattle.settle_spec.specs.Stands.{leads_to_one_on, leads_to_told}
 use Rattle.pci_base.specs.declared.space.Space.TheVariants as spaces
 use Rattle.pci_base.specs.declared.window_kind.WindowKind.TheVariants as kinds
-use Rattle.pci_settle.specs.declared.kept.Part.TheVariants as parts
+use Rattle.pci_first_fit.specs.declared.kept.Part.TheVariants as parts
 use Rattle.pci_kept.specs.declared.region.Region.{Region}
 use Rattle.pci_kept.specs.Known.{region_value, known, HasAddress, AreParts}
 use Rattle.pci_kept.specs.Leads.{noted, IsLeading, AreKnownParts}

@@ -34,11 +34,11 @@ use Rattle.settle_spec.specs.Stands.{window_part}
 use Rattle.settle_spec.specs.Items.{Item as ItemValue, Placing, AllPlaced, Lacks, and_placed, place_next, place_each, taken_by, has_of, bus_items, new_window, are_placed}
 use Rattle.settle_spec.proofs.FirstSpot.{least_spot, spot_gives}
 use Rattle.settle_spec.proofs.NewWindows.{window_is_around}
-use Rattle.pci_settle.specs.declared.extent.Extent.{Extent}
-use Rattle.pci_settle.specs.Spots.{extent_value}
-use Rattle.pci_settle.specs.Buses.{AreBehind, Classing, TellsClasses}
-use Rattle.pci_settle.specs.NewWindows.{nowhere, IsTooLarge, AreNewWindows, AreMarkedWindows, HasMarkedWindows, told_extent}
-use Rattle.pci_settle.proofs.Marked.{told_is, told_fits, same_or_large, some_page}
+use Rattle.pci_first_fit.specs.declared.extent.Extent.{Extent}
+use Rattle.pci_first_fit.specs.Spots.{extent_value}
+use Rattle.pci_first_fit.specs.Buses.{AreBehind, Classing, TellsClasses}
+use Rattle.pci_first_fit.specs.NewWindows.{nowhere, IsTooLarge, AreNewWindows, AreMarkedWindows, HasMarkedWindows, told_extent}
+use Rattle.pci_first_fit.proofs.Marked.{told_is, told_fits, same_or_large, some_page}
 use Rattle.pci_kept.specs.declared.windows.TooLarge.{TooLarge}
 use Rattle.pci_kept.specs.Windows.{HasAllWindows, HasAllMarked, AreAllNew, first_of, is_whole_range, opens_whole, whole_by, has_whole, HasWhole, IsWhole, HasWholeWindow}
 use Rattle.pci_kept.specs.Rooms.{place_off, HasSameRoom}

@@ -45,16 +45,16 @@ use Rattle.pci_place.proofs.Mapped.{filter-map, kept_same}
 use Rattle.pci_place.proofs.Parts.{bars_in, bars_of, rom_of, rom_there}
 use Rattle.pci_place.proofs.ClassOf.{kind_io}
 use Rattle.pci_place.proofs.Owned.{map_twice, no_rom, lacking_above}
-use Rattle.pci_settle.specs.declared.over.Over.{Over}
-use Rattle.pci_settle.specs.declared.own.Terms.{Terms}
-use Rattle.pci_settle.specs.Slots.{demand_of}
-use Rattle.pci_settle.specs.Own.{AreTerms, is_left_bar, bar_class_of}
-use Rattle.pci_settle.specs.Over.{IsOverBus}
-use Rattle.pci_settle.proofs.OwnItems.{class_by}
+use Rattle.pci_first_fit.specs.declared.over.Over.{Over}
+use Rattle.pci_first_fit.specs.declared.own.Terms.{Terms}
+use Rattle.pci_first_fit.specs.Slots.{demand_of}
+use Rattle.pci_first_fit.specs.Own.{AreTerms, is_left_bar, bar_class_of}
+use Rattle.pci_first_fit.specs.Over.{IsOverBus}
+use Rattle.pci_first_fit.proofs.OwnItems.{class_by}
 use Rattle.pci_kept.specs.declared.region.Owner.{Owner}
-use Rattle.pci_settle.specs.declared.kept.Part.{Part as CodePart}
-use Rattle.pci_settle.specs.declared.kept.Part.TheVariants as parts
-use Rattle.pci_settle.specs.Kept.{spec_part}
+use Rattle.pci_first_fit.specs.declared.kept.Part.{Part as CodePart}
+use Rattle.pci_first_fit.specs.declared.kept.Part.TheVariants as parts
+use Rattle.pci_first_fit.specs.Kept.{spec_part}
 use Rattle.pci_kept.specs.Regions.{owned_region, kind_of, bar_space, owned_bar_region, owned_bar_regions, owned_window_regions, owned_bridge_regions, owned_rom_region, owned_rom_regions, record_regions}
 use Rattle.pci_kept.specs.Known.{Known, known, known_of}
 

@@ -27,10 +27,10 @@ use Rattle.pci_tree.proofs.RegionParts.{same_bridge_of}
 use Rattle.pci_place.specs.Above.{system_in}
 use Rattle.pci_place.specs.Records.{IsRecordOf}
 use Rattle.pci_place.proofs.Records.{lent, same_count}
-use Rattle.pci_settle.specs.declared.over.OpenWindows.{OpenWindows}
-use Rattle.pci_settle.specs.Slots.{Demand}
-use Rattle.pci_settle.specs.Over.{open_range, class_window, no_windows, AreClassWindows, AreOpenOver}
-use Rattle.pci_settle.proofs.Anew.{over_anew}
+use Rattle.pci_first_fit.specs.declared.over.OpenWindows.{OpenWindows}
+use Rattle.pci_first_fit.specs.Slots.{Demand}
+use Rattle.pci_first_fit.specs.Over.{open_range, class_window, no_windows, AreClassWindows, AreOpenOver}
+use Rattle.pci_first_fit.proofs.Anew.{over_anew}
 use Rattle.pci_kept.specs.declared.rules.Rules.{Rules}
 use Rattle.pci_kept.specs.Boards.{IsTree}
 use Rattle.pci_kept.specs.Known.{asked_by}

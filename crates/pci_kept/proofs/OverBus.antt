@@ -18,7 +18,7 @@ use Rattle.pci_tree.specs.Ways.{IsBridgeToBus, IsBridgeIn, LeadsAt, bus_behind}
 use Rattle.pci_tree.proofs.Lifting.{record_for, same_bridge, same_secondary}
 use Rattle.pci_tree.proofs.Ways.{bridge_at, no_bridge, some_bridge}
 use Rattle.pci_place.proofs.Records.{FunctionAt, function_at}
-use Rattle.pci_settle.specs.Over.{range_holds}
+use Rattle.pci_first_fit.specs.Over.{range_holds}
 use Rattle.pci_kept.specs.Boards.{IsTree}
 use Rattle.pci_kept.proofs.OfRecord.{window_is}
 

@@ -10,8 +10,8 @@ use Rattle.pci_spec.proofs.Members.{in_map_to, in_map_from, IsMade, in_filter_to
 use Rattle.settle_spec.specs.Lists.{Request}
 use Rattle.settle_spec.specs.Stands.{stands}
 use Rattle.pci_place.specs.Items.{function_in, no_function}
-use Rattle.pci_settle.specs.declared.kept.Kept.{Kept}
-use Rattle.pci_settle.specs.Kept.{spec_part, nothing_kept}
+use Rattle.pci_first_fit.specs.declared.kept.Kept.{Kept}
+use Rattle.pci_first_fit.specs.Kept.{spec_part, nothing_kept}
 use Rattle.pci_kept.specs.declared.region.Region.{Region as CodeRegion}
 use Rattle.pci_kept.specs.declared.rows.Row.{Row}
 use Rattle.pci_kept.specs.Boards.{IsKnown}

@@ -22,7 +22,7 @@ use Rattle.settle_laws.proofs.Passes.{free_of_taken, told_more}
 use Rattle.pci_base.specs.Ranges.{decoded_range_of}
 use Rattle.pci_base.specs.declared.range.Range.{Range}
 use Rattle.pci_kept.specs.declared.region.Region.{Region as CodeRegion}
-use Rattle.pci_settle.specs.declared.kept.Kept.{Kept}
+use Rattle.pci_first_fit.specs.declared.kept.Kept.{Kept}
 use Rattle.pci_kept.specs.Known.{Known, region_value}
 use Rattle.pci_kept.specs.Boards.{IsKnownPart}
 use Rattle.pci_kept.specs.Tables.{stands_in}

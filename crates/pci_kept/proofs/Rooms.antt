@@ -31,17 +31,17 @@ use Rattle.pci_function.specs.Values.{record_value}
 use Rattle.pci_place.specs.Items.{no_function}
 use Rattle.pci_place.proofs.Mapped.{kept_same}
 use Rattle.pci_place.proofs.Owned.{map_twice}
-use Rattle.pci_settle.specs.declared.item.Item.{Item}
-use Rattle.pci_settle.specs.declared.kept.Kept.{Kept}
-use Rattle.pci_settle.specs.declared.lines.Line.{Line}
-use Rattle.pci_settle.specs.declared.placing.Wanted.{Wanted}
-use Rattle.pci_settle.specs.Kept.{spec_part, AreKeptParts}
-use Rattle.pci_settle.specs.Own.{asked_item_value}
-use Rattle.pci_settle.specs.Buses.{Listing, AreInTurn}
-use Rattle.pci_settle.specs.Placings.{HasListAt, IsWanted, AreWanted, placing_of, lacks_first}
-use Rattle.pci_settle.specs.Turns.{HasExtent}
-use Rattle.pci_settle.proofs.AllPlaced.{each_same_taken, wanted_same}
-use Rattle.pci_settle.proofs.Headers.{filter_same, header_has}
+use Rattle.pci_first_fit.specs.declared.item.Item.{Item}
+use Rattle.pci_first_fit.specs.declared.kept.Kept.{Kept}
+use Rattle.pci_first_fit.specs.declared.lines.Line.{Line}
+use Rattle.pci_first_fit.specs.declared.placing.Wanted.{Wanted}
+use Rattle.pci_first_fit.specs.Kept.{spec_part, AreKeptParts}
+use Rattle.pci_first_fit.specs.Own.{asked_item_value}
+use Rattle.pci_first_fit.specs.Buses.{Listing, AreInTurn}
+use Rattle.pci_first_fit.specs.Placings.{HasListAt, IsWanted, AreWanted, placing_of, lacks_first}
+use Rattle.pci_first_fit.specs.Turns.{HasExtent}
+use Rattle.pci_first_fit.proofs.AllPlaced.{each_same_taken, wanted_same}
+use Rattle.pci_first_fit.proofs.Headers.{filter_same, header_has}
 use Rattle.pci_kept.specs.declared.region.Region.{Region as CodeRegion}
 use Rattle.pci_kept.specs.Known.{Known, known, known_of, region_value, AreParts}
 use Rattle.pci_kept.proofs.Whole.{known_sorted}

@@ -26,8 +26,8 @@ use Rattle.settle_laws.proofs.Standing.{part_of, stands_by_itself}
 use Rattle.settle_laws.proofs.GrowingKept.{over_first}
 use Rattle.settle_laws.proofs.Holding.{holds_by_bus}
 use Rattle.pci_place.specs.Items.{no_function}
-use Rattle.pci_settle.specs.declared.kept.Kept.{Kept}
-use Rattle.pci_settle.specs.Kept.{kept_of, nothing_kept}
+use Rattle.pci_first_fit.specs.declared.kept.Kept.{Kept}
+use Rattle.pci_first_fit.specs.Kept.{kept_of, nothing_kept}
 use Rattle.pci_kept.specs.declared.region.Region.{Region as CodeRegion}
 use Rattle.pci_kept.specs.Boards.{IsKnown}
 use Rattle.pci_kept.specs.Known.{Known, region_value, AreParts}

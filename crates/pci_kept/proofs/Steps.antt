@@ -12,9 +12,9 @@ use Rattle.pci_base.specs.Space as code
 use Rattle.pci_base.specs.declared.range.Range.{Range}
 use Rattle.pci_place.specs.Items.{function_in, no_function}
 use Rattle.pci_kept.specs.declared.region.Region.{Region as CodeRegion}
-use Rattle.pci_settle.specs.declared.kept.Kept.{Kept}
+use Rattle.pci_first_fit.specs.declared.kept.Kept.{Kept}
 use Rattle.pci_kept.specs.Known.{Known, region_value}
-use Rattle.pci_settle.specs.Kept.{spec_part, kept_of, nothing_kept}
+use Rattle.pci_first_fit.specs.Kept.{spec_part, kept_of, nothing_kept}
 use Rattle.pci_kept.specs.Tables.{stands_in}
 use Rattle.pci_kept.specs.Taken.{is_free, IsWithTaken, in_space, in_other, taken_with, IsGoneTo}
 use Rattle.pci_kept.specs.Passing.{AreOrdered, AreFirstPassed}

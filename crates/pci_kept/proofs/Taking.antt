@@ -11,7 +11,7 @@ use Rattle.pci_spec.proofs.BusRanges.{all_from}
 use Rattle.settle_spec.specs.FirstPlace.{ranges_are_apart}
 use Rattle.pci_base.specs.declared.range.Range.{Range}
 use Rattle.pci_base.specs.Ranges.{decoded_range_of}
-use Rattle.pci_settle.proofs.Inserted.{Under, At, Over, find_where}
+use Rattle.pci_first_fit.proofs.Inserted.{Under, At, Over, find_where}
 use Rattle.pci_kept.specs.Taken.{AreApartInOrder, is_free, IsGap}
 
 last_rises : (rs : List Range) → AreApartInOrder rs → IsNonDecreasingBy (λ r. r.last) rs

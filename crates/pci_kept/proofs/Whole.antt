@@ -25,15 +25,15 @@ use Rattle.settle_laws.proofs.Standing.{part_of, stands_by_itself}
 use Rattle.settle_laws.proofs.Passes.{told_none, told_all}
 use Rattle.pci_base.specs.declared.range.Range.{Range}
 use Rattle.pci_place.proofs.Owned.{map_twice}
-use Rattle.pci_settle.specs.declared.kept.Part.{Part as CodePart}
-use Rattle.pci_settle.specs.declared.kept.Part.TheVariants as parts
+use Rattle.pci_first_fit.specs.declared.kept.Part.{Part as CodePart}
+use Rattle.pci_first_fit.specs.declared.kept.Part.TheVariants as parts
 use Rattle.pci_kept.specs.declared.region.Region.{Region as CodeRegion}
-use Rattle.pci_settle.specs.declared.kept.Kept.{Kept}
+use Rattle.pci_first_fit.specs.declared.kept.Kept.{Kept}
 use Rattle.pci_kept.specs.Known.{Known, region_value, known, known_of, HasAddress, AreParts}
 use Rattle.pci_kept.specs.Boards.{IsKnown, IsKnownPart, AreOpen}
 use Rattle.pci_kept.specs.Leads.{IsLeading}
 use Rattle.pci_kept.specs.Order.{span_of, turn_number, turn_of, IsPartInTurn}
-use Rattle.pci_settle.specs.Kept.{IsCodePart, spec_part, kept_of, nothing_kept, AreNone}
+use Rattle.pci_first_fit.specs.Kept.{IsCodePart, spec_part, kept_of, nothing_kept, AreNone}
 use Rattle.pci_kept.specs.Tables.{index_of, stands_in}
 use Rattle.pci_kept.specs.Taken.{taken_with}
 use Rattle.pci_kept.specs.Passing.{CanBeNoted, AreOrdered, AreTakenOn, AreFirstPassed, AreStanding}

@@ -11,10 +11,10 @@ use Rattle.pci_base.specs.declared.range.Range.{Range}
 use Rattle.pci_base.specs.Ranges.{decoded_range_of}
 use Rattle.pci_function.specs.declared.record.Record.{Record}
 use Rattle.pci_function.specs.Values.{record_value}
-use Rattle.pci_settle.specs.declared.item.Item.{Item}
-use Rattle.pci_settle.specs.declared.lines.Line.{Line}
-use Rattle.pci_settle.specs.Lines.{AreLines, AreAdded}
-use Rattle.pci_settle.specs.Own.{asked_item_value}
+use Rattle.pci_first_fit.specs.declared.item.Item.{Item}
+use Rattle.pci_first_fit.specs.declared.lines.Line.{Line}
+use Rattle.pci_first_fit.specs.Lines.{AreLines, AreAdded}
+use Rattle.pci_first_fit.specs.Own.{asked_item_value}
 
 -- an item is a part that its function has
 abbrev pub IsPartIn : System → WindowKind → Item → Type 0

@@ -12,7 +12,7 @@ use Rattle.settle_spec.specs.Stands.{window_part}
 use Rattle.pci_function.specs.declared.record.Record.{Record}
 use Rattle.pci_function.specs.Values.{record_value}
 use Rattle.pci_kept.specs.declared.region.Region.{Region}
-use Rattle.pci_settle.specs.declared.kept.Kept.{Kept}
+use Rattle.pci_first_fit.specs.declared.kept.Kept.{Kept}
 use Rattle.pci_kept.specs.Known.{region_value, known, known_of, HasAddress}
 use Rattle.pci_kept.specs.Leads.{IsLeading}
 use Rattle.pci_kept.specs.Tables.{stands_in}

@@ -12,12 +12,12 @@ use Rattle.pci_base.specs.declared.range.Range.{Range}
 use Rattle.pci_base.specs.Ranges.{decoded_range_of}
 use Rattle.pci_base.specs.Space as code
 use Rattle.pci_base.specs.declared.window_kind.ByKind.{ByKind}
-use Rattle.pci_settle.specs.declared.kept.Kept.{Kept}
-use Rattle.pci_settle.specs.declared.kept.Part.{Part}
-use Rattle.pci_settle.specs.declared.kept.Part.TheVariants as parts
-use Rattle.pci_settle.specs.Kept.{spec_part, kept_of, nothing_kept, AreKeptParts}
-use Rattle.pci_settle.specs.Tables.{told}
-use Rattle.pci_settle.specs.Keeping.{AreKeptRanges}
+use Rattle.pci_first_fit.specs.declared.kept.Kept.{Kept}
+use Rattle.pci_first_fit.specs.declared.kept.Part.{Part}
+use Rattle.pci_first_fit.specs.declared.kept.Part.TheVariants as parts
+use Rattle.pci_first_fit.specs.Kept.{spec_part, kept_of, nothing_kept, AreKeptParts}
+use Rattle.pci_first_fit.specs.Tables.{told}
+use Rattle.pci_first_fit.specs.Keeping.{AreKeptRanges}
 use Rattle.pci_kept.specs.declared.region.Region.{Region as CodeRegion}
 use Rattle.pci_kept.specs.declared.held.Held.{Held}
 

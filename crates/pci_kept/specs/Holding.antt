@@ -13,13 +13,13 @@ use Rattle.settle_spec.specs.Items.{has_places, has_room, has_room_behind}
 use Rattle.pci_base.specs.declared.window_kind.WindowKind.{WindowKind as CodeKind}
 use Rattle.pci_base.specs.declared.window_kind.ByKind.{ByKind}
 use Rattle.pci_base.specs.WindowKinds.{kind_value, by_kind}
-use Rattle.pci_settle.specs.declared.extent.Extent.{Extent}
-use Rattle.pci_settle.specs.declared.kept.Kept.{Kept}
-use Rattle.pci_settle.specs.declared.lines.Line.{Line}
-use Rattle.pci_settle.specs.Kept.{kept_of, nothing_kept}
-use Rattle.pci_settle.specs.Buses.{Classing, TellsClasses}
-use Rattle.pci_settle.specs.Lines.{AreLines}
-use Rattle.pci_settle.specs.NewWindows.{HasNewWindows, HasMarkedWindows}
+use Rattle.pci_first_fit.specs.declared.extent.Extent.{Extent}
+use Rattle.pci_first_fit.specs.declared.kept.Kept.{Kept}
+use Rattle.pci_first_fit.specs.declared.lines.Line.{Line}
+use Rattle.pci_first_fit.specs.Kept.{kept_of, nothing_kept}
+use Rattle.pci_first_fit.specs.Buses.{Classing, TellsClasses}
+use Rattle.pci_first_fit.specs.Lines.{AreLines}
+use Rattle.pci_first_fit.specs.NewWindows.{HasNewWindows, HasMarkedWindows}
 use Rattle.pci_kept.specs.declared.region.Region.{Region as CodeRegion}
 use Rattle.pci_kept.specs.Boards.{AreOpen}
 use Rattle.pci_kept.specs.Known.{AreParts}

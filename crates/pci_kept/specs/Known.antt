@@ -15,8 +15,8 @@ use Rattle.pci_base.specs.WindowKinds.{kind_value}
 use Rattle.pci_place.specs.Items.{function_in}
 use Rattle.pci_kept.specs.declared.region.Region.{Region as CodeRegion}
 use Rattle.pci_kept.specs.declared.rules.Rules.{Rules}
-use Rattle.pci_settle.specs.Kept.{spec_part}
-use Rattle.pci_settle.specs.Slots.{Demand}
+use Rattle.pci_first_fit.specs.Kept.{spec_part}
+use Rattle.pci_first_fit.specs.Slots.{Demand}
 
 -- what is asked for: functions that may not be written, and whether all is placed anew
 abbrev pub asked : List ℕ → Demand → List Slot → Bool → Request

@@ -10,10 +10,10 @@ use Rattle.settle_laws.specs.Passes.{AreInOrder, AreFirstTold}
 use Rattle.pci_base.specs.Ranges.{decoded_range_of}
 use Rattle.pci_base.specs.declared.range.Range.{Range}
 use Rattle.pci_kept.specs.declared.region.Region.{Region as CodeRegion}
-use Rattle.pci_settle.specs.declared.kept.Kept.{Kept}
+use Rattle.pci_first_fit.specs.declared.kept.Kept.{Kept}
 use Rattle.pci_kept.specs.Known.{region_value, HasAddress}
 use Rattle.pci_kept.specs.Boards.{IsKnownPart, AreOpen}
-use Rattle.pci_settle.specs.Kept.{IsCodePart, kept_of}
+use Rattle.pci_first_fit.specs.Kept.{IsCodePart, kept_of}
 use Rattle.pci_kept.specs.Tables.{stands_in}
 use Rattle.pci_kept.specs.Taken.{Taken}
 

@@ -7,9 +7,9 @@ use Rattle.pci_image.specs.declared.window.Windows.{Windows}
 use Rattle.pci_image.specs.Windows.{window_of}
 use Rattle.pci_tree.specs.Passes.{range_in}
 use Rattle.pci_kept.specs.declared.region.Region.{Region}
-use Rattle.pci_settle.specs.declared.kept.Kept.{Kept}
-use Rattle.pci_settle.specs.Kept.{kept_of}
-use Rattle.pci_settle.specs.Over.{range_holds}
+use Rattle.pci_first_fit.specs.declared.kept.Kept.{Kept}
+use Rattle.pci_first_fit.specs.Kept.{kept_of}
+use Rattle.pci_first_fit.specs.Over.{range_holds}
 use Rattle.pci_spec.specs.System as system
 
 abbrev pub held_in : Windows → WindowKind → Region → Bool

@@ -18,12 +18,12 @@ use Rattle.pci_image.specs.declared.rom.Rom.{Rom}
 use Rattle.pci_function.specs.declared.record.Bridge.{Bridge}
 use Rattle.pci_function.specs.declared.record.Record.{Record}
 use Rattle.pci_tree.specs.Passes.{range_in}
-use Rattle.pci_settle.specs.declared.over.Over.{Over}
-use Rattle.pci_settle.specs.declared.own.Terms.{Terms}
-use Rattle.pci_settle.specs.Own.{is_left_bar, bar_class_of}
+use Rattle.pci_first_fit.specs.declared.over.Over.{Over}
+use Rattle.pci_first_fit.specs.declared.own.Terms.{Terms}
+use Rattle.pci_first_fit.specs.Own.{is_left_bar, bar_class_of}
 use Rattle.pci_kept.specs.declared.region.Owner.{Owner}
-use Rattle.pci_settle.specs.declared.kept.Part.{Part}
-use Rattle.pci_settle.specs.declared.kept.Part.TheVariants as parts
+use Rattle.pci_first_fit.specs.declared.kept.Part.{Part}
+use Rattle.pci_first_fit.specs.declared.kept.Part.TheVariants as parts
 use Rattle.pci_kept.specs.declared.region.Region.{Region}
 
 abbrev pub owned_region : Owner → Part → Space → WindowKind → Range → Region

@@ -15,13 +15,13 @@ use Rattle.settle_spec.specs.Items.{Item as ItemValue, place_each, place_in, are
 use Rattle.pci_base.specs.declared.range.Range.{Range}
 use Rattle.pci_base.specs.Ranges.{decoded_range_of}
 use Rattle.pci_base.specs.Space.{space_of}
-use Rattle.pci_settle.specs.declared.item.Item.{Item}
-use Rattle.pci_settle.specs.declared.kept.Kept.{Kept}
-use Rattle.pci_settle.specs.declared.lines.Line.{Line}
-use Rattle.pci_settle.specs.declared.placing.Wanted.{Wanted}
-use Rattle.pci_settle.specs.Kept.{spec_part, kept_of, nothing_kept}
-use Rattle.pci_settle.specs.Buses.{Listing, IsListingOf}
-use Rattle.pci_settle.specs.Lines.{AreLines}
+use Rattle.pci_first_fit.specs.declared.item.Item.{Item}
+use Rattle.pci_first_fit.specs.declared.kept.Kept.{Kept}
+use Rattle.pci_first_fit.specs.declared.lines.Line.{Line}
+use Rattle.pci_first_fit.specs.declared.placing.Wanted.{Wanted}
+use Rattle.pci_first_fit.specs.Kept.{spec_part, kept_of, nothing_kept}
+use Rattle.pci_first_fit.specs.Buses.{Listing, IsListingOf}
+use Rattle.pci_first_fit.specs.Lines.{AreLines}
 use Rattle.pci_kept.specs.declared.region.Region.{Region as CodeRegion}
 use Rattle.pci_kept.specs.Known.{AreParts}
 

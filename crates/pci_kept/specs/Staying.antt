@@ -11,10 +11,10 @@ use Rattle.settle_spec.specs.Items.{has_room_behind}
 use Rattle.pci_base.specs.declared.memory.Refused.{Refused}
 use Rattle.pci_base.specs.declared.memory.Refused.TheVariants as refused
 use Rattle.pci_base.specs.WindowKinds.{kind_value}
-use Rattle.pci_settle.specs.declared.kept.Kept.{Kept}
-use Rattle.pci_settle.specs.Slots.{Demand, demand_in_io}
-use Rattle.pci_settle.specs.Kept.{kept_of, nothing_kept}
-use Rattle.pci_settle.specs.NewWindows.{IsTooLarge}
+use Rattle.pci_first_fit.specs.declared.kept.Kept.{Kept}
+use Rattle.pci_first_fit.specs.Slots.{Demand, demand_in_io}
+use Rattle.pci_first_fit.specs.Kept.{kept_of, nothing_kept}
+use Rattle.pci_first_fit.specs.NewWindows.{IsTooLarge}
 use Rattle.pci_kept.specs.declared.region.Region.{Region as CodeRegion}
 use Rattle.pci_kept.specs.declared.rules.Rules.{Rules}
 use Rattle.pci_kept.specs.Boards.{AreOpen}

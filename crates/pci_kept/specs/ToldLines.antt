@@ -14,8 +14,8 @@ use Rattle.settle_laws.specs.Order.{level}
 use Rattle.pci_base.specs.Ranges.{decoded_range_of}
 use Rattle.pci_base.specs.Space as code
 use Rattle.pci_base.specs.WindowKinds.{kind_value}
-use Rattle.pci_settle.specs.declared.kept.Part.{Part}
-use Rattle.pci_settle.specs.declared.kept.Part.TheVariants as parts
+use Rattle.pci_first_fit.specs.declared.kept.Part.{Part}
+use Rattle.pci_first_fit.specs.declared.kept.Part.TheVariants as parts
 use Rattle.pci_kept.specs.declared.region.Region.{Region}
 use Rattle.pci_kept.specs.declared.told_line.ToldLine.{ToldLine}
 

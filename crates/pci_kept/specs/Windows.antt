@@ -17,9 +17,9 @@ use Rattle.pci_image.specs.Windows.{window_of}
 use Rattle.pci_function.specs.declared.record.Bridge.{Bridge}
 use Rattle.pci_function.specs.declared.record.Record.{Record}
 use Rattle.pci_tree.specs.Passes.{range_in}
-use Rattle.pci_settle.specs.declared.extent.Extent.{Extent}
-use Rattle.pci_settle.specs.Buses.{AreWindows, Classing, TellsClasses}
-use Rattle.pci_settle.specs.NewWindows.{HasNewWindows, IsTooLarge, AreMarkedWindows}
+use Rattle.pci_first_fit.specs.declared.extent.Extent.{Extent}
+use Rattle.pci_first_fit.specs.Buses.{AreWindows, Classing, TellsClasses}
+use Rattle.pci_first_fit.specs.NewWindows.{HasNewWindows, IsTooLarge, AreMarkedWindows}
 use Rattle.pci_kept.specs.declared.windows.TooLarge.{TooLarge}
 
 -- ---- new windows

@@ -1,16 +1,16 @@
 //! What told ranges hold behind new windows.
 ghost use Rattle.std.specs.Prelude.{IfOk, OnOk, map};
 ghost use Rattle.pci_base.specs.WindowKinds.{kind_value};
-ghost use Rattle.pci_settle.specs.Lines.{AreLineRows};
+ghost use Rattle.pci_first_fit.specs.Lines.{AreLineRows};
 ghost use Rattle.pci_kept.specs.Behind.{AreAddedBehind, AreBehindEach};
 
 use pci_base::memory::OutOfMemory;
 use pci_base::range::Range;
 use pci_base::space::Space;
 use pci_base::window_kind::WindowKind;
+use pci_first_fit::item::{Item, Part};
+use pci_first_fit::lines::{Line, add_lines_behind};
 use pci_function::record::Record;
-use pci_settle::item::{Item, Part};
-use pci_settle::lines::{Line, add_lines_behind};
 use std::alloc::Allocator;
 
 /// Adds what told ranges hold behind an item of a class: nothing where it is no new window.

@@ -6,8 +6,8 @@ ghost use Rattle.pci_spec.specs.System.{Function};
 ghost use Rattle.settle_spec.specs.Lists.{Request};
 ghost use Rattle.pci_base.specs.WindowKinds.{kind_value};
 ghost use Rattle.pci_place.specs.Above.{AreAboves, system_in};
-ghost use Rattle.pci_settle.specs.Buses.{classing_value};
-ghost use Rattle.pci_settle.specs.Lines.{AreLineRows};
+ghost use Rattle.pci_first_fit.specs.Buses.{classing_value};
+ghost use Rattle.pci_first_fit.specs.Lines.{AreLineRows};
 ghost use Rattle.pci_kept.specs.Passing.{CanBeNoted, AreStanding};
 ghost use Rattle.pci_kept.specs.Windows.{AreAllLawful};
 ghost use Rattle.pci_kept.specs.Rooms.{region_bus};
@@ -19,11 +19,11 @@ use crate::taken_on::Takers;
 use pci_base::memory::OutOfMemory;
 use pci_base::slot::BUSES;
 use pci_base::window_kind::{ByKind, WindowKind};
-use pci_settle::extent::Extent;
-use pci_settle::kept::Kept;
-use pci_settle::lines::Line;
-use pci_settle::listing::{Classing, Listing};
-use pci_settle::over::open_range;
+use pci_first_fit::extent::Extent;
+use pci_first_fit::kept::Kept;
+use pci_first_fit::lines::Line;
+use pci_first_fit::listing::{Classing, Listing};
+use pci_first_fit::over::open_range;
 use std::alloc::Allocator;
 
 /// What is behind windows.

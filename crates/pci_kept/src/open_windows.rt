@@ -2,13 +2,13 @@
 ghost use Rattle.std.specs.Prelude.{◌≡◌, IsFalse};
 ghost use Rattle.pci_spec.specs.System.{System};
 ghost use Rattle.settle_spec.specs.Lists.{Request};
-ghost use Rattle.pci_settle.specs.Over.{AreOpenOver};
+ghost use Rattle.pci_first_fit.specs.Over.{AreOpenOver};
 ghost use Rattle.pci_kept.specs.Boards.{IsTree};
 
 use pci_base::slot::BUSES;
 use pci_base::window_kind::WindowKind;
+use pci_first_fit::over::{OpenWindows, open_range};
 use pci_function::record::Record;
-use pci_settle::over::{OpenWindows, open_range};
 
 /// The open windows over each bus.
 fn all_open(records: &[Record]) -> [OpenWindows; BUSES]

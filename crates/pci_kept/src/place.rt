@@ -8,8 +8,8 @@ ghost use Rattle.pci_base.specs.WindowKinds.{kind_value};
 ghost use Rattle.pci_image.specs.Windows.{window_of};
 ghost use Rattle.pci_tree.specs.Passes.{range_in};
 ghost use Rattle.pci_tree.specs.Ways.{IsBridgeToBus};
-ghost use Rattle.pci_settle.specs.Over.{range_holds};
-ghost use Rattle.pci_settle.specs.Lists.{lists_value};
+ghost use Rattle.pci_first_fit.specs.Over.{range_holds};
+ghost use Rattle.pci_first_fit.specs.Lists.{lists_value};
 ghost use Rattle.pci_kept.specs.Boards.{IsBoard, IsKnown, AreOpen};
 ghost use Rattle.pci_kept.specs.Known.{region_value};
 ghost use Rattle.pci_kept.specs.Tables.{stands_in};
@@ -19,11 +19,11 @@ use crate::region::Region;
 use pci_base::range::Range;
 use pci_base::slot::BUSES;
 use pci_base::window_kind::WindowKind;
+use pci_first_fit::kept::Kept;
+use pci_first_fit::list::Lists;
+use pci_first_fit::over::is_within;
 use pci_function::record::Record;
 use pci_image::window::Windows;
-use pci_settle::kept::Kept;
-use pci_settle::list::Lists;
-use pci_settle::over::is_within;
 
 /// Whether a window of a bridge is there and open, and holds a range.
 pub fn is_held(windows: &Windows, kind: WindowKind, range: Range) -> bool

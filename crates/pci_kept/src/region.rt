@@ -2,7 +2,7 @@
 ghost use Rattle.std.specs.Prelude.{◌≡◌, ◌++◌, OnOk};
 ghost use Rattle.std.specs.List.{All};
 ghost use Rattle.pci_tree.specs.Passes.{range_in};
-ghost use Rattle.pci_settle.specs.Own.{bar_class_of};
+ghost use Rattle.pci_first_fit.specs.Own.{bar_class_of};
 ghost use Rattle.pci_kept.specs.Regions.{owned_region, kind_of, bar_space, HasBarNumber, owned_bar_region, owned_bar_regions, owned_window_regions, owned_bridge_regions, owned_rom_regions, record_regions};
 
 use pci_base::memory::OutOfMemory;
@@ -10,13 +10,13 @@ use pci_base::offset::BASE_ADDRESS;
 use pci_base::range::Range;
 use pci_base::space::Space;
 use pci_base::window_kind::WindowKind;
+use pci_first_fit::kept::Part;
+use pci_first_fit::over::Over;
+use pci_first_fit::own::{Terms, class_of, is_left_bar};
 use pci_function::record::{Bridge, Record};
 use pci_image::bar::{Bar, BarKind};
 use pci_image::rom::Rom;
 use pci_image::window::{Window, Windows};
-use pci_settle::kept::Part;
-use pci_settle::over::Over;
-use pci_settle::own::{Terms, class_of, is_left_bar};
 use std::alloc::Allocator;
 
 /// What all parts of a function share.

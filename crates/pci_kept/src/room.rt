@@ -8,8 +8,8 @@ ghost use Rattle.settle_spec.specs.Parts.{FunctionPart as RegionValue};
 ghost use Rattle.settle_spec.specs.Items.{has_places};
 ghost use Rattle.pci_base.specs.WindowKinds.{kind_value};
 ghost use Rattle.pci_place.specs.Above.{AreAboves, system_in};
-ghost use Rattle.pci_settle.specs.Buses.{AreWindows, listing_value};
-ghost use Rattle.pci_settle.specs.Lines.{AreLineRows};
+ghost use Rattle.pci_first_fit.specs.Buses.{AreWindows, listing_value};
+ghost use Rattle.pci_first_fit.specs.Lines.{AreLineRows};
 ghost use Rattle.pci_kept.specs.Passing.{CanBeNoted};
 ghost use Rattle.pci_kept.specs.Rooms.{region_bus, wanted_value, IsRoomOf};
 
@@ -18,10 +18,10 @@ use crate::taken_on::{Takers, taken_on};
 use pci_base::memory::OutOfMemory;
 use pci_base::range::Range;
 use pci_base::space::Space;
-use pci_settle::bus::items_in_turn;
-use pci_settle::item::Item;
-use pci_settle::listing::Listing;
-use pci_settle::placing::{Search, Wanted, place_all};
+use pci_first_fit::bus::items_in_turn;
+use pci_first_fit::item::Item;
+use pci_first_fit::listing::Listing;
+use pci_first_fit::placing::{Search, Wanted, place_all};
 use std::alloc::Allocator;
 
 /// What is wanted for each item: its extent in the one list.

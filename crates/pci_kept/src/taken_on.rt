@@ -4,8 +4,8 @@ ghost use Rattle.std.specs.List.{All, AllWithin, filter};
 ghost use Rattle.std.specs.List.Sorted.{IsNonDecreasingBy};
 ghost use Rattle.settle_spec.specs.Parts.{are_same_space};
 ghost use Rattle.pci_base.specs.Space.{space_of};
-ghost use Rattle.pci_settle.specs.Lines.{AreForwardRanges, AreLineRows};
-ghost use Rattle.pci_settle.specs.Spots.{AreRisingRanges};
+ghost use Rattle.pci_first_fit.specs.Lines.{AreForwardRanges, AreLineRows};
+ghost use Rattle.pci_first_fit.specs.Spots.{AreRisingRanges};
 ghost use Rattle.pci_kept.specs.Passing.{CanBeNoted};
 ghost use Rattle.pci_kept.specs.Rooms.{region_bus, region_range, is_taken, is_taken_on, AreTakenOn};
 
@@ -13,9 +13,9 @@ use super::region::Region;
 use pci_base::memory::OutOfMemory;
 use pci_base::range::Range;
 use pci_base::space::Space;
-use pci_settle::kept::Kept;
-use pci_settle::lines::{Line, add_lines_on};
-use pci_settle::spot::sort_by_first;
+use pci_first_fit::kept::Kept;
+use pci_first_fit::lines::{Line, add_lines_on};
+use pci_first_fit::spot::sort_by_first;
 use std::alloc::Allocator;
 
 /// The index of the first part on this bus or a higher one.

@@ -5,7 +5,7 @@ ghost use Rattle.std.specs.Option.{option_map};
 ghost use Rattle.pci_base.specs.Ranges.{decoded_range_of};
 ghost use Rattle.pci_base.specs.WindowKinds.{kind_value};
 ghost use Rattle.pci_place.specs.Above.{AreAboves, system_in};
-ghost use Rattle.pci_settle.specs.Buses.{AreWindows, classing_value};
+ghost use Rattle.pci_first_fit.specs.Buses.{AreWindows, classing_value};
 ghost use Rattle.pci_spec.specs.Window.{IoWindow};
 ghost use Rattle.pci_kept.specs.Windows.{HasWindowsOf, IsTooLargeOf, first_of, AreAllNew, AreAllLawful, is_whole_range, opens_whole, has_whole, HasWhole};
 
@@ -13,11 +13,11 @@ use pci_base::memory::{OutOfMemory, Refused};
 use pci_base::range::Range;
 use pci_base::slot::BUSES;
 use pci_base::window_kind::{ByKind, WindowKind};
+use pci_first_fit::extent::Extent;
+use pci_first_fit::listing::Classing;
+use pci_first_fit::new_window::new_windows;
+use pci_first_fit::over::open_range;
 use pci_function::record::{Bridge, Record};
-use pci_settle::extent::Extent;
-use pci_settle::listing::Classing;
-use pci_settle::new_window::new_windows;
-use pci_settle::over::open_range;
 use std::alloc::Allocator;
 
 /// A bridge whose new window would have 2^64 addresses or more.

@@ -1,26 +1,28 @@
-//! Where settling places what doesn't keep its place: the first free place in lists of ranges.
+//! The settled dump, and the writes that lead to it.
 //!
-//! What is taken on a bus is a list of ranges by rising first addresses, and each item that is placed is put
-//! into it, so that looking for the next place is one walk along the list.
-//!
-//! In the comments "Bridge 1.2" is the PCI-to-PCI Bridge Architecture Specification 1.2.
+//! The large steps of settling are `#[inline(never)]`: each lets its frame go before the next one begins, so the stack holds one at
+//! a time.
 #![tactic(auto)]
 
-pub mod bus;
-pub mod extent;
-pub mod item;
-pub mod kept;
-pub mod lines;
-pub mod list;
-pub mod listing;
-pub mod near;
-pub mod new_window;
-pub mod over;
-pub mod own;
-pub mod place;
-pub mod placing;
-pub mod slots;
-pub mod spot;
-pub mod table;
+pub mod alike;
+pub mod assumed;
+pub mod bounds;
+pub mod closed;
+pub mod dump;
+pub mod ended;
+pub mod fixed;
+pub mod growth;
+pub mod io;
+pub mod lack;
+pub mod settle;
+pub mod shut;
+pub mod sparing;
+pub mod standing;
+pub mod tables;
 pub mod told;
-pub mod window;
+pub mod way;
+pub mod wished;
+pub mod wishes;
+pub mod wishes_asked;
+pub mod wishes_before;
+pub mod writes;

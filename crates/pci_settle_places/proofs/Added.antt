@@ -7,12 +7,12 @@ use Rattle.pci_spec.specs.System.{System}
 use Rattle.pci_base.specs.declared.window_kind.WindowKind.{WindowKind as Class}
 use Rattle.pci_base.specs.WindowKinds.{kind_value}
 use Rattle.pci_place.proofs.Owned.{map_twice}
-use Rattle.pci_settle.specs.declared.extent.Extent.{Extent}
-use Rattle.pci_settle.specs.declared.item.Item.{Item}
-use Rattle.pci_settle.specs.declared.own.Terms.{Terms}
-use Rattle.pci_settle.specs.Turns.{HasExtent}
-use Rattle.pci_settle.specs.Buses.{bus_listing, AreInTurn}
-use Rattle.pci_settle.specs.NewWindows.{asking_of}
+use Rattle.pci_first_fit.specs.declared.extent.Extent.{Extent}
+use Rattle.pci_first_fit.specs.declared.item.Item.{Item}
+use Rattle.pci_first_fit.specs.declared.own.Terms.{Terms}
+use Rattle.pci_first_fit.specs.Turns.{HasExtent}
+use Rattle.pci_first_fit.specs.Buses.{bus_listing, AreInTurn}
+use Rattle.pci_first_fit.specs.NewWindows.{asking_of}
 use Rattle.pci_settle_places.specs.Staying.{setting, classing}
 use Rattle.pci_settle_places.specs.declared.candidate.Candidate.{Candidate}
 use Rattle.pci_settle_places.specs.declared.staying.Staying.{Staying}

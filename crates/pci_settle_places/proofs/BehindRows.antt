@@ -21,10 +21,10 @@ use Rattle.settle_spec.specs.Stands.{window_part}
 use Rattle.pci_base.specs.declared.range.Range.{Range}
 use Rattle.pci_base.specs.Ranges.{decoded_range_of}
 use Rattle.pci_base.specs.Space.{space_of}
-use Rattle.pci_settle.specs.declared.lines.Line.{Line}
-use Rattle.pci_settle.specs.Lines.{Row, row_of, told_row, rows_from, AreLines}
-use Rattle.pci_settle.proofs.NearRanges.{AreNear, near_place}
-use Rattle.pci_settle.proofs.Rows.{row_at}
+use Rattle.pci_first_fit.specs.declared.lines.Line.{Line}
+use Rattle.pci_first_fit.specs.Lines.{Row, row_of, told_row, rows_from, AreLines}
+use Rattle.pci_first_fit.proofs.NearRanges.{AreNear, near_place}
+use Rattle.pci_first_fit.proofs.Rows.{row_at}
 use Rattle.pci_kept.proofs.ToldIndexes.{told_at, told_by}
 use Rattle.pci_settle_places.specs.declared.stretch.Sought.{Sought}
 use Rattle.pci_settle_places.specs.Stretches.{is_row_behind, IsFar, AreSought}

@@ -16,17 +16,17 @@ use Rattle.pci_base.specs.declared.memory.Refused.{Refused}
 use Rattle.pci_base.specs.declared.memory.Refused.TheVariants as refused
 use Rattle.pci_base.specs.WindowKinds.{kind_value}
 use Rattle.pci_base.specs.declared.range.Range.{Range}
-use Rattle.pci_settle.specs.declared.extent.Extent.{Extent}
-use Rattle.pci_settle.specs.declared.own.Terms.{Terms}
-use Rattle.pci_settle.specs.Spots.{IsExtent}
-use Rattle.pci_settle.specs.Slots.{Demand}
-use Rattle.pci_settle.specs.Own.{AreTerms}
-use Rattle.pci_settle.specs.Buses.{AreWindows}
-use Rattle.pci_settle.specs.declared.over.Left.{Left}
-use Rattle.pci_settle.specs.Over.{AreOpenOver}
-use Rattle.pci_settle.specs.Keeping.{TellsKept}
-use Rattle.pci_settle.specs.declared.lines.Line.{Line}
-use Rattle.pci_settle.specs.Lines.{AreLines}
+use Rattle.pci_first_fit.specs.declared.extent.Extent.{Extent}
+use Rattle.pci_first_fit.specs.declared.own.Terms.{Terms}
+use Rattle.pci_first_fit.specs.Spots.{IsExtent}
+use Rattle.pci_first_fit.specs.Slots.{Demand}
+use Rattle.pci_first_fit.specs.Own.{AreTerms}
+use Rattle.pci_first_fit.specs.Buses.{AreWindows}
+use Rattle.pci_first_fit.specs.declared.over.Left.{Left}
+use Rattle.pci_first_fit.specs.Over.{AreOpenOver}
+use Rattle.pci_first_fit.specs.Keeping.{TellsKept}
+use Rattle.pci_first_fit.specs.declared.lines.Line.{Line}
+use Rattle.pci_first_fit.specs.Lines.{AreLines}
 use Rattle.pci_settle_places.specs.declared.anew.Unplaced.{Unplaced}
 use Rattle.pci_settle_places.specs.declared.anew.Unplaced.TheVariants as unplaced
 use Rattle.pci_settle_places.specs.declared.candidate.Candidate.{Candidate}

@@ -27,15 +27,15 @@ use Rattle.pci_base.specs.WindowKinds.{by_kind, kind_value}
 use Rattle.pci_function.specs.declared.record.Record.{Record}
 use Rattle.pci_function.specs.Values.{record_value}
 use Rattle.pci_place.specs.Items.{no_function}
-use Rattle.pci_settle.specs.declared.own.Terms.{Terms}
-use Rattle.pci_settle.specs.declared.place.Places.{Places}
-use Rattle.pci_settle.specs.declared.placing.Wanted.{Wanted}
-use Rattle.pci_settle.specs.Placings.{HasListAt, AreWanted, AreEnding, placing_of}
-use Rattle.pci_settle.specs.Own.{class_part}
-use Rattle.pci_settle.specs.Tables.{untold}
-use Rattle.pci_settle.specs.PlaceTables.{placed}
-use Rattle.pci_settle.specs.Keeping.{grown_of, IsInKept}
-use Rattle.pci_settle.proofs.AllPlaced.{FindsTheSame, each_same_taken}
+use Rattle.pci_first_fit.specs.declared.own.Terms.{Terms}
+use Rattle.pci_first_fit.specs.declared.place.Places.{Places}
+use Rattle.pci_first_fit.specs.declared.placing.Wanted.{Wanted}
+use Rattle.pci_first_fit.specs.Placings.{HasListAt, AreWanted, AreEnding, placing_of}
+use Rattle.pci_first_fit.specs.Own.{class_part}
+use Rattle.pci_first_fit.specs.Tables.{untold}
+use Rattle.pci_first_fit.specs.PlaceTables.{placed}
+use Rattle.pci_first_fit.specs.Keeping.{grown_of, IsInKept}
+use Rattle.pci_first_fit.proofs.AllPlaced.{FindsTheSame, each_same_taken}
 use Rattle.pci_settle_places.specs.declared.candidate.Candidate.{Candidate}
 use Rattle.pci_settle_places.specs.declared.candidate.SpaceWindows.{SpaceWindows}
 use Rattle.pci_settle_places.specs.declared.staying.Staying.{Staying}

@@ -17,8 +17,8 @@ use Rattle.settle_spec.specs.Kept.{Kept}
 use Rattle.settle_spec.specs.Keeping.Places.{place_behind}
 use Rattle.settle_laws.proofs.Keeping.Buses.{of_space}
 use Rattle.pci_base.specs.declared.range.Range.{Range}
-use Rattle.pci_settle.specs.declared.place.Places.{Places}
-use Rattle.pci_settle.specs.Tables.{untold}
+use Rattle.pci_first_fit.specs.declared.place.Places.{Places}
+use Rattle.pci_first_fit.specs.Tables.{untold}
 use Rattle.pci_settle_places.specs.Candidates.{candidate_value}
 use Rattle.pci_settle_places.specs.Columns.{kind_number, list_number, list_at, had, AreColumn, HasColumn, HasRootColumns, AreListsFor}
 use Rattle.pci_settle_places.proofs.Parts.{in_space}

@@ -10,7 +10,7 @@ use Rattle.settle_spec.specs.Kept.{Kept}
 use Rattle.settle_spec.specs.Keeping.Registers.{is_enabled_in, settled_command}
 use Rattle.pci_function.specs.declared.record.Record.{Record}
 use Rattle.pci_place.specs.declared.above.Above.{Above}
-use Rattle.pci_settle.specs.declared.own.Terms.{Terms}
+use Rattle.pci_first_fit.specs.declared.own.Terms.{Terms}
 use Rattle.pci_settle_places.specs.declared.places.Places.{Places}
 use Rattle.pci_settle_places.specs.declared.settled.Behind.{Behind}
 use Rattle.pci_settle_places.specs.Images.{HasPartPlaces}

@@ -28,9 +28,9 @@ use Rattle.pci_place.specs.Records.{IsRecordOf}
 use Rattle.pci_place.proofs.ClassOf.{kind_io}
 use Rattle.pci_place.proofs.Parts.{bars_in, bars_of, rom_of, rom_there}
 use Rattle.pci_place.proofs.Owned.{no_rom, lacking_above}
-use Rattle.pci_settle.specs.declared.own.Terms.{Terms}
-use Rattle.pci_settle.specs.Slots.{demand_of}
-use Rattle.pci_settle.specs.Own.{AreTerms, is_left_bar}
+use Rattle.pci_first_fit.specs.declared.own.Terms.{Terms}
+use Rattle.pci_first_fit.specs.Slots.{demand_of}
+use Rattle.pci_first_fit.specs.Own.{AreTerms, is_left_bar}
 use Rattle.pci_settle_places.specs.Claims.{is_bar_in, has_left_bar, is_kept_bar, is_rom_on, has_kept, has_own_part}
 
 -- ---- lists

@@ -28,7 +28,7 @@ use Rattle.pci_place.specs.declared.above.Above.{Above}
 use Rattle.pci_place.specs.Above.{AreAboves, IsAbove}
 use Rattle.pci_place.specs.Records.{IsRecordOf}
 use Rattle.pci_place.proofs.Records.{FunctionAt, same_count, function_at}
-use Rattle.pci_settle.proofs.NewWindows.{comes_later}
+use Rattle.pci_first_fit.proofs.NewWindows.{comes_later}
 use Rattle.pci_settle_places.specs.declared.places.Places.{Places}
 use Rattle.pci_settle_places.specs.Images.{HasPartPlaces}
 use Rattle.pci_settle_places.specs.Claims.{has_kept}

@@ -17,11 +17,11 @@ use Rattle.settle_spec.specs.Places.{place_among, first_lack}
 use Rattle.pci_base.specs.WindowKinds.{kind_value}
 use Rattle.pci_base.specs.declared.range.Range.{Range}
 use Rattle.pci_place.specs.Items.{function_in, no_function}
-use Rattle.pci_settle.specs.declared.item.Part.{Part as CodePart}
-use Rattle.pci_settle.specs.declared.item.Part.TheVariants as parts
-use Rattle.pci_settle.specs.Own.{class_part}
-use Rattle.pci_settle.specs.Placings.{at_places, lacks_first}
-use Rattle.pci_settle.proofs.Walks.{left_next}
+use Rattle.pci_first_fit.specs.declared.item.Part.{Part as CodePart}
+use Rattle.pci_first_fit.specs.declared.item.Part.TheVariants as parts
+use Rattle.pci_first_fit.specs.Own.{class_part}
+use Rattle.pci_first_fit.specs.Placings.{at_places, lacks_first}
+use Rattle.pci_first_fit.proofs.Walks.{left_next}
 use Rattle.pci_settle_places.specs.declared.candidate.Candidate.{Candidate}
 use Rattle.pci_settle_places.specs.declared.places.Places.{Places}
 use Rattle.pci_settle_places.specs.Candidates.{candidate_value, IsWithin, HasPart}

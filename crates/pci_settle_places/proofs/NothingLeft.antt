@@ -9,15 +9,15 @@ use Rattle.settle_spec.specs.Parts.{FunctionPart, addresses}
 use Rattle.pci_base.specs.declared.memory.Refused.{Refused}
 use Rattle.pci_base.specs.declared.memory.Refused.TheVariants as refused
 use Rattle.pci_base.specs.declared.window_kind.WindowKind.TheVariants as kinds
-use Rattle.pci_settle.specs.declared.over.Left.{Left}
-use Rattle.pci_settle.specs.Slots.{Demand}
-use Rattle.pci_settle.specs.Kept.{AreKeptParts}
-use Rattle.pci_settle.specs.Over.{AreOpenOver}
-use Rattle.pci_settle.specs.Tables.{AreForward}
-use Rattle.pci_settle.specs.Keeping.{grown_of, TellsKept}
-use Rattle.pci_settle.proofs.Tables.{none_noted}
-use Rattle.pci_settle.proofs.Anew.{over_anew, kept_anew}
-use Rattle.pci_settle.proofs.AsItStands.{stands_told}
+use Rattle.pci_first_fit.specs.declared.over.Left.{Left}
+use Rattle.pci_first_fit.specs.Slots.{Demand}
+use Rattle.pci_first_fit.specs.Kept.{AreKeptParts}
+use Rattle.pci_first_fit.specs.Over.{AreOpenOver}
+use Rattle.pci_first_fit.specs.Tables.{AreForward}
+use Rattle.pci_first_fit.specs.Keeping.{grown_of, TellsKept}
+use Rattle.pci_first_fit.proofs.Tables.{none_noted}
+use Rattle.pci_first_fit.proofs.Anew.{over_anew, kept_anew}
+use Rattle.pci_first_fit.proofs.AsItStands.{stands_told}
 use Rattle.settle_spec.specs.Items.{stays}
 use Rattle.settle_spec.specs.Kept.{Kept as Keeping, no_wish, as_it_stands}
 use Rattle.pci_settle_places.specs.declared.places.Places.{Places}

@@ -16,7 +16,7 @@ use Rattle.settle_spec.specs.Items.{Item, bus_items, new_window, own_item}
 use Rattle.settle_spec.specs.Kept.{Kept}
 use Rattle.settle_spec.specs.Keeping.Places.{space_items}
 use Rattle.settle_spec.proofs.ItemsOn.{IsBeside, IsPlacedPart, IsOpened, each_on}
-use Rattle.pci_settle.proofs.Headers.{header_has}
+use Rattle.pci_first_fit.proofs.Headers.{header_has}
 
 -- ---- classes and spaces
 

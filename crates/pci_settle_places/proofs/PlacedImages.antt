@@ -41,7 +41,7 @@ use Rattle.pci_base.specs.declared.window_kind.ByKind.{ByKind}
 use Rattle.pci_base.specs.Ranges.{decoded_range_of}
 use Rattle.pci_settle_places.specs.declared.places.Places.{Places}
 use Rattle.pci_settle_places.specs.Places.{place_range_in, placed_at}
-use Rattle.pci_settle.specs.Keeping.{told_of_kind}
+use Rattle.pci_first_fit.specs.Keeping.{told_of_kind}
 use Rattle.pci_settle_places.specs.Shown.{nibble, with_bar, with_closed, has_range, with_grown, with_window, with_optional, with_room, with_wished}
 use Rattle.pci_settle_places.specs.Images.{where_placed, with_placed_bar, with_bars, with_bridge, with_placed_rom, with_parts, is_window_kept, HasPartPlaces, HasPlacesAndWindows}
 use Rattle.pci_settle_places.proofs.PlacedParts.{placed_is_part}

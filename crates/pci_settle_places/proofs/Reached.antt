@@ -19,7 +19,7 @@ use Rattle.settle_spec.specs.Kept.{Kept}
 use Rattle.settle_spec.specs.Keeping.Places.{space_items, taken_at, placing_on}
 use Rattle.settle_spec.proofs.Nested.{one_bridge, is_no_root, at_secondary}
 use Rattle.settle_laws.proofs.Keeping.Buses.{of_space, placing_by_bus}
-use Rattle.pci_settle.proofs.NewWindows.{comes_later}
+use Rattle.pci_first_fit.proofs.NewWindows.{comes_later}
 use Rattle.pci_settle_places.specs.BusPlaces.{place_beside}
 use Rattle.pci_settle_places.proofs.Notes.{region, one_place}
 use Rattle.pci_settle_places.proofs.Parts.{rank_one, real_in}

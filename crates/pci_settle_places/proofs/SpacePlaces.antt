@@ -34,13 +34,13 @@ use Rattle.pci_function.specs.declared.record.Record.{Record}
 use Rattle.pci_tree.specs.Passes as passes
 use Rattle.pci_place.specs.Records.{IsRecordOf}
 use Rattle.pci_place.specs.Items.{no_function}
-use Rattle.pci_settle.specs.declared.kept.Kept.{Kept as CodeKept}
-use Rattle.pci_settle.specs.declared.over.Left.{Left}
-use Rattle.pci_settle.specs.declared.place.Places.{Places as ToldPlaces}
-use Rattle.pci_settle.specs.Kept.{kept_of, nothing_kept}
-use Rattle.pci_settle.specs.Tables.{untold}
-use Rattle.pci_settle.specs.PlaceTables as ToldOf
-use Rattle.pci_settle.specs.Keeping.{told_of_kind, told_if_grown, IsInKept, TellsKept}
+use Rattle.pci_first_fit.specs.declared.kept.Kept.{Kept as CodeKept}
+use Rattle.pci_first_fit.specs.declared.over.Left.{Left}
+use Rattle.pci_first_fit.specs.declared.place.Places.{Places as ToldPlaces}
+use Rattle.pci_first_fit.specs.Kept.{kept_of, nothing_kept}
+use Rattle.pci_first_fit.specs.Tables.{untold}
+use Rattle.pci_first_fit.specs.PlaceTables as ToldOf
+use Rattle.pci_first_fit.specs.Keeping.{told_of_kind, told_if_grown, IsInKept, TellsKept}
 use Rattle.pci_kept.proofs.OfRecord.{window_is}
 use Rattle.pci_settle_places.specs.declared.places.Places.{Places}
 use Rattle.pci_settle_places.specs.declared.candidate.Candidate.{Candidate}

@@ -31,10 +31,10 @@ use Rattle.pci_tree.specs.Roots.{set_in}
 use Rattle.pci_tree.proofs.Lifting.{same_bridge}
 use Rattle.pci_tree.proofs.RegionParts.{same_bridge_of}
 use Rattle.pci_place.proofs.Records.{FunctionAt, function_at}
-use Rattle.pci_settle.specs.declared.kept.Kept.{Kept as CodeKept}
-use Rattle.pci_settle.specs.declared.own.Terms.{Terms}
-use Rattle.pci_settle.specs.Kept.{kept_of, nothing_kept}
-use Rattle.pci_settle.specs.Keeping.{told_of_kind}
+use Rattle.pci_first_fit.specs.declared.kept.Kept.{Kept as CodeKept}
+use Rattle.pci_first_fit.specs.declared.own.Terms.{Terms}
+use Rattle.pci_first_fit.specs.Kept.{kept_of, nothing_kept}
+use Rattle.pci_first_fit.specs.Keeping.{told_of_kind}
 use Rattle.pci_settle_places.specs.declared.candidate.Candidate.{Candidate}
 use Rattle.pci_settle_places.specs.declared.candidate.SpaceWindows.{SpaceWindows}
 use Rattle.pci_settle_places.specs.declared.staying.Staying.{Staying}

@@ -10,8 +10,8 @@ use Rattle.settle_spec.specs.Parts.{are_same_space}
 use Rattle.pci_base.specs.declared.range.Range.{Range}
 use Rattle.pci_base.specs.Ranges.{decoded_range_of}
 use Rattle.pci_base.specs.Space.{space_of}
-use Rattle.pci_settle.specs.declared.lines.Line.{Line}
-use Rattle.pci_settle.specs.Lines.{line_range}
+use Rattle.pci_first_fit.specs.declared.lines.Line.{Line}
+use Rattle.pci_first_fit.specs.Lines.{line_range}
 use Rattle.pci_settle_places.specs.declared.stretch.Stretch.{Stretch}
 use Rattle.pci_settle_places.specs.declared.stretch.Sought.{Sought}
 use Rattle.pci_settle_places.specs.Stretches.{IsCoveredBy, IsStretch, AreStretches, is_row_behind, IsElsewhere, IsFar, AreSought}

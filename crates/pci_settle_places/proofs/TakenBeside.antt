@@ -34,13 +34,13 @@ use Rattle.pci_tree.proofs.Lifting.{same_bridge}
 use Rattle.pci_tree.proofs.RegionParts.{same_bridge_of}
 use Rattle.pci_place.specs.Items.{function_in, no_function}
 use Rattle.pci_place.proofs.Records.{FunctionAt, function_at}
-use Rattle.pci_settle.specs.declared.extent.Extent.{Extent}
-use Rattle.pci_settle.specs.declared.item.Part.{Part as CodePart}
-use Rattle.pci_settle.specs.declared.item.Part.TheVariants as parts
-use Rattle.pci_settle.specs.declared.lines.Line.{Line}
-use Rattle.pci_settle.specs.declared.placing.Wanted.{Wanted}
-use Rattle.pci_settle.specs.Lines.{row_of, told_row, rows_from, AreForwardRanges, AreLines, AreAdded}
-use Rattle.pci_settle.specs.Spots.{FirstsRise, AreRisingRanges}
+use Rattle.pci_first_fit.specs.declared.extent.Extent.{Extent}
+use Rattle.pci_first_fit.specs.declared.item.Part.{Part as CodePart}
+use Rattle.pci_first_fit.specs.declared.item.Part.TheVariants as parts
+use Rattle.pci_first_fit.specs.declared.lines.Line.{Line}
+use Rattle.pci_first_fit.specs.declared.placing.Wanted.{Wanted}
+use Rattle.pci_first_fit.specs.Lines.{row_of, told_row, rows_from, AreForwardRanges, AreLines, AreAdded}
+use Rattle.pci_first_fit.specs.Spots.{FirstsRise, AreRisingRanges}
 use Rattle.pci_kept.specs.Held.{held_range, is_level_on}
 use Rattle.pci_kept.proofs.Helds.{same_parts}
 use Rattle.pci_settle_places.specs.declared.candidate.Candidate.{Candidate}

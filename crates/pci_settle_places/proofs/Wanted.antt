@@ -31,11 +31,11 @@ use Rattle.pci_base.specs.declared.window_kind.WindowKind.TheVariants as classes
 use Rattle.pci_base.specs.declared.range.Range.{Range}
 use Rattle.pci_base.specs.Ranges.{decoded_range_of}
 use Rattle.pci_base.specs.declared.window_kind.ByKind.{ByKind}
-use Rattle.pci_settle.specs.declared.item.Part.TheVariants.{Bar}
-use Rattle.pci_settle.specs.declared.place.Places.{Places}
-use Rattle.pci_settle.specs.declared.placing.Wanted.{Wanted}
-use Rattle.pci_settle.specs.Spots.{extent_value}
-use Rattle.pci_settle.specs.Placings.{HasListAt, AreWanted, AreEnding}
+use Rattle.pci_first_fit.specs.declared.item.Part.TheVariants.{Bar}
+use Rattle.pci_first_fit.specs.declared.place.Places.{Places}
+use Rattle.pci_first_fit.specs.declared.placing.Wanted.{Wanted}
+use Rattle.pci_first_fit.specs.Spots.{extent_value}
+use Rattle.pci_first_fit.specs.Placings.{HasListAt, AreWanted, AreEnding}
 use Rattle.pci_settle_places.specs.declared.candidate.Candidate.{Candidate}
 use Rattle.pci_settle_places.specs.Candidates.{candidate_value, HasAddressAndAlignment, IsWithin, HasPart}
 use Rattle.pci_settle_places.specs.Columns.{kind_number, column, list_number, told_place, candidate_wanted, list_at, AreListsFor}

@@ -8,7 +8,7 @@ use Rattle.settle_spec.specs.Keeping.Places.{lacking}
 use Rattle.pci_base.specs.declared.memory.Refused.{Refused}
 use Rattle.pci_base.specs.declared.memory.Refused.TheVariants as refused
 use Rattle.pci_base.specs.WindowKinds.{kind_value}
-use Rattle.pci_settle.specs.Slots.{Demand, demand_of}
+use Rattle.pci_first_fit.specs.Slots.{Demand, demand_of}
 use Rattle.pci_settle_places.specs.declared.places.Places.{Places}
 use Rattle.pci_settle_places.specs.declared.anew.Unplaced.{Unplaced}
 use Rattle.pci_settle_places.specs.declared.anew.Unplaced.TheVariants as unplaced

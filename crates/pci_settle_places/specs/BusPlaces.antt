@@ -11,7 +11,7 @@ use Rattle.settle_spec.specs.Kept.{Kept}
 use Rattle.settle_spec.specs.Keeping.Places.{space_items, taken_at, place_of_item}
 use Rattle.pci_base.specs.declared.range.Range.{Range}
 use Rattle.pci_base.specs.declared.window_kind.ByKind.{ByKind}
-use Rattle.pci_settle.specs.Placings.{placing_of}
+use Rattle.pci_first_fit.specs.Placings.{placing_of}
 use Rattle.pci_settle_places.specs.declared.candidate.Candidate.{Candidate}
 use Rattle.pci_settle_places.specs.Staying.{IsStaying}
 use Rattle.pci_settle_places.specs.Candidates.{candidate_value, IsWithin, HasAddressAndAlignment, HasPart, Pass, HasAskedWindows}

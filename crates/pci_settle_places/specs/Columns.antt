@@ -15,10 +15,10 @@ use Rattle.pci_base.specs.declared.range.Range.{Range}
 use Rattle.pci_base.specs.declared.window_kind.ByKind.{ByKind}
 use Rattle.pci_base.specs.Ranges.{decoded_range_of}
 use Rattle.pci_base.specs.WindowKinds.{by_kind, kind_value}
-use Rattle.pci_settle.specs.declared.place.Places.{Places}
-use Rattle.pci_settle.specs.declared.placing.Wanted.{Wanted}
-use Rattle.pci_settle.specs.Own.{class_part}
-use Rattle.pci_settle.specs.PlaceTables.{placed}
+use Rattle.pci_first_fit.specs.declared.place.Places.{Places}
+use Rattle.pci_first_fit.specs.declared.placing.Wanted.{Wanted}
+use Rattle.pci_first_fit.specs.Own.{class_part}
+use Rattle.pci_first_fit.specs.PlaceTables.{placed}
 use Rattle.pci_settle_places.specs.declared.candidate.Candidate.{Candidate}
 use Rattle.pci_settle_places.specs.Candidates.{candidate_value}
 

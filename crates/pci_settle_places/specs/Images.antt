@@ -22,7 +22,7 @@ use Rattle.pci_image.specs.declared.window.Windows.{Windows}
 use Rattle.pci_function.specs.declared.record.Bridge.{Bridge}
 use Rattle.pci_function.specs.declared.record.Record.{Record}
 use Rattle.pci_place.specs.Records.{IsRecordOf}
-use Rattle.pci_settle.specs.Keeping.{told_of_kind}
+use Rattle.pci_first_fit.specs.Keeping.{told_of_kind}
 use Rattle.pci_settle_places.specs.declared.places.Places.{Places}
 use Rattle.pci_settle_places.specs.Places.{place_range_in, placed_at}
 use Rattle.pci_settle_places.specs.Shown.{with_bar, with_rom, with_optional, with_wished}

@@ -8,12 +8,12 @@ use Rattle.settle_spec.specs.Keeping.Places.{new_place, lacking}
 use Rattle.pci_base.specs.declared.memory.Refused.{Refused}
 use Rattle.pci_base.specs.declared.memory.Refused.TheVariants as refused
 use Rattle.pci_base.specs.WindowKinds.{kind_value}
-use Rattle.pci_settle.specs.declared.extent.Extent.{Extent}
-use Rattle.pci_settle.specs.declared.over.Left.{Left}
-use Rattle.pci_settle.specs.Slots.{Demand, demand_of}
-use Rattle.pci_settle.specs.Over.{AreOpenOver}
-use Rattle.pci_settle.specs.Keeping.{TellsKept}
-use Rattle.pci_settle.specs.NewWindows.{HasNewWindows, IsTooLarge}
+use Rattle.pci_first_fit.specs.declared.extent.Extent.{Extent}
+use Rattle.pci_first_fit.specs.declared.over.Left.{Left}
+use Rattle.pci_first_fit.specs.Slots.{Demand, demand_of}
+use Rattle.pci_first_fit.specs.Over.{AreOpenOver}
+use Rattle.pci_first_fit.specs.Keeping.{TellsKept}
+use Rattle.pci_first_fit.specs.NewWindows.{HasNewWindows, IsTooLarge}
 use Rattle.pci_settle_places.specs.declared.places.Places.{Places}
 use Rattle.pci_settle_places.specs.declared.anew.Unplaced.{Unplaced}
 use Rattle.pci_settle_places.specs.declared.anew.Unplaced.TheVariants as unplaced

@@ -8,8 +8,8 @@ use Rattle.settle_spec.specs.Items.{Placed, taken_by}
 use Rattle.settle_spec.specs.Places.{place_among}
 use Rattle.pci_base.specs.declared.range.Range.{Range}
 use Rattle.pci_base.specs.Ranges.{range_of_decoded}
-use Rattle.pci_settle.specs.declared.item.Part.{Part as CodePart}
-use Rattle.pci_settle.specs.declared.item.Part.TheVariants as parts
+use Rattle.pci_first_fit.specs.declared.item.Part.{Part as CodePart}
+use Rattle.pci_first_fit.specs.declared.item.Part.TheVariants as parts
 use Rattle.pci_settle_places.specs.declared.candidate.Candidate.{Candidate}
 use Rattle.pci_settle_places.specs.declared.places.Places.{Places}
 use Rattle.pci_settle_places.specs.Candidates.{IsWithin, HasAddressAndAlignment}

@@ -8,9 +8,9 @@ use Rattle.settle_spec.specs.Kept.{Kept}
 use Rattle.pci_function.specs.declared.record.Record.{Record}
 use Rattle.pci_place.specs.declared.above.Above.{Above}
 use Rattle.pci_place.specs.Above.{IsAbove}
-use Rattle.pci_settle.specs.declared.own.Terms.{Terms}
-use Rattle.pci_settle.specs.Slots.{demand_of}
-use Rattle.pci_settle.specs.Own.{AreTerms}
+use Rattle.pci_first_fit.specs.declared.own.Terms.{Terms}
+use Rattle.pci_first_fit.specs.Slots.{demand_of}
+use Rattle.pci_first_fit.specs.Own.{AreTerms}
 use Rattle.pci_settle_places.specs.declared.places.Places.{Places}
 use Rattle.pci_settle_places.specs.declared.settled.Behind.{Behind}
 use Rattle.pci_settle_places.specs.Claims.{is_enabled_by}

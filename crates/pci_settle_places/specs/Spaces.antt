@@ -17,9 +17,9 @@ use Rattle.pci_base.specs.declared.range.Range.{Range}
 use Rattle.pci_base.specs.declared.window_kind.ByKind.{ByKind}
 use Rattle.pci_base.specs.WindowKinds.{kind_value}
 use Rattle.pci_function.specs.declared.record.Bridge.{Bridge}
-use Rattle.pci_settle.specs.declared.place.Places.{Places as ToldPlaces}
-use Rattle.pci_settle.specs.Kept.{nothing_kept}
-use Rattle.pci_settle.specs.Tables.{untold}
+use Rattle.pci_first_fit.specs.declared.place.Places.{Places as ToldPlaces}
+use Rattle.pci_first_fit.specs.Kept.{nothing_kept}
+use Rattle.pci_first_fit.specs.Tables.{untold}
 use Rattle.pci_settle_places.specs.declared.candidate.Candidate.{Candidate}
 use Rattle.pci_settle_places.specs.declared.staying.Staying.{Staying}
 use Rattle.pci_settle_places.specs.declared.places.Places.{Places}

@@ -5,10 +5,10 @@ use Rattle.settle_spec.specs.Lists.{Request}
 use Rattle.settle_spec.specs.Kept.{Kept}
 use Rattle.pci_tree.specs.Admission.{Admission}
 use Rattle.pci_place.specs.Above.{system_in}
-use Rattle.pci_settle.specs.declared.own.Terms.{Terms}
-use Rattle.pci_settle.specs.Buses.{Classing, TellsClasses}
-use Rattle.pci_settle.specs.Keeping.{TellsKept}
-use Rattle.pci_settle.specs.Lines.{AreLines}
+use Rattle.pci_first_fit.specs.declared.own.Terms.{Terms}
+use Rattle.pci_first_fit.specs.Buses.{Classing, TellsClasses}
+use Rattle.pci_first_fit.specs.Keeping.{TellsKept}
+use Rattle.pci_first_fit.specs.Lines.{AreLines}
 use Rattle.pci_kept.specs.Held.{AreHeld}
 use Rattle.pci_settle_places.specs.declared.staying.Staying.{Staying}
 use Rattle.pci_settle_places.specs.declared.setting.Setting as declared

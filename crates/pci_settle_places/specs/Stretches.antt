@@ -7,7 +7,7 @@ use Rattle.settle_spec.specs.Parts.{are_same_space}
 use Rattle.pci_base.specs.declared.range.Range.{Range}
 use Rattle.pci_base.specs.Ranges.{decoded_range_of}
 use Rattle.pci_base.specs.Space.{space_of}
-use Rattle.pci_settle.specs.declared.lines.Line.{Line}
+use Rattle.pci_first_fit.specs.declared.lines.Line.{Line}
 use Rattle.pci_settle_places.specs.declared.stretch.Stretch.{Stretch}
 use Rattle.pci_settle_places.specs.declared.stretch.Sought.{Sought}
 

@@ -13,9 +13,9 @@ use Rattle.pci_base.specs.declared.range.Range.{Range}
 use Rattle.pci_base.specs.Ranges.{decoded_range_of}
 use Rattle.pci_function.specs.declared.record.Record.{Record}
 use Rattle.pci_function.specs.Values.{record_value}
-use Rattle.pci_settle.specs.declared.lines.Line.{Line}
-use Rattle.pci_settle.specs.Lines.{AreLines}
-use Rattle.pci_settle.specs.declared.placing.Wanted.{Wanted}
+use Rattle.pci_first_fit.specs.declared.lines.Line.{Line}
+use Rattle.pci_first_fit.specs.Lines.{AreLines}
+use Rattle.pci_first_fit.specs.declared.placing.Wanted.{Wanted}
 use Rattle.pci_kept.specs.Held.{AreHeld}
 use Rattle.pci_settle_places.specs.declared.candidate.Candidate.{Candidate}
 use Rattle.pci_settle_places.specs.declared.staying.Staying.{Staying}

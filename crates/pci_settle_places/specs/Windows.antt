@@ -10,9 +10,9 @@ use Rattle.pci_base.specs.Ranges.{decoded_range_of}
 use Rattle.pci_image.specs.Windows.{window_of}
 use Rattle.pci_function.specs.declared.record.Bridge.{Bridge}
 use Rattle.pci_tree.specs.Passes as passes
-use Rattle.pci_settle.specs.declared.kept.Kept.{Kept}
-use Rattle.pci_settle.specs.Kept.{kept_of}
-use Rattle.pci_settle.specs.Keeping.{told_of_kind}
+use Rattle.pci_first_fit.specs.declared.kept.Kept.{Kept}
+use Rattle.pci_first_fit.specs.Kept.{kept_of}
+use Rattle.pci_first_fit.specs.Keeping.{told_of_kind}
 use Rattle.pci_settle_places.specs.declared.places.Places.{Places}
 use Rattle.pci_settle_places.specs.Places.{place_range_in}
 

@@ -1,7 +1,7 @@
 //! The new places of all that is placed where nothing stands.
 ghost use Rattle.std.specs.Prelude.{IfOk, IfErr};
 ghost use Rattle.pci_place.specs.Above.{system_in};
-ghost use Rattle.pci_settle.specs.Slots.{demand_value};
+ghost use Rattle.pci_first_fit.specs.Slots.{demand_value};
 ghost use Rattle.pci_settle_places.specs.Anew.{AreNewPlaces, IsUnplaced};
 
 use crate::candidate::Candidate;
@@ -9,8 +9,8 @@ use crate::place::place;
 use crate::places::Places;
 use pci_base::memory::Refused;
 use pci_base::window_kind::WindowKind;
-use pci_settle::list::Lists;
-use pci_settle::over::Left;
+use pci_first_fit::list::Lists;
+use pci_first_fit::over::Left;
 use pci_tree::admitted::Admitted;
 use std::alloc::Allocator;
 

@@ -6,8 +6,8 @@ ghost use Rattle.pci_settle_places.specs.Answers.{is_answering};
 
 use pci_base::slot::Slot;
 use pci_base::space::Space;
-use pci_settle::own::Terms;
-use pci_settle::told::ToldRanges;
+use pci_first_fit::own::Terms;
+use pci_first_fit::told::ToldRanges;
 use pci_told::told_list::first_of_slot;
 use pci_told::told_range::{Mark, ToldRange};
 

@@ -1,7 +1,7 @@
 //! What told ranges hold behind new windows, where that can keep a place from being free.
 ghost use Rattle.std.specs.Prelude.{◌≡◌, ◌<◌, IfOk, length, map};
 ghost use Rattle.std.specs.List.{All};
-ghost use Rattle.pci_settle.specs.Placings.{HasListAt};
+ghost use Rattle.pci_first_fit.specs.Placings.{HasListAt};
 ghost use Rattle.pci_settle_places.specs.Candidates.{IsWithin};
 ghost use Rattle.pci_settle_places.specs.Stretches.{AreStretches};
 ghost use Rattle.pci_settle_places.specs.Taken.{AreBehindOne, AreBehindEach};
@@ -12,9 +12,9 @@ use crate::stretch::{Sought, sought_rows};
 use pci_base::memory::OutOfMemory;
 use pci_base::range::Range;
 use pci_base::space::Space;
+use pci_first_fit::item::Part;
+use pci_first_fit::placing::Wanted;
 use pci_function::record::Record;
-use pci_settle::item::Part;
-use pci_settle::placing::Wanted;
 use std::alloc::Allocator;
 
 /// What is wanted for some items, in lists of ranges.

@@ -3,7 +3,7 @@ ghost use Rattle.std.specs.Prelude.{◌≡◌, ◌++◌, IfOk, OnOk, map};
 ghost use Rattle.std.specs.List.{All};
 ghost use Rattle.pci_base.specs.WindowKinds.{kind_value};
 ghost use Rattle.pci_place.specs.Above.{AreAboves, system_in};
-ghost use Rattle.pci_settle.specs.Buses.{AreWindows};
+ghost use Rattle.pci_first_fit.specs.Buses.{AreWindows};
 ghost use Rattle.pci_settle_places.specs.Candidates.{of_class, HasAddressAndAlignment, AreAddedOf, AreSpaceWindows, AreCandidatesOf, windows_of, pass_value};
 ghost use Rattle.pci_settle_places.specs.Staying.{setting_value};
 
@@ -12,10 +12,10 @@ use pci_base::memory::OutOfMemory;
 use pci_base::slot::BUSES;
 use pci_base::space::Space;
 use pci_base::window_kind::WindowKind;
-use pci_settle::bus::items_in_turn;
-use pci_settle::extent::Extent;
-use pci_settle::item::Item;
-use pci_settle::listing::{Classing, Listing};
+use pci_first_fit::bus::items_in_turn;
+use pci_first_fit::extent::Extent;
+use pci_first_fit::item::Item;
+use pci_first_fit::listing::{Classing, Listing};
 use std::alloc::Allocator;
 
 /// An item of a bus with the class in which it is placed.

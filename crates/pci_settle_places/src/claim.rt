@@ -9,11 +9,11 @@ ghost use Rattle.pci_settle_places.specs.Claims.{is_bar_in, has_left_bar, is_pla
 use super::places::Places;
 use pci_base::offset::BASE_ADDRESS;
 use pci_base::space::Space;
+use pci_first_fit::own::{Terms, is_left_bar};
 use pci_function::record::{Bridge, Record};
 use pci_image::bar::{Bar, BarKind};
 use pci_image::rom::Rom;
 use pci_place::above::Above;
-use pci_settle::own::{Terms, is_left_bar};
 
 /// Whether a BAR is of a space.
 pub fn is_bar_of(space: Space, bar: &Bar) -> bool

@@ -4,7 +4,7 @@ ghost use Rattle.std.specs.Prelude.{◌≡◌, [], ◌∷◌, ◌++◌, IfOk, On
 ghost use Rattle.settle_spec.specs.Lists as lists;
 ghost use Rattle.pci_base.specs.Space.{space_of};
 ghost use Rattle.pci_base.specs.Ranges.{decoded_range_of};
-ghost use Rattle.pci_settle.specs.Lists.{lists_value, root_range_value};
+ghost use Rattle.pci_first_fit.specs.Lists.{lists_value, root_range_value};
 ghost use Rattle.pci_tree.specs.Roots.{buses_of};
 ghost use Rattle.pci_settle_places.specs.Columns.{had, AreColumn, range_list, HasRootColumns};
 
@@ -12,7 +12,7 @@ use pci_base::memory::OutOfMemory;
 use pci_base::range::{Range, RootRange};
 use pci_base::slot::BUSES;
 use pci_base::space::Space;
-use pci_settle::list::{Lists, is_root, ranges_of};
+use pci_first_fit::list::{Lists, is_root, ranges_of};
 use pci_tree::roots::Roots;
 use std::alloc::Allocator;
 

@@ -14,10 +14,10 @@ use crate::write::{write_bar, write_rom, write_window, write_wished};
 use pci_base::image::{IMAGE_LEN, Image};
 use pci_base::offset::BASE_ADDRESS;
 use pci_base::window_kind::WindowKind;
+use pci_first_fit::table::WindowRanges;
 use pci_function::record::Record;
 use pci_image::bar::Bar;
 use pci_image::window::Windows;
-use pci_settle::table::WindowRanges;
 
 /// What the windows of a bridge show where they don't show a new place.
 #[derive(Clone, Copy, Debug)]

@@ -1,8 +1,8 @@
 //! What is taken on a bus: by the parts that stay there, and by lines.
 ghost use Rattle.std.specs.Prelude.{IfOk};
 ghost use Rattle.pci_base.specs.Space.{space_of};
-ghost use Rattle.pci_settle.specs.Lines.{AreLineRows};
-ghost use Rattle.pci_settle.specs.Spots.{AreRisingRanges};
+ghost use Rattle.pci_first_fit.specs.Lines.{AreLineRows};
+ghost use Rattle.pci_first_fit.specs.Spots.{AreRisingRanges};
 ghost use Rattle.pci_kept.specs.Held.{AreByLevel};
 ghost use Rattle.pci_settle_places.specs.Taken.{AreTakenAt};
 
@@ -10,9 +10,9 @@ use crate::staying::Staying;
 use pci_base::memory::OutOfMemory;
 use pci_base::range::Range;
 use pci_base::space::Space;
+use pci_first_fit::lines::add_lines_on;
+use pci_first_fit::spot::sort_by_first;
 use pci_kept::held::taken_on;
-use pci_settle::lines::add_lines_on;
-use pci_settle::spot::sort_by_first;
 use std::alloc::Allocator;
 
 /// What is taken on a level in a space, by rising first addresses: by the parts that stay there, and by lines.

@@ -5,8 +5,8 @@ ghost use Rattle.std.specs.List.{All};
 ghost use Rattle.pci_spec.specs.System.{System, IsSystem, Part as PartValue};
 ghost use Rattle.settle_spec.specs.Places.{placed_of, first_lack};
 ghost use Rattle.pci_base.specs.WindowKinds.{kind_value};
-ghost use Rattle.pci_settle.specs.Own.{class_part};
-ghost use Rattle.pci_settle.specs.Placings.{at_places};
+ghost use Rattle.pci_first_fit.specs.Own.{class_part};
+ghost use Rattle.pci_first_fit.specs.Placings.{at_places};
 ghost use Rattle.pci_settle_places.specs.Candidates.{IsWithin, HasAddressAndAlignment, HasPart, candidate_value};
 ghost use Rattle.pci_settle_places.specs.BusPlaces.{bus_placing};
 ghost use Rattle.pci_settle_places.specs.Places.{IsPlacesPart, place_range_in, AreEndingAt, NotesOf, AreNotable};
@@ -15,7 +15,7 @@ use crate::bus::BusPlaces;
 use crate::candidate::Candidate;
 use pci_base::range::Range;
 use pci_base::window_kind::{ByKind, WindowKind};
-use pci_settle::item::Part;
+use pci_first_fit::item::Part;
 use std::alloc::Allocator;
 
 /// The addresses of a function's parts; None for what isn't placed.

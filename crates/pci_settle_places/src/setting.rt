@@ -3,8 +3,8 @@ use crate::candidate::SpaceWindows;
 use crate::staying::Staying;
 use pci_base::slot::BUSES;
 use pci_base::space::Space;
+use pci_first_fit::own::Terms;
 use pci_place::above::Above;
-use pci_settle::own::Terms;
 use pci_tree::admitted::Admitted;
 use std::alloc::Allocator;
 

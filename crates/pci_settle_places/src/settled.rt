@@ -16,9 +16,9 @@ use crate::write::write;
 use pci_base::image::Image;
 use pci_base::offset::COMMAND;
 use pci_base::space::Space;
+use pci_first_fit::own::Terms;
 use pci_function::record::Record;
 use pci_place::above::Above;
-use pci_settle::own::Terms;
 
 /// Whether something live is behind a function.
 #[derive(Clone, Copy, Debug)]

@@ -1,8 +1,8 @@
 //! What stays where it is, while all else is placed.
 use crate::stretch::Stretch;
+use pci_first_fit::lines::Line;
+use pci_first_fit::over::Left;
 use pci_kept::held::Held;
-use pci_settle::lines::Line;
-use pci_settle::over::Left;
 
 /// What stays where it is.
 #[derive(Clone, Copy, Debug)]

@@ -3,15 +3,15 @@
 ghost use Rattle.std.specs.Prelude.{◌≡◌, ◌++◌, ◌⊎◌, List, IfOk, OnOk, IsFalse, map};
 ghost use Rattle.std.specs.List.{All, filter};
 ghost use Rattle.pci_base.specs.Ranges.{decoded_range_of};
-ghost use Rattle.pci_settle.specs.Lines.{line_range};
+ghost use Rattle.pci_first_fit.specs.Lines.{line_range};
 ghost use Rattle.pci_settle_places.specs.Stretches.{IsCoveredBy, AreStretches, is_row_behind, IsElsewhere, IsFar, AreSought};
 
 use pci_base::memory::OutOfMemory;
 use pci_base::range::Range;
 use pci_base::space::Space;
+use pci_first_fit::lines::Line;
+use pci_first_fit::list::are_apart;
 use pci_function::record::Bridge;
-use pci_settle::lines::Line;
-use pci_settle::list::are_apart;
 use std::alloc::Allocator;
 
 /// The most rows of a stretch.

@@ -11,10 +11,10 @@ use crate::places::Places;
 use pci_base::range::Range;
 use pci_base::space::Space;
 use pci_base::window_kind::WindowKind;
+use pci_first_fit::kept::Kept;
+use pci_first_fit::over::open_range;
+use pci_first_fit::table::WindowRanges;
 use pci_function::record::Bridge;
-use pci_settle::kept::Kept;
-use pci_settle::over::open_range;
-use pci_settle::table::WindowRanges;
 
 /// How the windows of a bridge stay.
 #[derive(Clone, Copy, Debug)]

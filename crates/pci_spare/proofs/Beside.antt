@@ -13,8 +13,8 @@ use Rattle.settle_spec.specs.Kept.{Kept}
 use Rattle.settle_spec.specs.Wishes.{there_then, taken_then}
 use Rattle.pci_base.specs.declared.range.Range.{Range}
 use Rattle.pci_base.specs.Ranges.{decoded_range_of}
-use Rattle.pci_settle.specs.Lines.{AreLines, AreAdded}
-use Rattle.pci_settle.proofs.Rows.{added_on}
+use Rattle.pci_first_fit.specs.Lines.{AreLines, AreAdded}
+use Rattle.pci_first_fit.proofs.Rows.{added_on}
 use Rattle.pci_tree.specs.Roots.{buses_of}
 use Rattle.pci_spare.specs.declared.board.Board.{Board}
 use Rattle.pci_spare.specs.Rows.{total, HasRanges, level, row_number, row_at}

@@ -27,9 +27,9 @@ use Rattle.pci_place.proofs.Records.{function_read, same_count}
 use Rattle.pci_spare.specs.declared.board.Board.{Board}
 use Rattle.pci_spare.specs.declared.board.BridgeWindow.{BridgeWindow}
 use Rattle.pci_spare.specs.declared.board.Facts.{Facts}
-use Rattle.pci_settle.specs.NewWindows.{highest_by}
+use Rattle.pci_first_fit.specs.NewWindows.{highest_by}
 use Rattle.pci_spare.specs.Board.{IsAsked, bridge_of, class_of, AreFacts, IsOver}
-use Rattle.pci_settle.proofs.Highest.{highest_is}
+use Rattle.pci_first_fit.proofs.Highest.{highest_is}
 
 -- what stands at an index
 pub item_at : {X : Type 0} (xs : List X) (k : ℕ) → k < length xs → (x : X) × (x ≡ get_or xs k x)

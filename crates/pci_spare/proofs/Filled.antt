@@ -26,9 +26,9 @@ use Rattle.pci_base.specs.Ranges.{decoded_range_of}
 use Rattle.pci_base.specs.Space.{space_of}
 use Rattle.pci_spare.specs.declared.board.Board.{Board}
 use Rattle.pci_spare.specs.declared.fill.Located.{Located}
-use Rattle.pci_settle.specs.Spots.{FirstsRise}
+use Rattle.pci_first_fit.specs.Spots.{FirstsRise}
 use Rattle.pci_spare.specs.Rows.{level, row_number, row_at, total, AreSameBut}
-use Rattle.pci_settle.specs.Tables.{untold, told, AreUntold}
+use Rattle.pci_first_fit.specs.Tables.{untold, told, AreUntold}
 use Rattle.pci_spare.specs.Board.{IsAsked, bridge_of, class_of, IsTold}
 use Rattle.pci_spare.specs.Located.{located_weight, located_total, told_weight, function_weight, windows_total, ArePut, IsPushed, AreSorted, AreOwn, AreWindowsThen}
 use Rattle.pci_spare.proofs.Walks.{nothing_left}

@@ -14,8 +14,8 @@ use Rattle.pci_place.specs.Items.{no_function, function_in}
 use Rattle.pci_spare.specs.declared.board.Board.{Board}
 use Rattle.pci_spare.specs.declared.board.BridgeWindow.{BridgeWindow}
 use Rattle.pci_spare.specs.declared.board.Facts.{Facts}
-use Rattle.pci_settle.specs.declared.extent.Extent.{Extent}
-use Rattle.pci_settle.specs.Spots.{extent_value}
+use Rattle.pci_first_fit.specs.declared.extent.Extent.{Extent}
+use Rattle.pci_first_fit.specs.Spots.{extent_value}
 use Rattle.pci_spare.specs.Board.{bridge_of, class_of, Room, IsTold, AreFacts}
 use Rattle.pci_spare.specs.Endings.{IsSparedAs}
 use Rattle.pci_spare.proofs.Walks.{nothing_left}

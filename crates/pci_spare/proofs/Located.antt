@@ -28,7 +28,7 @@ use Rattle.pci_place.specs.Items.{function_in, no_function}
 use Rattle.pci_spare.specs.declared.board.BridgeWindow.{BridgeWindow}
 use Rattle.pci_spare.specs.declared.fill.Located.{Located}
 use Rattle.pci_spare.specs.Rows.{level, row_number}
-use Rattle.pci_settle.specs.Tables.{told}
+use Rattle.pci_first_fit.specs.Tables.{told}
 use Rattle.pci_spare.specs.Board.{IsWindow}
 use Rattle.pci_spare.specs.Located.{located_total, told_weight, window_weight, function_weight, windows_total, own_then, AreOwn, AreWindowsThen}
 use Rattle.pci_spare.proofs.Told.{same_row, other_row}

@@ -6,9 +6,9 @@ use Rattle.std.proofs.lemmas.List.{with_items_is, get_or-map, get_or-set_same, g
 use Rattle.pci_base.specs.declared.range.Range.{Range}
 use Rattle.pci_base.specs.declared.window_kind.WindowKind.{WindowKind}
 use Rattle.pci_base.specs.declared.window_kind.ByKind.{ByKind}
-use Rattle.pci_settle.specs.Tables.{TellsSame}
+use Rattle.pci_first_fit.specs.Tables.{TellsSame}
 use Rattle.pci_spare.specs.Rows.{row_at, AreSameBut, IsEndedIn, IsAddedTo, LastsRise}
-use Rattle.pci_settle.specs.Spots.{FirstsRise}
+use Rattle.pci_first_fit.specs.Spots.{FirstsRise}
 
 module _ {A : Type 0} (rows : List (Vec Range A)) (n : ℕ) where
   abbrev items_of : Vec Range A → List Range

@@ -25,10 +25,10 @@ use Rattle.pci_tree.specs.Roots.{buses_of}
 use Rattle.pci_spare.specs.declared.board.Board.{Board}
 use Rattle.pci_spare.specs.declared.board.BridgeWindow.{BridgeWindow}
 use Rattle.pci_spare.specs.declared.board.Facts.{Facts}
-use Rattle.pci_settle.specs.declared.extent.Extent.{Extent}
-use Rattle.pci_settle.specs.Lists.{lists_value}
+use Rattle.pci_first_fit.specs.declared.extent.Extent.{Extent}
+use Rattle.pci_first_fit.specs.Lists.{lists_value}
 use Rattle.pci_spare.specs.Lists.{ranges_had}
-use Rattle.pci_settle.specs.Spots.{extent_value, extent_range, IsExtent}
+use Rattle.pci_first_fit.specs.Spots.{extent_value, extent_range, IsExtent}
 use Rattle.pci_spare.specs.Rows.{level, row_number, HasRanges}
 use Rattle.pci_spare.specs.Board.{IsWindow, bridge_of, class_of, AreFacts, Room, told_then, IsTold, IsOpened}
 use Rattle.pci_spare.specs.Endings.{IsEndedAs, IsSparedAs, IsSparedIn, IsSparedOnRoot, IsOverOne}

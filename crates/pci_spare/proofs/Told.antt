@@ -25,7 +25,7 @@ use Rattle.pci_base.specs.WindowKinds.{kind_value}
 use Rattle.pci_place.specs.Items.{no_function, function_in}
 use Rattle.pci_spare.specs.declared.board.Board.{Board}
 use Rattle.pci_spare.specs.declared.board.BridgeWindow.{BridgeWindow}
-use Rattle.pci_settle.specs.Tables.{told, TellsSame}
+use Rattle.pci_first_fit.specs.Tables.{told, TellsSame}
 use Rattle.pci_spare.specs.Rows.{total, HasRanges, level, row_number, row_at, AreSameBut}
 use Rattle.pci_spare.specs.Board.{IsWindow, bridge_of, class_of, Room, told_then, IsTold, IsEnded, IsOpened}
 use Rattle.pci_spare.proofs.Wishing.{placed_with, wished_at, wished_other, range_other}

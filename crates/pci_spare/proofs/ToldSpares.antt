@@ -8,7 +8,7 @@ use Rattle.settle_spec.specs.Lists.{wanted_in}
 use Rattle.settle_spec.specs.Spares.{spare_extent}
 use Rattle.settle_spec.specs.Items.{highest_in}
 use Rattle.pci_base.specs.WindowKinds.{by_kind}
-use Rattle.pci_settle.specs.declared.extent.Extent.{Extent}
+use Rattle.pci_first_fit.specs.declared.extent.Extent.{Extent}
 use Rattle.pci_spare.specs.Board.{bridge_of, class_of}
 use Rattle.pci_spare.specs.Granting.{spare_up_to, SparesAreTold}
 

@@ -6,8 +6,8 @@ use Rattle.pci_spec.specs.Decoded.{Range}
 use Rattle.settle_spec.specs.FirstPlace.{Extent, first_place, first_place_in, else_at}
 use Rattle.settle_spec.specs.Lists as lists
 use Rattle.pci_base.specs.declared.range.RootRange.{RootRange}
-use Rattle.pci_settle.specs.Lists.{root_range_value}
-use Rattle.pci_settle.proofs.Walks.{no_range, left_next, left_none}
+use Rattle.pci_first_fit.specs.Lists.{root_range_value}
+use Rattle.pci_first_fit.proofs.Walks.{no_range, left_next, left_none}
 use Rattle.pci_spare.specs.Lists.{ranges_had, place_had}
 
 module _ (bus : ℕ) (taken : List Range) (e : Extent) where

@@ -25,11 +25,11 @@ use Rattle.pci_spare.specs.declared.board.Board.{Board}
 use Rattle.pci_spare.specs.declared.board.BridgeWindow.{BridgeWindow}
 use Rattle.pci_spare.specs.declared.board.Facts.{Facts}
 use Rattle.pci_spare.specs.declared.room.Room.{Room as CodeRoom}
-use Rattle.pci_settle.specs.Lists.{lists_value}
-use Rattle.pci_settle.specs.Lines.{AreLines}
+use Rattle.pci_first_fit.specs.Lists.{lists_value}
+use Rattle.pci_first_fit.specs.Lines.{AreLines}
 use Rattle.pci_spare.specs.Rows.{level, row_number, row_at, HasRanges, AreSameBut, IsEndedIn, IsAddedTo, LastsRise}
-use Rattle.pci_settle.specs.Spots.{FirstsRise}
-use Rattle.pci_settle.specs.Tables.{told, TellsSame}
+use Rattle.pci_first_fit.specs.Spots.{FirstsRise}
+use Rattle.pci_first_fit.specs.Tables.{told, TellsSame}
 
 -- a lawful system with these records, and what is asked of it
 pub record IsAsked (q : Request) (s : System) (b : Board) : Type 0 where

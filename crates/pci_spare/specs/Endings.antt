@@ -15,12 +15,12 @@ use Rattle.pci_spare.specs.declared.board.Board.{Board}
 use Rattle.pci_spare.specs.declared.board.BridgeWindow.{BridgeWindow}
 use Rattle.pci_base.specs.declared.range.Range.{Range as CodeRange}
 use Rattle.pci_base.specs.Ranges.{decoded_range_of}
-use Rattle.pci_settle.specs.declared.extent.Extent.{Extent}
+use Rattle.pci_first_fit.specs.declared.extent.Extent.{Extent}
 use Rattle.pci_spare.specs.declared.board.Facts.{Facts}
 use Rattle.pci_spare.specs.declared.ending.Around.{Around}
 use Rattle.pci_spare.specs.declared.ending.Around.TheVariants.{Nothing, Lists, Window}
-use Rattle.pci_settle.specs.Spots.{extent_value}
-use Rattle.pci_settle.specs.Lists.{lists_value}
+use Rattle.pci_first_fit.specs.Spots.{extent_value}
+use Rattle.pci_first_fit.specs.Lists.{lists_value}
 use Rattle.pci_spare.specs.Lists.{ranges_had}
 use Rattle.pci_spare.specs.Rows.{HasRanges}
 use Rattle.pci_spare.specs.Board.{IsWindow, class_of, bridge_of, Room, IsTold}

@@ -20,9 +20,9 @@ use Rattle.pci_base.specs.Ranges.{decoded_range_of}
 use Rattle.pci_base.specs.Space.{space_of}
 use Rattle.pci_spare.specs.declared.board.BridgeWindow.{BridgeWindow}
 use Rattle.pci_spare.specs.declared.fill.Located.{Located}
-use Rattle.pci_settle.specs.Spots.{FirstsRise}
+use Rattle.pci_first_fit.specs.Spots.{FirstsRise}
 use Rattle.pci_spare.specs.Rows.{level, row_number, row_at, total, IsAddedTo, AreSameBut}
-use Rattle.pci_settle.specs.Tables.{told}
+use Rattle.pci_first_fit.specs.Tables.{told}
 use Rattle.pci_spare.specs.Board.{IsWindow, bridge_of, class_of}
 
 -- what a part weighs in a row: nothing in another one

@@ -6,7 +6,7 @@ use Rattle.pci_spec.specs.System.{Space, Io, Memory}
 use Rattle.pci_spec.specs.Bus.{is_root}
 use Rattle.pci_base.specs.declared.range.Range.{Range}
 use Rattle.pci_base.specs.Ranges.{decoded_range_of}
-use Rattle.pci_settle.specs.Spots.{FirstsRise}
+use Rattle.pci_first_fit.specs.Spots.{FirstsRise}
 
 -- the weight of all ranges of a row, whatever each of them weighs
 abbrev pub total : (DecodedRange → ℕ) → List Range → ℕ

@@ -7,11 +7,11 @@ ghost use Rattle.pci_spare.specs.Board.{IsAsked, bridge_of, class_of, HasFacts, 
 
 use pci_base::slot::BUSES;
 use pci_base::window_kind::WindowKind;
+use pci_first_fit::lines::Line;
+use pci_first_fit::list::Lists;
+use pci_first_fit::new_window::highest_in;
+use pci_first_fit::table::WindowRanges;
 use pci_function::record::Record;
-use pci_settle::lines::Line;
-use pci_settle::list::Lists;
-use pci_settle::new_window::highest_in;
-use pci_settle::table::WindowRanges;
 use pci_tree::roots::Roots;
 
 /// The functions of a system, and what is asked of it.

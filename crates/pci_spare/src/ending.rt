@@ -12,8 +12,8 @@ ghost use Rattle.pci_tree.specs.Roots.{buses_of};
 ghost use Rattle.pci_tree.specs.Ways.{IsBridgeToBus};
 ghost use Rattle.pci_spare.specs.Rows.{level, row_number, row_at};
 ghost use Rattle.pci_spare.specs.Board.{room_value, IsAsked, IsWindow, AreFacts, bridge_of, class_of, AreRising, IsRoom, IsTold};
-ghost use Rattle.pci_settle.specs.Lines.{AreLineRows};
-ghost use Rattle.pci_settle.specs.Spots.{FirstsRise};
+ghost use Rattle.pci_first_fit.specs.Lines.{AreLineRows};
+ghost use Rattle.pci_first_fit.specs.Spots.{FirstsRise};
 ghost use Rattle.pci_spare.specs.Endings.{IsEndedAs, IsAround, IsAroundIn};
 
 use crate::board::{Board, BridgeWindow, Facts};
@@ -23,8 +23,8 @@ use crate::row::{is_free_to, level, row};
 use pci_base::range::Range;
 use pci_base::space::Space;
 use pci_base::window_kind::WindowKind;
-use pci_settle::lines::is_off_lines;
-use pci_settle::list::is_root;
+use pci_first_fit::lines::is_off_lines;
+use pci_first_fit::list::is_root;
 use std::alloc::Allocator;
 
 /// What is around a window.

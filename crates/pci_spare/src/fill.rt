@@ -17,8 +17,8 @@ use pci_base::memory::OutOfMemory;
 use pci_base::range::Range;
 use pci_base::space::Space;
 use pci_base::window_kind::WindowKind;
-use pci_settle::spot::sort_by_first;
-use pci_settle::table::{nothing_told, told_of};
+use pci_first_fit::spot::sort_by_first;
+use pci_first_fit::table::{nothing_told, told_of};
 use pci_tree::roots::Roots;
 use std::alloc::Allocator;
 

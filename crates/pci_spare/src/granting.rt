@@ -8,7 +8,7 @@ ghost use Rattle.settle_spec.specs.Lists.{Request};
 ghost use Rattle.settle_spec.specs.Kept.{Kept};
 ghost use Rattle.settle_spec.specs.Wishes.{Granted, with_spare_of, with_spares_of, granted};
 ghost use Rattle.pci_place.specs.Items.{function_in};
-ghost use Rattle.pci_settle.specs.Lines.{AreLineRows};
+ghost use Rattle.pci_first_fit.specs.Lines.{AreLineRows};
 ghost use Rattle.pci_tree.specs.Ways.{IsBridgeToBus};
 ghost use Rattle.pci_spare.specs.Board.{room_value, class_of, bridge_of, IsRoom, IsTold};
 ghost use Rattle.pci_spare.specs.Granting.{spare_in, AreExtents, AreSpares, AreGranted, SparesAreTold};
@@ -18,7 +18,7 @@ use crate::room::Room;
 use crate::sparing::{DEPTH, Sought, spared};
 use pci_base::memory::OutOfMemory;
 use pci_base::window_kind::{ByKind, WindowKind};
-use pci_settle::extent::Extent;
+use pci_first_fit::extent::Extent;
 use std::alloc::Allocator;
 
 /// What is wanted behind slots.

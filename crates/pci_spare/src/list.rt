@@ -3,14 +3,14 @@ ghost use Rattle.std.specs.Prelude.{◌≡◌, ◌<◌, ◌^◌, map, IfSome};
 ghost use Rattle.plan_spec.specs.Place.{range_from};
 ghost use Rattle.settle_spec.specs.FirstPlace.{first_place as place_in_ranges};
 ghost use Rattle.pci_base.specs.Ranges.{decoded_range_of};
-ghost use Rattle.pci_settle.specs.Lists.{root_range_value};
-ghost use Rattle.pci_settle.specs.Spots.{extent_value, IsExtent, FirstsRise};
+ghost use Rattle.pci_first_fit.specs.Lists.{root_range_value};
+ghost use Rattle.pci_first_fit.specs.Spots.{extent_value, IsExtent, FirstsRise};
 ghost use Rattle.pci_spare.specs.Lists.{ranges_had, place_had};
 
 use pci_base::range::{Range, RootRange};
-use pci_settle::extent::Extent;
-use pci_settle::list::is_had_by;
-use pci_settle::spot::place_in;
+use pci_first_fit::extent::Extent;
+use pci_first_fit::list::is_had_by;
+use pci_first_fit::spot::place_in;
 
 /// The first place in a range, where a root has it.
 fn place_had(one: RootRange, bus: u8, taken: &[Range], extent: Extent) -> Option<u64>

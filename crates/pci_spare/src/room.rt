@@ -2,13 +2,13 @@
 ghost use Rattle.std.specs.Prelude.{◌≡◌, ◌<◌, ℕ, false, OnOk, length, slice_index_or};
 ghost use Rattle.pci_spare.specs.Board.{room_value, told_then, IsRoom, IsEnded, IsOpened};
 ghost use Rattle.pci_spare.specs.Rows.{row_at};
-ghost use Rattle.pci_settle.specs.Spots.{FirstsRise};
+ghost use Rattle.pci_first_fit.specs.Spots.{FirstsRise};
 
 use crate::board::BridgeWindow;
 use crate::row::{add, end_later, lasts_rise, note};
 use pci_base::memory::OutOfMemory;
 use pci_base::range::Range;
-use pci_settle::table::{WindowRanges, tell, told_of};
+use pci_first_fit::table::{WindowRanges, tell, told_of};
 use std::alloc::Allocator;
 
 /// What is there, and the windows in which room is kept free.

@@ -7,12 +7,12 @@ ghost use Rattle.pci_base.specs.Ranges.{decoded_range_of};
 ghost use Rattle.pci_base.specs.Space.{space_of};
 ghost use Rattle.pci_tree.specs.Roots.{buses_of};
 ghost use Rattle.pci_spare.specs.Rows.{level, row_number, IsEndedIn, IsAddedTo, LastsRise};
-ghost use Rattle.pci_settle.specs.Spots.{FirstsRise};
+ghost use Rattle.pci_first_fit.specs.Spots.{FirstsRise};
 
 use pci_base::memory::OutOfMemory;
 use pci_base::range::Range;
 use pci_base::space::Space;
-use pci_settle::list::is_root;
+use pci_first_fit::list::is_root;
 use pci_tree::roots::Roots;
 use std::alloc::Allocator;
 

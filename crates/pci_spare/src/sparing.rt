@@ -13,8 +13,8 @@ ghost use Rattle.pci_base.specs.Ranges.{decoded_range_of};
 ghost use Rattle.pci_base.specs.WindowKinds.{kind_value};
 ghost use Rattle.pci_tree.specs.Ways.{IsBridgeToBus};
 ghost use Rattle.pci_spare.specs.Rows.{row_at, HasRanges};
-ghost use Rattle.pci_settle.specs.Lines.{AreLineRows};
-ghost use Rattle.pci_settle.specs.Spots.{extent_value, extent_range, IsExtent, FirstsRise};
+ghost use Rattle.pci_first_fit.specs.Lines.{AreLineRows};
+ghost use Rattle.pci_first_fit.specs.Spots.{extent_value, extent_range, IsExtent, FirstsRise};
 ghost use Rattle.pci_spare.specs.Board.{room_value, told_then, IsAsked, IsWindow, AreFacts, bridge_of, class_of, IsRoom, IsTold, IsOpened};
 ghost use Rattle.pci_spare.specs.Endings.{IsSparedAs, IsSpotBelow, IsTakenOn, IsSpotBeside, IsPlaceBeside, IsSparedOnRoot, IsSparedIn};
 
@@ -27,10 +27,10 @@ use pci_base::memory::OutOfMemory;
 use pci_base::range::Range;
 use pci_base::space::Space;
 use pci_base::window_kind::WindowKind;
-use pci_settle::extent::Extent;
-use pci_settle::lines::{add_lines_behind, add_lines_on};
-use pci_settle::list::is_root;
-use pci_settle::spot::{first_spot, sort_by_first};
+use pci_first_fit::extent::Extent;
+use pci_first_fit::lines::{add_lines_behind, add_lines_on};
+use pci_first_fit::list::is_root;
+use pci_first_fit::spot::{first_spot, sort_by_first};
 use std::alloc::Allocator;
 
 /// Buses rise on the way down, so no more of them are above one another.

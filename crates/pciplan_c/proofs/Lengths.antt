@@ -16,9 +16,9 @@ use Rattle.pci_check.specs.Audits.{outcome_line}
 use Rattle.pci_check.specs.declared.outcome.Outcome.{Outcome}
 use Rattle.pci_check.specs.declared.outcome.Outcome.TheVariants.{Yes, No}
 use Rattle.pci_plan.specs.Plans.{plan_fault_of}
-use Rattle.pci_settle_writes.specs.FaultText.{hex_text, sizes_text, class_part_text, settle_fault_text}
-use Rattle.pci_settle_writes.specs.declared.lack.SettleFault.{SettleFault}
-use Rattle.pci_settle_writes.specs.declared.lack.SettleFault.TheVariants as settle
+use Rattle.pci_settle.specs.FaultText.{hex_text, sizes_text, class_part_text, settle_fault_text}
+use Rattle.pci_settle.specs.declared.lack.SettleFault.{SettleFault}
+use Rattle.pci_settle.specs.declared.lack.SettleFault.TheVariants as settle
 pub use Rattle.pciplan_held.proofs.Lengths.{refusal_short}
 use Rattle.pciplan_held.proofs.Lengths.{ended, fault_short, line_length, unread_short}
 use Rattle.pciplan_c.specs.FaultsWords.{faults_word_text}

@@ -9,12 +9,12 @@ use Rattle.pci_given.specs.Every.{AreReady}
 use Rattle.pci_tree.specs.Admission.{Admission, IsAdmitted}
 use Rattle.pci_place.specs.Above.{system_in}
 use Rattle.pci_plan.specs.Writes.{write_value}
-use Rattle.pci_settle_writes.specs.Denied.{denied_value, IsSpared}
-use Rattle.pci_settle_writes.specs.Endings.{IsRefusal}
-use Rattle.pci_settle_writes.specs.Requests.{request}
-use Rattle.pci_settle_writes.specs.declared.lack.SettleFault.{SettleFault}
-use Rattle.pci_settle_writes.specs.declared.settle.Denied.{Denied}
-use Rattle.pci_settle_writes.specs.declared.settle.Settled.{Settled as SettledOfCode}
+use Rattle.pci_settle.specs.Denied.{denied_value, IsSpared}
+use Rattle.pci_settle.specs.Endings.{IsRefusal}
+use Rattle.pci_settle.specs.Requests.{request}
+use Rattle.pci_settle.specs.declared.lack.SettleFault.{SettleFault}
+use Rattle.pci_settle.specs.declared.settle.Denied.{Denied}
+use Rattle.pci_settle.specs.declared.settle.Settled.{Settled as SettledOfCode}
 use Rattle.pciplan_held.specs.RegisterWrites.{write_value_of}
 use Rattle.pciplan_tasks.specs.SettleAnswers.{IsReadyAsTold}
 use Rattle.pciplan_held.specs.Texts.{AreTexts, IsUnreadOf}

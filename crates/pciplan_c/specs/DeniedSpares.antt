@@ -1,8 +1,8 @@
 -- Windows whose spares have no room in an array of C's.
 use Rattle.std.specs.Prelude.{◌≡◌, ℕ, List, length, map}
 use Rattle.pci_spec.specs.Slot.{Slot}
-use Rattle.pci_settle_writes.specs.Denied.{denied_value}
-use Rattle.pci_settle_writes.specs.declared.settle.Denied.{Denied}
+use Rattle.pci_settle.specs.Denied.{denied_value}
+use Rattle.pci_settle.specs.declared.settle.Denied.{Denied}
 use Rattle.pciplan_held.specs.Puts.{IsPutInto}
 use Rattle.pciplan_c.specs.declared.denied_spare.DeniedSpare.{DeniedSpare}
 

@@ -3,9 +3,9 @@ use Rattle.std.specs.Prelude.{ℕ, List, [], ◌∷◌, ◌++◌, codes}
 use Rattle.pci_spec.specs.Line.{field}
 use Rattle.plan_spec.specs.PlanLine.{plan_fault_text}
 use Rattle.pci_plan.specs.Plans.{plan_fault_of}
-use Rattle.pci_settle_writes.specs.FaultText.{settle_fault_text}
-use Rattle.pci_settle_writes.specs.declared.lack.SettleFault.{SettleFault}
-use Rattle.pci_settle_writes.specs.declared.lack.SettleFault.TheVariants as settle
+use Rattle.pci_settle.specs.FaultText.{settle_fault_text}
+use Rattle.pci_settle.specs.declared.lack.SettleFault.{SettleFault}
+use Rattle.pci_settle.specs.declared.lack.SettleFault.TheVariants as settle
 use Rattle.pci_dump.specs.ReadFault.{read_fault_text}
 use Rattle.pciplan_held.specs.Refusals.{read_fault_line}
 use Rattle.pciplan_held.specs.Texts.{unread_line, unread_status, unread_text}

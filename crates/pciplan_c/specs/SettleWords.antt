@@ -10,9 +10,9 @@ use Rattle.pci_base.specs.declared.memory.Refused.{Refused}
 use Rattle.pci_base.specs.declared.memory.Refused.TheVariants as refused
 use Rattle.pci_base.specs.declared.range.RootRange.{RootRange}
 use Rattle.pci_base.specs.declared.window_kind.ByKind.{ByKind}
-use Rattle.pci_settle.specs.Lists.{root_range_value}
-use Rattle.pci_settle.specs.Slots.{Demand}
-use Rattle.pci_settle_writes.specs.Requests.{request}
+use Rattle.pci_first_fit.specs.Lists.{root_range_value}
+use Rattle.pci_first_fit.specs.Slots.{Demand}
+use Rattle.pci_settle.specs.Requests.{request}
 use Rattle.pciplan_lists.specs.ListWords.{HasRanges, IsListWord}
 use Rattle.pciplan_lists.specs.SlotWords.{IsSlotList as SpellsSlots, IsSlotListWord}
 use Rattle.pciplan_lists.specs.SpareWords.{IsSpareWord}

@@ -1,9 +1,9 @@
 //! Windows whose spares have no room, as C has them.
 ghost use Rattle.std.specs.Prelude.{◌≡◌, ◌≤◌, length};
-ghost use Rattle.pci_settle_writes.specs.Denied.{denied_value};
+ghost use Rattle.pci_settle.specs.Denied.{denied_value};
 ghost use Rattle.pciplan_c.specs.DeniedSpares.{AreDeniedPut, denied_value_of};
 
-use pci_settle_writes::settle::Denied;
+use pci_settle::settle::Denied;
 
 /// A window of a bridge in which the spare that is wanted has no room, by the byte offset of its first register: 1ch of I/O,
 /// 20h of memory, 24h of prefetchable memory.

@@ -7,7 +7,7 @@ use crate::settle_words::SettleWord;
 use crate::unready::Unready;
 use pci_dump::read_fault::ReadFault;
 use pci_plan::plan_fault::PlanFault;
-use pci_settle_writes::lack::SettleFault;
+use pci_settle::lack::SettleFault;
 use pciplan_held::refusal::Refusal;
 use pciplan_held::unread::Unread;
 use std::fmt;

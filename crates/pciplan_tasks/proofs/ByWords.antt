@@ -31,12 +31,12 @@ use Rattle.judge_spec.specs.Told.{IsTold, ToldRange}
 use Rattle.pci_model_settle.proofs.BridgesBySlot.{legacy_by_slot, palette_by_slot}
 use Rattle.pci_plan.specs.Writes.{is_two_or_four, write_value}
 use Rattle.pci_plan.specs.declared.write.Write.{Write as CodeWrite}
-use Rattle.pci_settle.specs.Slots.{Demand}
-use Rattle.pci_settle_writes.specs.Denied.{IsSpared}
-use Rattle.pci_settle_writes.specs.Endings.{IsRefusal, HasNoAssumed}
-use Rattle.pci_settle_writes.specs.FaultText.{settle_fault_text}
-use Rattle.pci_settle_writes.specs.Requests.{request}
-use Rattle.pci_settle_writes.specs.declared.lack.SettleFault.{SettleFault}
+use Rattle.pci_first_fit.specs.Slots.{Demand}
+use Rattle.pci_settle.specs.Denied.{IsSpared}
+use Rattle.pci_settle.specs.Endings.{IsRefusal, HasNoAssumed}
+use Rattle.pci_settle.specs.FaultText.{settle_fault_text}
+use Rattle.pci_settle.specs.Requests.{request}
+use Rattle.pci_settle.specs.declared.lack.SettleFault.{SettleFault}
 use Rattle.pci_tree.specs.Admission.{Admission, IsAdmitted}
 use Rattle.pci_tree.specs.Roots.{buses_of}
 use Rattle.pciplan_tasks.specs.Answers.{Answer, answer_of, done_with, fault_answer_line, refused}

@@ -13,12 +13,12 @@ use Rattle.judge_spec.specs.ToldFault.{Fault}
 use Rattle.settle_spec.specs.Sparing.{without_slots}
 use Rattle.pci_base.specs.declared.memory.Refused.TheVariants as refusal
 use Rattle.pci_given.specs.Every.{AreBefore}
-use Rattle.pci_settle.specs.Slots.{Demand}
-use Rattle.pci_settle_writes.specs.Requests.{request}
-use Rattle.pci_settle_writes.specs.Denied.{IsSpared}
-use Rattle.pci_settle_writes.specs.Endings.{IsRefusal, HasNoAssumed}
-use Rattle.pci_settle_writes.specs.FaultText.{settle_fault_text}
-use Rattle.pci_settle_writes.specs.declared.lack.SettleFault.{SettleFault}
+use Rattle.pci_first_fit.specs.Slots.{Demand}
+use Rattle.pci_settle.specs.Requests.{request}
+use Rattle.pci_settle.specs.Denied.{IsSpared}
+use Rattle.pci_settle.specs.Endings.{IsRefusal, HasNoAssumed}
+use Rattle.pci_settle.specs.FaultText.{settle_fault_text}
+use Rattle.pci_settle.specs.declared.lack.SettleFault.{SettleFault}
 use Rattle.pci_tree.specs.Admission.{Admission, IsAdmitted}
 use Rattle.pciplan_tasks.specs.Answers.{answer_of, done_with, fault_answer_line, refused}
 use Rattle.pciplan_tasks.specs.MapAnswers.{IsFirstLine}

@@ -13,16 +13,16 @@ use Rattle.judge_spec.specs.ToldClaims.{Told}
 use Rattle.judge_spec.specs.ToldFault.{Fault}
 use Rattle.settle_spec.specs.Lists.{Lists, Request}
 use Rattle.settle_spec.specs.Sparing.{without_slots}
-use Rattle.pci_settle.specs.Lists.{root_range_value}
-use Rattle.pci_settle.specs.Slots.{Demand}
+use Rattle.pci_first_fit.specs.Lists.{root_range_value}
+use Rattle.pci_first_fit.specs.Slots.{Demand}
 use Rattle.pci_base.specs.declared.memory.Refused.TheVariants as refused
 use Rattle.pci_given.specs.Every.{AreBefore, AreReady}
 use Rattle.pci_script.specs.Scripts.{script}
-use Rattle.pci_settle_writes.specs.Requests.{request}
-use Rattle.pci_settle_writes.specs.Denied.{IsSpared}
-use Rattle.pci_settle_writes.specs.Endings.{IsRefusal, HasNoAssumed}
-use Rattle.pci_settle_writes.specs.FaultText.{settle_fault_text}
-use Rattle.pci_settle_writes.specs.declared.lack.SettleFault.{SettleFault}
+use Rattle.pci_settle.specs.Requests.{request}
+use Rattle.pci_settle.specs.Denied.{IsSpared}
+use Rattle.pci_settle.specs.Endings.{IsRefusal, HasNoAssumed}
+use Rattle.pci_settle.specs.FaultText.{settle_fault_text}
+use Rattle.pci_settle.specs.declared.lack.SettleFault.{SettleFault}
 use Rattle.pci_tree.specs.Admission.{Admission, IsAdmitted}
 use Rattle.pci_tree.specs.Roots.{buses_of}
 use Rattle.pciplan_tasks.specs.Also.{ranges_told}

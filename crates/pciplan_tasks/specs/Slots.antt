@@ -6,7 +6,7 @@ use Rattle.pci_spec.specs.Slot.{Slot}
 use Rattle.pci_spec.specs.Text.{Block}
 use Rattle.settle_spec.specs.Lists.{Spares}
 use Rattle.pci_base.specs.declared.window_kind.ByKind.{ByKind}
-use Rattle.pci_settle.specs.Slots.{most_wanted}
+use Rattle.pci_first_fit.specs.Slots.{most_wanted}
 
 -- whether room is wanted at all
 abbrev pub is_room_wanted : ByKind ℕ → Bool

@@ -23,11 +23,11 @@ use Rattle.pci_model_settle.specs.OffDevices.{blocks_without, device_lines, left
 use Rattle.pci_model_settle.specs.Unmoved.{AreUnmoved}
 use Rattle.pci_model_settle.specs.declared.claim_lines.Origin.{Origin}
 use Rattle.pci_model_settle.specs.declared.claim_lines.Origin.TheVariants.{Bridge, Device, User}
-use Rattle.pci_settle_writes.specs.Endings.{IsRefusal}
-use Rattle.pci_settle_writes.specs.FaultText.{settle_fault_text}
-use Rattle.pci_settle_writes.specs.Requests.{request}
-use Rattle.pci_settle_writes.specs.declared.lack.SettleFault.{SettleFault}
-use Rattle.pci_settle_writes.specs.declared.lack.SettleFault.TheVariants.{Fixed, Told as ToldFault}
+use Rattle.pci_settle.specs.Endings.{IsRefusal}
+use Rattle.pci_settle.specs.FaultText.{settle_fault_text}
+use Rattle.pci_settle.specs.Requests.{request}
+use Rattle.pci_settle.specs.declared.lack.SettleFault.{SettleFault}
+use Rattle.pci_settle.specs.declared.lack.SettleFault.TheVariants.{Fixed, Told as ToldFault}
 use Rattle.pci_tree.specs.Admission.{IsAdmitted}
 use Rattle.pci_tree.specs.Roots.{buses_of}
 use Rattle.pciplan_tasks.specs.Also.{ranges_told}

@@ -2,15 +2,15 @@
 ghost use Rattle.std.specs.Prelude.{◌≡◌, IfOk};
 ghost use Rattle.std.specs.Option.{option_map};
 ghost use Rattle.number_spec.specs.Spare.{has_hot_plug_slot};
-ghost use Rattle.pci_settle.specs.Slots.{spares_value};
+ghost use Rattle.pci_first_fit.specs.Slots.{spares_value};
 ghost use Rattle.pciplan_tasks.specs.Slots.{is_room_wanted, slots_shown, slots_for, spares_said};
 
 use pci_base::memory::OutOfMemory;
 use pci_base::slot::Slot;
 use pci_base::window_kind::ByKind;
 use pci_dump::block::Block;
+use pci_first_fit::slots::Slots;
 use pci_number::hot_plug::has_hot_plug_slot;
-use pci_settle::slots::Slots;
 use std::alloc::Allocator;
 
 /// Whether room of some class is wanted.

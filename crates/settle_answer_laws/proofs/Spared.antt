@@ -17,7 +17,7 @@ use Rattle.settle_laws.specs.ToldSoundLaws.{CanAskTold}
 use Rattle.settle_laws.proofs.Told.Settling.{settled_can_settle, wishes_can}
 use Rattle.pci_tree.specs.Admission.{Admission}
 use Rattle.pci_place.specs.Above.{system_in}
-use Rattle.pci_settle_writes.specs.Denied.{IsSpared}
+use Rattle.pci_settle.specs.Denied.{IsSpared}
 use Rattle.settle_answer_laws.specs.SparedLaws.{CanBeAsked, SparedCanSettle, IsSettledSo, SparedIsSettled}
 
 pub can_be_asked : CanBeAsked

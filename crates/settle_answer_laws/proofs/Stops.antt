@@ -19,7 +19,7 @@ use Rattle.pci_model.specs.WordsValue.{words_value}
 use Rattle.pci_model_settle.specs.Listed.{blocks_after, listed_write}
 use Rattle.pci_model_settle.specs.OffDevices.{device_lines, functions_without, left_out}
 use Rattle.pci_place.specs.Above.{system_in}
-use Rattle.pci_settle_writes.specs.AsTold.{HasLines}
+use Rattle.pci_settle.specs.AsTold.{HasLines}
 use Rattle.pci_tree.specs.Admission.{Admission}
 use Rattle.settle_answer_laws.proofs.Spared.{can_be_asked, spared_is_settled}
 use Rattle.settle_answer_laws.specs.SparedLaws.{IsSettledSo}

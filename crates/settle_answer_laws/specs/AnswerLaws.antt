@@ -16,7 +16,7 @@ use Rattle.pci_model_settle.specs.ClaimLines.{Kept}
 use Rattle.pci_model_settle.specs.Listed.{blocks_after, listed_write}
 use Rattle.pci_model_settle.specs.OffDevices.{left_out}
 use Rattle.pci_model_settle.specs.Unmoved.{AreUnmoved}
-use Rattle.pci_settle_writes.specs.Endings.{HasLarge}
+use Rattle.pci_settle.specs.Endings.{HasLarge}
 use Rattle.pci_tree.specs.Admission.{Admission, IsAdmitted}
 use Rattle.pci_tree.specs.Roots.{buses_of}
 use Rattle.pciplan_tasks.specs.Answers.{Answer}

@@ -13,9 +13,9 @@ use Rattle.settle_laws.specs.SparingLaws.{sparing_closings}
 use Rattle.settle_laws.specs.ToldSoundLaws.{CanAskTold, CanSettleTold}
 use Rattle.pci_tree.specs.Admission.{Admission, IsAdmitted}
 use Rattle.pci_place.specs.Above.{system_in}
-use Rattle.pci_settle_writes.specs.AsTold.{HasLines}
-use Rattle.pci_settle_writes.specs.Denied.{IsSpared}
-use Rattle.pci_settle_writes.specs.Endings.{HasLarge}
+use Rattle.pci_settle.specs.AsTold.{HasLines}
+use Rattle.pci_settle.specs.Denied.{IsSpared}
+use Rattle.pci_settle.specs.Endings.{HasLarge}
 
 -- What is asked of an admitted dump: below its roots, in lists of 64 bits, with lines that are lawful, of which none is an orphan.
 pub record IsAskedLawfully (q : Request) (a : Admission) : Type 0 where

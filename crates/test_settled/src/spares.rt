@@ -2,10 +2,10 @@
 use crate::boards::{Listed, admitted, list_of};
 use pci_base::range::RootRange;
 use pci_base::slot::Slot;
-use pci_settle::list::Lists;
-use pci_settle::slots::Slots;
-use pci_settle::told::ToldRanges;
-use pci_settle_writes::settle::{Denied, Settled, settle};
+use pci_first_fit::list::Lists;
+use pci_first_fit::slots::Slots;
+use pci_first_fit::told::ToldRanges;
+use pci_settle::settle::{Denied, Settled, settle};
 use std::alloc::Global;
 use std::test::Fail;
 use test_support::row::Row;

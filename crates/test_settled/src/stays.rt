@@ -2,12 +2,12 @@
 use crate::boards::{Listed, admitted, list_of};
 use pci_base::range::RootRange;
 use pci_base::window_kind::WindowKind;
+use pci_first_fit::kept::Kept;
+use pci_first_fit::list::Lists;
+use pci_first_fit::slots::Slots;
+use pci_first_fit::told::ToldRanges;
 use pci_kept::rules::Rules;
 use pci_kept::staying::staying;
-use pci_settle::kept::Kept;
-use pci_settle::list::Lists;
-use pci_settle::slots::Slots;
-use pci_settle::told::ToldRanges;
 use pci_tree::admitted::Admitted;
 use std::alloc::Global;
 use std::test::Fail;

@@ -1,7 +1,7 @@
 use Rattle.std.proofs.Common.{rules, ltb}
 use Rattle.std.proofs.lemmas.Bool.{ltb-true, ltb-false}
 use Rattle.std.proofs.lemmas.List.Sorted.{IsPartitionPoint-from_clause, IsPartitionedBy-ltb}
-use Rattle.pci_settle.specs.Lines.{line_level}
+use Rattle.pci_first_fit.specs.Lines.{line_level}
 use Rattle.pci_grow.proofs.among.first_from.Goals as goal
 
 pub returns-clause-before : goal.returns-clause-before

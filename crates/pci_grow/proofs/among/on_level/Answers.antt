@@ -1,4 +1,4 @@
-use Rattle.pci_settle.proofs.Rows.{rows_within, no_rows}
+use Rattle.pci_first_fit.proofs.Rows.{rows_within, no_rows}
 use Rattle.pci_grow.proofs.RowSlices.{one_level, slice_ranges, none_ranges}
 use Rattle.pci_grow.proofs.among.on_level.Goals as goal
 

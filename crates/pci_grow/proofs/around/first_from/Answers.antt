@@ -2,7 +2,7 @@ use Rattle.std.proofs.Common.{rules, ltb}
 use Rattle.std.proofs.lemmas.Bool.{ltb-true, ltb-false}
 use Rattle.std.proofs.lemmas.List.Sorted.{IsPartitionPoint-from_clause, IsPartitionedBy-ltb}
 use Rattle.pci_base.specs.declared.range.Range.{Range}
-use Rattle.pci_settle.proofs.Inserted.{firsts_sorted}
+use Rattle.pci_first_fit.proofs.Inserted.{firsts_sorted}
 use Rattle.pci_grow.proofs.around.first_from.Goals as goal
 
 pub returns-clause-before : goal.returns-clause-before

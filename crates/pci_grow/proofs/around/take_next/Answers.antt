@@ -1,5 +1,5 @@
 use Rattle.std.proofs.Common.{subst, sym}
-use Rattle.pci_settle.specs.Spots.{IsBetweenTaken}
+use Rattle.pci_first_fit.specs.Spots.{IsBetweenTaken}
 use Rattle.pci_grow.specs.Arounds.{AreInOrder, IsSearch, IsBelowLast}
 use Rattle.pci_grow.proofs.Searches.{still_in_order, search_stays}
 use Rattle.pci_grow.proofs.around.take_next.Goals as goal

@@ -2,7 +2,7 @@ use Rattle.std.proofs.Common.{◌++◌, map, ap, sym, subst, ◌∙◌}
 use Rattle.std.specs.List.{Contains}
 use Rattle.settle_spec.specs.Growth.{place_around}
 use Rattle.pci_base.specs.Ranges.{decoded_range_of}
-use Rattle.pci_settle.specs.Spots.{extent_value, spot_place, IsBetweenTaken, FirstsRise}
+use Rattle.pci_first_fit.specs.Spots.{extent_value, spot_place, IsBetweenTaken, FirstsRise}
 use Rattle.pci_grow.specs.Arounds.{AreInOrder}
 use Rattle.pci_grow.specs.Grounds.{AreAlike}
 use Rattle.pci_grow.specs.Widest.{LiesInOne}

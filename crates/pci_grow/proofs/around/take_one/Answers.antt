@@ -1,7 +1,7 @@
 use Rattle.std.proofs.Common.{◌++◌, map, ap, sym, ◌∙◌}
 use Rattle.settle_spec.specs.Growth.{place_around}
 use Rattle.pci_base.specs.Ranges.{decoded_range_of}
-use Rattle.pci_settle.specs.Spots.{extent_value}
+use Rattle.pci_first_fit.specs.Spots.{extent_value}
 use Rattle.pci_grow.proofs.around.take_one.Goals as goal
 
 pub returns-clause-place : goal.returns-clause-place

@@ -1,7 +1,7 @@
 use Rattle.std.proofs.Common.{List, Option, sym, subst}
 use Rattle.pci_base.specs.WindowKinds.{kind_value}
-use Rattle.pci_settle.specs.declared.extent.Extent.{Extent}
-use Rattle.pci_settle.specs.Buses.{AreWindows, AreInTurn, classing_value, bus_listing}
+use Rattle.pci_first_fit.specs.declared.extent.Extent.{Extent}
+use Rattle.pci_first_fit.specs.Buses.{AreWindows, AreInTurn, classing_value, bus_listing}
 use Rattle.pci_grow.proofs.coming.items_behind.Goals as goal
 
 pub returns-clause-turn : goal.returns-clause-turn

@@ -1,8 +1,8 @@
 use Rattle.std.proofs.Common.{◌≡◌, length, map, arith, ap, sym, subst, ◌∙◌}
 use Rattle.std.specs.List.{All}
 use Rattle.pci_base.specs.WindowKinds.{kind_value}
-use Rattle.pci_settle.specs.Own.{asked_item_value}
-use Rattle.pci_settle.specs.Placings.{at_places}
+use Rattle.pci_first_fit.specs.Own.{asked_item_value}
+use Rattle.pci_first_fit.specs.Placings.{at_places}
 use Rattle.pci_kept.proofs.Whole.{slice_back}
 use Rattle.pci_grow.specs.Putting.{ArePutOver, HasItemPart}
 use Rattle.pci_grow.specs.There.{tables_of}

@@ -4,7 +4,7 @@ use Rattle.settle_spec.specs.Lines.{lines_on}
 use Rattle.pci_base.specs.Ranges.{decoded_range_of}
 use Rattle.pci_base.specs.Space.{space_of}
 use Rattle.pci_base.specs.WindowKinds.{kind_value}
-use Rattle.pci_settle.specs.Lines.{AreAdded}
+use Rattle.pci_first_fit.specs.Lines.{AreAdded}
 use Rattle.pci_grow.specs.Rows.{row_number}
 use Rattle.pci_grow.specs.Grounds.{AreAlike}
 use Rattle.pci_grow.specs.There.{tables_of, there_of, in_row}

@@ -1,5 +1,5 @@
 use Rattle.std.proofs.Common.{sym, subst}
-use Rattle.pci_settle.specs.Lines.{AreForwardRanges, AreAdded}
+use Rattle.pci_first_fit.specs.Lines.{AreForwardRanges, AreAdded}
 use Rattle.pci_grow.proofs.Behind.{forward_taken, forward_both, none_forward, taken_alike, taken_covered}
 use Rattle.pci_grow.proofs.ground.taken_for.Goals as goal
 

@@ -1,6 +1,6 @@
 use Rattle.std.proofs.Common.{◌⊎◌, ◌≡◌, None, false, refl, subst}
 use Rattle.std.specs.List.{All}
-use Rattle.pci_settle.specs.Slots.{demand_value}
+use Rattle.pci_first_fit.specs.Slots.{demand_value}
 use Rattle.pci_kept.proofs.Asked.{left_of}
 use Rattle.pci_grow.specs.Reaching.{reaching_value, tells_whole, TellsWhole}
 use Rattle.pci_grow.proofs.Growable.{can_grow, large_of}

@@ -7,9 +7,9 @@ use Rattle.settle_spec.specs.Growth.{takes, has_grown}
 use Rattle.settle_spec.specs.Kept.{is_kept}
 use Rattle.pci_place.specs.Above.{system_in}
 use Rattle.pci_place.proofs.Records.{lent, same_count}
-use Rattle.pci_settle.specs.Buses.{classing_value}
-use Rattle.pci_settle.specs.Lines.{AreLineRows}
-use Rattle.pci_settle.specs.Lists.{lists_value}
+use Rattle.pci_first_fit.specs.Buses.{classing_value}
+use Rattle.pci_first_fit.specs.Lines.{AreLineRows}
+use Rattle.pci_first_fit.specs.Lists.{lists_value}
 use Rattle.pci_kept.specs.Known.{AreParts}
 use Rattle.pci_kept.specs.Passing.{CanBeNoted, AreStanding}
 use Rattle.pci_kept.proofs.Whole.{ready, slice_back}

@@ -1,8 +1,8 @@
 use Rattle.std.proofs.Common.{None, sym, subst}
 use Rattle.std.specs.List.Sorted.{IsPermutation}
 use Rattle.std.proofs.lemmas.List.{get_or_default}
-use Rattle.pci_settle.specs.Lines.{AreForwardRanges}
-use Rattle.pci_settle.specs.Spots.{FirstsRise}
+use Rattle.pci_first_fit.specs.Lines.{AreForwardRanges}
+use Rattle.pci_first_fit.specs.Spots.{FirstsRise}
 use Rattle.pci_grow.proofs.KeptInOrder.{AreKeptOf, kept_none, kept_next, only_those, all_those, sorted_forward}
 use Rattle.pci_grow.proofs.in_order.in_order.Goals as goal
 

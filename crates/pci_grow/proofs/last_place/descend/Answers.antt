@@ -2,7 +2,7 @@
 use Rattle.std.proofs.Common.{◌+◌, ◌<◌, ◌^◌, IfNone, map, rules, subst, sym, arith}
 use Rattle.settle_spec.specs.FirstPlace.{HasNoPlace}
 use Rattle.pci_base.specs.Ranges.{decoded_range_of}
-use Rattle.pci_settle.specs.Spots.{extent_value}
+use Rattle.pci_first_fit.specs.Spots.{extent_value}
 use Rattle.pci_grow.specs.LastPlaces.{IsDescended}
 use Rattle.pci_grow.proofs.Late.{no_range, descend_before, descend_none, descend_past, descend_ends, descend_all}
 use Rattle.pci_grow.proofs.last_place.descend.Goals as goal

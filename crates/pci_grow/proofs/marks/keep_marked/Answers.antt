@@ -1,5 +1,5 @@
 use Rattle.std.proofs.Common.{arith}
-use Rattle.pci_settle.specs.Kept.{nothing_kept}
+use Rattle.pci_first_fit.specs.Kept.{nothing_kept}
 use Rattle.pci_grow.proofs.Marked.{IsKeptToo, none_done, one_done, all_kept}
 use Rattle.pci_grow.proofs.marks.keep_marked.Goals as goal
 

@@ -1,4 +1,4 @@
-use Rattle.pci_settle.specs.Kept.{nothing_kept}
+use Rattle.pci_first_fit.specs.Kept.{nothing_kept}
 use Rattle.pci_grow.proofs.Marked.{AreFirstDone, IsKeptToo}
 use Rattle.pci_grow.proofs.marks.keep_marked.Given as goal
 

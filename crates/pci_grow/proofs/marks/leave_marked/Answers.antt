@@ -1,7 +1,7 @@
 use Rattle.std.proofs.Common.{arith, ◌∙◌, ap, cond, get_or, None}
 use Rattle.pci_base.specs.WindowKinds.{by_kind}
-use Rattle.pci_settle.specs.Kept.{nothing_kept}
-use Rattle.pci_settle.specs.Tables.{untold}
+use Rattle.pci_first_fit.specs.Kept.{nothing_kept}
+use Rattle.pci_first_fit.specs.Tables.{untold}
 use Rattle.pci_grow.proofs.Marked.{IsLeftTold, none_done, one_done, mark_of, all_left}
 use Rattle.pci_grow.proofs.marks.leave_marked.Goals as goal
 

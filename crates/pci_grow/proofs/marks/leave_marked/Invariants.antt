@@ -1,4 +1,4 @@
-use Rattle.pci_settle.specs.Tables.{untold}
+use Rattle.pci_first_fit.specs.Tables.{untold}
 use Rattle.pci_grow.proofs.Marked.{AreFirstDone, IsLeftTold}
 use Rattle.pci_grow.proofs.marks.leave_marked.Given as goal
 

@@ -1,6 +1,6 @@
 use Rattle.std.proofs.Common.{[], ◌∷◌, ◌++◌, map, take, arith, sym, ◌∙◌, ap}
 use Rattle.std.proofs.lemmas.List.{take_more, get_or-map, length-map}
-use Rattle.pci_settle.specs.Tables.{untold}
+use Rattle.pci_first_fit.specs.Tables.{untold}
 use Rattle.pci_grow.specs.Marks.{marks_of}
 use Rattle.pci_grow.proofs.marks.marks.Goals as goal
 

@@ -1,6 +1,6 @@
 use Rattle.std.proofs.Common.{◌∙◌}
 use Rattle.pci_base.specs.WindowKinds.{kind_value}
-use Rattle.pci_settle.proofs.Highest.{highest_is}
+use Rattle.pci_first_fit.proofs.Highest.{highest_is}
 use Rattle.pci_grow.proofs.reach.highest_of.Goals as goal
 
 pub returns-in-Some : goal.returns-in-Some

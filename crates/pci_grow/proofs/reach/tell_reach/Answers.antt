@@ -1,5 +1,5 @@
 use Rattle.std.proofs.Common.{arith, sym, ◌∙◌, ap}
-use Rattle.pci_settle.specs.declared.kept.Part.TheVariants.{Window}
+use Rattle.pci_first_fit.specs.declared.kept.Part.TheVariants.{Window}
 use Rattle.pci_grow.specs.Reaches.{given_value}
 use Rattle.pci_grow.proofs.StandingRows.{no_region}
 use Rattle.pci_grow.proofs.Reached.{has_record}

@@ -1,13 +1,13 @@
 use Rattle.std.proofs.Common.{length, arith, ap, sym, subst, ◌∙◌}
 use Rattle.pci_place.specs.Above.{system_in}
 use Rattle.pci_place.proofs.Records.{lent, same_count}
-use Rattle.pci_settle.specs.Lines.{AreLineRows, AreLines}
-use Rattle.pci_settle.specs.Slots.{demand_value}
+use Rattle.pci_first_fit.specs.Lines.{AreLineRows, AreLines}
+use Rattle.pci_first_fit.specs.Slots.{demand_value}
 use Rattle.pci_kept.specs.Known.{asked_by}
 use Rattle.pci_kept.proofs.Whole.{slice_back}
 use Rattle.pci_grow.specs.Reaches.{AreReaches}
 use Rattle.pci_grow.specs.Rows.{AreRows}
-use Rattle.pci_settle.specs.Tables.{told, AreUntold}
+use Rattle.pci_first_fit.specs.Tables.{told, AreUntold}
 use Rattle.pci_grow.proofs.AllReaches.{rows_of, only_standing}
 use Rattle.pci_grow.proofs.reaching.all_reaches.Goals as goal
 

@@ -1,7 +1,7 @@
 use Rattle.std.proofs.Common.{◌∙◌, inl, inr, sym, subst}
 use Rattle.std.proofs.lemmas.Bool.{ltb-true}
 use Rattle.pci_base.specs.WindowKinds.{kind_value}
-use Rattle.pci_settle.specs.declared.item.Part.{Part as CodePart}
+use Rattle.pci_first_fit.specs.declared.item.Part.{Part as CodePart}
 use Rattle.pci_kept.specs.Behind.{AreAddedBehind}
 use Rattle.pci_kept.proofs.BehindItems.{read_at, as_part, added_no_bar, added_no_rom, added_no_bridge, added_bridge}
 use Rattle.pci_kept.proofs.behind.add_behind.Goals as goal

@@ -5,7 +5,7 @@ use Rattle.pci_spec.specs.Decoded.{HasRecords}
 use Rattle.settle_spec.specs.Lists.{Request}
 use Rattle.pci_base.specs.WindowKinds.{kind_value}
 use Rattle.pci_function.specs.Values.{record_value}
-use Rattle.pci_settle.specs.Lines.{AreLines}
+use Rattle.pci_first_fit.specs.Lines.{AreLines}
 use Rattle.pci_kept.specs.Behind.{IsPartIn, AreBehindTo}
 use Rattle.pci_kept.proofs.behind.behind_each.Given as goal
 

@@ -3,8 +3,8 @@ use Rattle.std.specs.Bool.{if◌then◌else◌}
 use Rattle.pci_spec.specs.Bus.{is_root}
 use Rattle.pci_place.specs.Above.{system_in}
 use Rattle.pci_place.proofs.Records.{lent}
-use Rattle.pci_settle.specs.Slots.{demand_value}
-use Rattle.pci_settle.proofs.Sized.{bars_sized}
+use Rattle.pci_first_fit.specs.Slots.{demand_value}
+use Rattle.pci_first_fit.proofs.Sized.{bars_sized}
 use Rattle.pci_kept.specs.declared.region.Owner.{Owner}
 use Rattle.pci_kept.specs.Boards.{IsTree}
 use Rattle.pci_kept.specs.Known.{asked}

@@ -1,7 +1,7 @@
 use Rattle.std.proofs.Common.{List}
 use Rattle.pci_spec.specs.Slot.{Slot}
 use Rattle.pci_place.specs.Above.{system_in}
-use Rattle.pci_settle.specs.Slots.{demand_value}
+use Rattle.pci_first_fit.specs.Slots.{demand_value}
 use Rattle.pci_kept.specs.Flags.{AreFlags}
 use Rattle.pci_kept.specs.Known.{asked}
 use Rattle.pci_kept.proofs.Collected.{ArePartsTo}

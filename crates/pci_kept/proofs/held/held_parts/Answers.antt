@@ -1,8 +1,8 @@
 use Rattle.std.proofs.Common.{◌∙◌, sym}
 use Rattle.std.proofs.lemmas.Bool.{eqb-true}
 use Rattle.pci_place.specs.Above.{system_in}
-use Rattle.pci_settle.specs.Lists.{lists_value}
-use Rattle.pci_settle.specs.Slots.{demand_value}
+use Rattle.pci_first_fit.specs.Lists.{lists_value}
+use Rattle.pci_first_fit.specs.Slots.{demand_value}
 use Rattle.pci_kept.proofs.Helds.{nothing_held, chosen_sorted, are_held, held_forward}
 use Rattle.pci_kept.proofs.held.held_parts.Goals as goal
 

@@ -1,7 +1,7 @@
 use Rattle.std.proofs.Common.{◌≡◌, ◌-◌, length}
 use Rattle.settle_spec.specs.Lists.{Request}
 use Rattle.pci_place.specs.Above.{system_in}
-use Rattle.pci_settle.specs.Buses.{classing_value}
+use Rattle.pci_first_fit.specs.Buses.{classing_value}
 use Rattle.pci_kept.specs.Passing.{AreStanding}
 use Rattle.pci_kept.specs.Holding.{IsAsking, IsHeldFrom}
 use Rattle.pci_kept.proofs.holding.hold_all.Given as goal

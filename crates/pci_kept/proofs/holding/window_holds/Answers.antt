@@ -16,7 +16,7 @@ use Rattle.pci_tree.proofs.Lifting.{same_bridge}
 use Rattle.pci_tree.proofs.RegionParts.{same_bridge_of}
 use Rattle.pci_place.specs.Above.{system_in}
 use Rattle.pci_place.proofs.Records.{lent}
-use Rattle.pci_settle.specs.Buses.{AreBehind, classing_value}
+use Rattle.pci_first_fit.specs.Buses.{AreBehind, classing_value}
 use Rattle.pci_kept.proofs.OfRecord.{window_is}
 use Rattle.pci_kept.specs.Holding.{HasNewBeside, told_in}
 use Rattle.pci_kept.proofs.Marks.{room_beside}

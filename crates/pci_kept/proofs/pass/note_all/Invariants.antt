@@ -2,7 +2,7 @@ use Rattle.std.proofs.Common.{◌≡◌, length}
 use Rattle.judge_spec.specs.Told.{IsTold}
 use Rattle.settle_spec.specs.Lists.{Request}
 use Rattle.pci_spec.specs.System.{System}
-use Rattle.pci_settle.specs.Lists.{lists_value}
+use Rattle.pci_first_fit.specs.Lists.{lists_value}
 use Rattle.pci_kept.specs.Boards.{IsBoard}
 use Rattle.pci_kept.specs.Taken.{AreApartInOrder, taken_with}
 use Rattle.pci_kept.specs.LineRows.{AreOffRows}

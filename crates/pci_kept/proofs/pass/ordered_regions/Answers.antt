@@ -4,7 +4,7 @@ use Rattle.std.specs.List.Sorted.{IsPermutation}
 use Rattle.settle_spec.specs.Stands.{rank}
 use Rattle.pci_place.specs.Above.{system_in}
 use Rattle.pci_place.proofs.Records.{lent, same_count}
-use Rattle.pci_settle.specs.Slots.{demand_value}
+use Rattle.pci_first_fit.specs.Slots.{demand_value}
 use Rattle.pci_kept.specs.declared.region.Region.{Region}
 use Rattle.pci_kept.specs.Boards.{IsTree}
 use Rattle.pci_kept.specs.Known.{asked_by, region_value, AreParts}

@@ -2,12 +2,12 @@ use Rattle.std.proofs.Common.{◌≡◌, length, sym, ap, ◌∙◌, subst, arit
 use Rattle.std.specs.List.{All}
 use Rattle.pci_place.specs.Above.{system_in}
 use Rattle.pci_place.proofs.Records.{lent, same_count}
-use Rattle.pci_settle.specs.Lists.{lists_value}
-use Rattle.pci_settle.specs.Slots.{demand_value}
+use Rattle.pci_first_fit.specs.Lists.{lists_value}
+use Rattle.pci_first_fit.specs.Slots.{demand_value}
 use Rattle.settle_spec.specs.Stands.{is_line_on}
 use Rattle.pci_kept.specs.Boards.{IsTree, IsBoard}
 use Rattle.pci_kept.specs.Known.{asked_by}
-use Rattle.pci_settle.specs.Kept.{AreNone}
+use Rattle.pci_first_fit.specs.Kept.{AreNone}
 use Rattle.pci_kept.specs.LineRows.{AreLineRows}
 use Rattle.pci_kept.specs.Passing.{CanBeNoted, AreOrdered, AreStanding}
 use Rattle.pci_kept.specs.Rows.{AreRows}

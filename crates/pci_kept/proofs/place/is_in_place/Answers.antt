@@ -1,6 +1,6 @@
 use Rattle.std.proofs.Common.{◌<◌, length, arith, refl, ap, ◌∙◌}
 use Rattle.pci_function.specs.declared.record.Record.{Record}
-use Rattle.pci_settle.specs.Lists.{lists_value}
+use Rattle.pci_first_fit.specs.Lists.{lists_value}
 use Rattle.pci_tree.proofs.Ways.{some_bridge}
 use Rattle.pci_kept.proofs.InPlace.{on_root, under_none, in_its_window}
 use Rattle.pci_kept.proofs.place.is_in_place.Goals as goal

@@ -6,8 +6,8 @@ use Rattle.pci_base.specs.WindowKinds.{kind_value}
 use Rattle.pci_function.specs.declared.record.Record.{Record}
 use Rattle.pci_image.specs.Windows.{window_of}
 use Rattle.pci_tree.specs.Passes.{range_in}
-use Rattle.pci_settle.specs.Kept.{nothing_kept}
-use Rattle.pci_settle.specs.Over.{range_holds}
+use Rattle.pci_first_fit.specs.Kept.{nothing_kept}
+use Rattle.pci_first_fit.specs.Over.{range_holds}
 use Rattle.pci_kept.proofs.InRangePlace.{under_none, leads, in_place_none, in_place_not, in_place_so}
 use Rattle.pci_kept.proofs.ranges.is_in_place.Goals as goal
 

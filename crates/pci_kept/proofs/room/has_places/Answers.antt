@@ -3,8 +3,8 @@ use Rattle.pci_base.specs.WindowKinds.{kind_value}
 use Rattle.pci_base.specs.declared.range.Range.{Range}
 use Rattle.pci_place.specs.Above.{system_in}
 use Rattle.pci_place.proofs.Records.{lent}
-use Rattle.pci_settle.specs.Buses.{listing_value}
-use Rattle.pci_settle.specs.declared.item.Item.{Item}
+use Rattle.pci_first_fit.specs.Buses.{listing_value}
+use Rattle.pci_first_fit.specs.declared.item.Item.{Item}
 use Rattle.pci_kept.specs.Rooms.{wanted_value, AreTakenOn}
 use Rattle.pci_kept.specs.Behind.{AreBehindEach}
 use Rattle.pci_kept.proofs.Rooms.{wanted_lawful, room_is}

@@ -4,7 +4,7 @@ use Rattle.std.proofs.lemmas.Result.{IfOk-weaker}
 use Rattle.settle_spec.specs.Lines.{is_held_line}
 use Rattle.pci_place.specs.Above.{system_in}
 use Rattle.pci_place.proofs.Records.{lent}
-use Rattle.pci_settle.specs.Slots.{demand_value}
+use Rattle.pci_first_fit.specs.Slots.{demand_value}
 use Rattle.pci_kept.specs.declared.rows.Row.{Row}
 use Rattle.pci_kept.specs.Boards.{IsTree}
 use Rattle.pci_kept.specs.Known.{asked_by, AreParts}

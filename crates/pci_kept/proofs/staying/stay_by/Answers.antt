@@ -4,8 +4,8 @@ use Rattle.std.specs.List.Sorted.{IsNonDecreasingBy}
 use Rattle.std.proofs.lemmas.List.Sorted.{IsPermutation-refl}
 use Rattle.pci_place.specs.Above.{system_in}
 use Rattle.pci_place.proofs.Records.{lent, same_count}
-use Rattle.pci_settle.specs.Slots.{demand_value}
-use Rattle.pci_settle.specs.Lines.{AreLines}
+use Rattle.pci_first_fit.specs.Slots.{demand_value}
+use Rattle.pci_first_fit.specs.Lines.{AreLines}
 use Rattle.settle_spec.specs.Items.{has_room_behind}
 use Rattle.pci_kept.specs.Known.{asked_by, AreParts}
 use Rattle.pci_kept.specs.Passing.{CanBeNoted, AreStanding}

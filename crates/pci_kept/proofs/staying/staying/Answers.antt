@@ -1,7 +1,7 @@
 use Rattle.std.proofs.Common.{refl}
 use Rattle.pci_place.specs.Above.{system_in}
 use Rattle.pci_place.proofs.Records.{lent}
-use Rattle.pci_settle.specs.Slots.{demand_value}
+use Rattle.pci_first_fit.specs.Slots.{demand_value}
 use Rattle.pci_kept.proofs.Asked.{left_of}
 use Rattle.pci_kept.proofs.Marks.{large_beside, known_beside, new_beside}
 use Rattle.pci_kept.proofs.staying.staying.Goals as goal

@@ -1,5 +1,5 @@
 use Rattle.std.proofs.lemmas.Result.{err_from_is_err_and}
-use Rattle.pci_settle.specs.Slots.{demand_value}
+use Rattle.pci_first_fit.specs.Slots.{demand_value}
 use Rattle.pci_kept.proofs.Asked.{left_of, fault_in_io, stays_in_io}
 use Rattle.pci_kept.proofs.staying.staying_in_io.Goals as goal
 

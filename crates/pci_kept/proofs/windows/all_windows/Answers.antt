@@ -1,5 +1,5 @@
 use Rattle.std.proofs.Common.{sym, subst}
-use Rattle.pci_settle.specs.Buses.{classing_value}
+use Rattle.pci_first_fit.specs.Buses.{classing_value}
 use Rattle.pci_kept.specs.Windows.{AreAllNew}
 use Rattle.pci_kept.proofs.Marks.{all_new}
 use Rattle.pci_kept.proofs.windows.all_windows.Goals as goal

@@ -1,7 +1,7 @@
 use Rattle.std.proofs.Common.{refl}
 use Rattle.std.proofs.lemmas.Result.{IfOk-weaker, IfErr-weaker}
 use Rattle.pci_place.specs.Above.{system_in}
-use Rattle.pci_settle.specs.Slots.{demand_value}
+use Rattle.pci_first_fit.specs.Slots.{demand_value}
 use Rattle.pci_settle_places.proofs.NothingLeft.{can_be_left, new_places, new_unplaced}
 use Rattle.pci_settle_places.proofs.anew.place_anew.Goals as goal
 

@@ -4,7 +4,7 @@ use Rattle.pci_spec.specs.System.{System}
 use Rattle.pci_spec.specs.Decoded.{HasRecords}
 use Rattle.settle_spec.specs.Lists.{Request}
 use Rattle.pci_function.specs.Values.{record_value}
-use Rattle.pci_settle.specs.Lines.{AreLines}
+use Rattle.pci_first_fit.specs.Lines.{AreLines}
 use Rattle.pci_settle_places.specs.Candidates.{HasPart}
 use Rattle.pci_settle_places.specs.Taken.{AreBehindTo}
 use Rattle.pci_settle_places.proofs.behind.behind_each.Given as goal

@@ -1,6 +1,6 @@
 use Rattle.std.proofs.Common.{◌∙◌, inl, inr, ap, sym, subst, refl}
 use Rattle.pci_function.specs.declared.record.Record.{Record}
-use Rattle.pci_settle.specs.declared.item.Part.{Part as CodePart}
+use Rattle.pci_first_fit.specs.declared.item.Part.{Part as CodePart}
 use Rattle.pci_settle_places.specs.Taken.{AreBehindOne}
 use Rattle.pci_settle_places.proofs.TakenBeside.{as_part, behind_no_bar, behind_no_rom, behind_no_bridge, behind_bridge}
 use Rattle.pci_settle_places.proofs.behind.behind_one.Goals as goal

@@ -1,8 +1,8 @@
 use Rattle.std.proofs.Common.{◌++◌, map, ap, sym, subst, ◌∙◌, List, Option}
 use Rattle.pci_place.specs.Above.{system_in}
 use Rattle.pci_base.specs.WindowKinds.{kind_value}
-use Rattle.pci_settle.specs.declared.extent.Extent.{Extent}
-use Rattle.pci_settle.specs.Buses.{AreWindows}
+use Rattle.pci_first_fit.specs.declared.extent.Extent.{Extent}
+use Rattle.pci_first_fit.specs.Buses.{AreWindows}
 use Rattle.pci_settle_places.specs.Candidates.{of_class, AreAddedOf}
 use Rattle.pci_settle_places.specs.Staying.{setting_value}
 use Rattle.pci_settle_places.proofs.Added.{added_of, added_lawful}

@@ -1,4 +1,4 @@
-use Rattle.pci_settle.proofs.ItemExtents.{no_item}
+use Rattle.pci_first_fit.proofs.ItemExtents.{no_item}
 use Rattle.pci_settle_places.specs.Candidates.{of_class}
 use Rattle.pci_settle_places.proofs.Added.{more_of, all_of}
 use Rattle.pci_settle_places.proofs.candidate.add_items.Goals as goal

@@ -1,6 +1,6 @@
 use Rattle.std.proofs.Common.{◌≡◌, false, take}
 use Rattle.std.specs.List.{list_any}
-use Rattle.pci_settle.specs.Own.{is_left_bar}
+use Rattle.pci_first_fit.specs.Own.{is_left_bar}
 use Rattle.pci_settle_places.proofs.claim.has_left_bar.Given as goal
 
 abbrev pub invariant-loop-bar : goal.invariant-loop-bar

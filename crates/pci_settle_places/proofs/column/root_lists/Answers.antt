@@ -3,7 +3,7 @@ use Rattle.std.proofs.lemmas.Bool.{both_ways}
 use Rattle.pci_spec.specs.Bus.{is_root}
 use Rattle.pci_base.specs.Space.{space_of}
 use Rattle.pci_tree.specs.Roots.{buses_of}
-use Rattle.pci_settle.specs.Lists.{lists_value}
+use Rattle.pci_first_fit.specs.Lists.{lists_value}
 use Rattle.pci_settle_places.specs.declared.column.Column.{Column}
 use Rattle.pci_settle_places.specs.Columns.{AreColumn}
 use Rattle.pci_settle_places.proofs.Columns.{columns_more}

@@ -1,7 +1,7 @@
 use Rattle.std.proofs.Common.{map}
 use Rattle.pci_base.specs.Space.{space_of}
 use Rattle.pci_tree.specs.Roots.{buses_of}
-use Rattle.pci_settle.specs.Lists.{lists_value}
+use Rattle.pci_first_fit.specs.Lists.{lists_value}
 use Rattle.pci_settle_places.specs.Columns.{HasRootColumns}
 use Rattle.pci_settle_places.proofs.column.root_lists.Given as goal
 

@@ -7,8 +7,8 @@ use Rattle.pci_function.specs.declared.record.Record.{Record}
 use Rattle.pci_function.specs.Values.{record_value}
 use Rattle.pci_place.specs.Above.{system_in}
 use Rattle.pci_place.proofs.Records.{lent, same_count}
-use Rattle.pci_settle.specs.Slots.{demand_value}
-use Rattle.pci_settle.specs.Lines.{AreLines}
+use Rattle.pci_first_fit.specs.Slots.{demand_value}
+use Rattle.pci_first_fit.specs.Lines.{AreLines}
 use Rattle.pci_settle_places.specs.declared.places.Places.{Places}
 use Rattle.pci_settle_places.specs.Placed.{AreAllNone, ArePlacesOff}
 use Rattle.pci_settle_places.proofs.Buses.{slice_back}

@@ -2,7 +2,7 @@ use Rattle.std.proofs.Common.{subst}
 use Rattle.std.proofs.lemmas.Result.{err_from_is_err_and}
 use Rattle.pci_base.specs.Space.{space_of}
 use Rattle.pci_place.specs.Above.{system_in}
-use Rattle.pci_settle.specs.Lists.{lists_value}
+use Rattle.pci_first_fit.specs.Lists.{lists_value}
 use Rattle.pci_settle_places.specs.Candidates.{pass_of}
 use Rattle.pci_settle_places.specs.Spaces.{AreSpacePlacesIn}
 use Rattle.pci_settle_places.proofs.BothSpaces.{space_placed, too_large}

@@ -2,7 +2,7 @@ use Rattle.std.proofs.Common.{◌<◌, ◌∙◌, map, length, get_or, sym, ap, 
 use Rattle.std.specs.Option.{IfSome}
 use Rattle.std.specs.List.{All}
 use Rattle.settle_spec.specs.Places.{placed_of, first_lack}
-use Rattle.pci_settle.specs.Placings.{at_places}
+use Rattle.pci_first_fit.specs.Placings.{at_places}
 use Rattle.pci_settle_places.specs.Candidates.{candidate_value, HasPart}
 use Rattle.pci_settle_places.specs.BusPlaces.{bus_placing}
 use Rattle.pci_settle_places.specs.Places.{NotesOf}

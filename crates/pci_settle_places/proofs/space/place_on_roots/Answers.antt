@@ -4,7 +4,7 @@ use Rattle.pci_base.specs.Space.{space_of}
 use Rattle.pci_base.specs.declared.range.Range.{Range}
 use Rattle.pci_tree.specs.Roots.{buses_of}
 use Rattle.pci_place.specs.Above.{system_in}
-use Rattle.pci_settle.specs.Lists.{lists_value}
+use Rattle.pci_first_fit.specs.Lists.{lists_value}
 use Rattle.pci_settle_places.specs.BusPlaces.{bus_placing}
 use Rattle.pci_settle_places.specs.Spaces.{IsFirstRoot}
 use Rattle.pci_settle_places.proofs.Buses.{root_places, untold_ending}

@@ -3,7 +3,7 @@ use Rattle.pci_base.specs.Space.{space_of}
 use Rattle.pci_function.specs.declared.record.Record.{Record}
 use Rattle.pci_place.specs.Above.{system_in}
 use Rattle.pci_place.proofs.Records.{lent, same_count}
-use Rattle.pci_settle.specs.Lists.{lists_value}
+use Rattle.pci_first_fit.specs.Lists.{lists_value}
 use Rattle.pci_settle_places.specs.Candidates.{pass_of}
 use Rattle.pci_settle_places.specs.Spaces.{AreNotedOnRoots}
 use Rattle.pci_settle_places.proofs.SpaceSteps.{IsSpaceTo, known_of, roots_lack, roots_others, roots_placed, bus_off, told_ends, space_same, space_more, space_all, none_if_some, none_of}

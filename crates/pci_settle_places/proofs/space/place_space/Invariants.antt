@@ -1,6 +1,6 @@
 use Rattle.pci_base.specs.Space.{space_of}
 use Rattle.pci_place.specs.Above.{system_in}
-use Rattle.pci_settle.specs.Lists.{lists_value}
+use Rattle.pci_first_fit.specs.Lists.{lists_value}
 use Rattle.pci_settle_places.proofs.SpaceSteps.{IsSpaceTo}
 use Rattle.pci_settle_places.proofs.space.place_space.Given as goal
 

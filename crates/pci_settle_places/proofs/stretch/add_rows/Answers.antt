@@ -1,7 +1,7 @@
 use Rattle.std.proofs.Common.{◌++◌, map, ap, ◌∙◌}
 use Rattle.std.specs.List.{filter}
 use Rattle.std.proofs.lemmas.List.{take_all}
-use Rattle.pci_settle.specs.Lines.{line_range}
+use Rattle.pci_first_fit.specs.Lines.{line_range}
 use Rattle.pci_settle_places.specs.Stretches.{is_row_behind}
 use Rattle.pci_settle_places.proofs.stretch.add_rows.Goals as goal
 

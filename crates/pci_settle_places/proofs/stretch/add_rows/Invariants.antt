@@ -1,6 +1,6 @@
 use Rattle.std.proofs.Common.{◌≡◌, ◌++◌, map, take}
 use Rattle.std.specs.List.{filter}
-use Rattle.pci_settle.specs.Lines.{line_range}
+use Rattle.pci_first_fit.specs.Lines.{line_range}
 use Rattle.pci_settle_places.specs.Stretches.{is_row_behind}
 use Rattle.pci_settle_places.proofs.stretch.add_rows.Given as goal
 

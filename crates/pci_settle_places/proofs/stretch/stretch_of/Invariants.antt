@@ -1,5 +1,5 @@
 use Rattle.std.proofs.Common.{◌≡◌, ℕ, ◌<◌, get_or}
-use Rattle.pci_settle.specs.declared.lines.Line.{Line}
+use Rattle.pci_first_fit.specs.declared.lines.Line.{Line}
 use Rattle.pci_settle_places.specs.Stretches.{IsCoveredBy}
 use Rattle.pci_settle_places.proofs.stretch.stretch_of.Given as goal
 

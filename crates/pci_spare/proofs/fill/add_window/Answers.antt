@@ -2,7 +2,7 @@ use Rattle.std.proofs.Common.{ap, sym, ◌∙◌}
 use Rattle.pci_function.specs.declared.record.Record.{Record}
 use Rattle.pci_spec.specs.System.{window_space}
 use Rattle.pci_spare.specs.Board.{bridge_of, class_of}
-use Rattle.pci_settle.specs.Tables.{told}
+use Rattle.pci_first_fit.specs.Tables.{told}
 use Rattle.pci_spare.proofs.Facts.{bus_at}
 use Rattle.pci_spare.proofs.Filled.{window_added}
 use Rattle.pci_spare.proofs.fill.add_window.Goals as goal

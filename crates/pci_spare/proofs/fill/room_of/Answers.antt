@@ -4,7 +4,7 @@ use Rattle.std.specs.Vec.{with_items}
 use Rattle.std.proofs.lemmas.List.{length-map}
 use Rattle.pci_tree.specs.Roots.{buses_of}
 use Rattle.pci_spare.specs.Board.{IsTold}
-use Rattle.pci_settle.specs.Spots.{FirstsRise}
+use Rattle.pci_first_fit.specs.Spots.{FirstsRise}
 use Rattle.pci_spare.specs.Rows.{row_at, LastsRise}
 use Rattle.pci_spare.proofs.Rooms.{rewritten}
 use Rattle.pci_spare.proofs.Filled.{empty_rows, told_first, put_from, sorted_from}

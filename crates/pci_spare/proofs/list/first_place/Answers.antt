@@ -1,6 +1,6 @@
 use Rattle.std.proofs.Common.{sym, map}
 use Rattle.pci_base.specs.Ranges.{decoded_range_of}
-use Rattle.pci_settle.specs.Spots.{extent_value}
+use Rattle.pci_first_fit.specs.Spots.{extent_value}
 use Rattle.pci_spare.proofs.Walks.{place_next, place_here, place_none}
 use Rattle.pci_spare.proofs.list.first_place.Goals as goal
 

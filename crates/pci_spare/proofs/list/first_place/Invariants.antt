@@ -1,7 +1,7 @@
 use Rattle.std.proofs.Common.{◌≡◌, drop, map}
 use Rattle.pci_base.specs.Ranges.{decoded_range_of}
-use Rattle.pci_settle.specs.Lists.{root_range_value}
-use Rattle.pci_settle.specs.Spots.{extent_value}
+use Rattle.pci_first_fit.specs.Lists.{root_range_value}
+use Rattle.pci_first_fit.specs.Spots.{extent_value}
 use Rattle.pci_spare.proofs.Walks.{place_among}
 use Rattle.pci_spare.proofs.list.first_place.Given as goal
 

@@ -1,6 +1,6 @@
 use Rattle.std.proofs.Common.{◌<◌, length, arith, subst, sym}
 use Rattle.pci_base.specs.declared.range.Range.{Range}
-use Rattle.pci_settle.specs.Spots.{FirstsRise}
+use Rattle.pci_first_fit.specs.Spots.{FirstsRise}
 use Rattle.pci_spare.specs.Rows.{LastsRise}
 use Rattle.pci_spare.proofs.Ended.{later_order, later_lasts}
 use Rattle.pci_spare.proofs.row.end_later.Goals as goal

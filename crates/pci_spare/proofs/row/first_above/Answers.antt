@@ -2,7 +2,7 @@ use Rattle.std.proofs.Common.{rules, leb, arith}
 use Rattle.std.proofs.lemmas.Bool.{leb-true, leb-false}
 use Rattle.std.proofs.lemmas.List.Sorted.{IsPartitionPoint-from_clause, IsPartitionedBy-leb}
 use Rattle.pci_base.specs.declared.range.Range.{Range}
-use Rattle.pci_settle.proofs.Inserted.{firsts_sorted}
+use Rattle.pci_first_fit.proofs.Inserted.{firsts_sorted}
 use Rattle.pci_spare.proofs.row.first_above.Goals as goal
 
 pub returns-clause-before : goal.returns-clause-before

@@ -8,7 +8,7 @@ use Rattle.settle_spec.specs.Lines.{lines_behind}
 use Rattle.settle_spec.specs.Stands.{window_part}
 use Rattle.pci_spare.specs.Rows.{HasRanges}
 use Rattle.pci_spare.specs.Board.{room_value, bridge_of, class_of}
-use Rattle.pci_settle.specs.Spots.{extent_value}
+use Rattle.pci_first_fit.specs.Spots.{extent_value}
 use Rattle.pci_spare.specs.Endings.{IsSparedAs}
 use Rattle.pci_spare.proofs.Around.{root_is, over_one}
 use Rattle.pci_spare.proofs.Sparings.{of_zero, of_open, of_cannot, cannot_there, cannot_fixed, can_both, of_root, of_nothing, of_above_no, of_above_yes}

@@ -6,8 +6,8 @@ use Rattle.settle_spec.specs.Lists as lists
 use Rattle.pci_base.specs.declared.range.Range.{Range}
 use Rattle.pci_base.specs.Ranges.{decoded_range_of}
 use Rattle.pci_base.specs.WindowKinds.{kind_value}
-use Rattle.pci_settle.specs.Lists.{lists_value}
-use Rattle.pci_settle.specs.Spots.{extent_value, FirstsRise}
+use Rattle.pci_first_fit.specs.Lists.{lists_value}
+use Rattle.pci_first_fit.specs.Spots.{extent_value, FirstsRise}
 use Rattle.pci_spare.specs.Lists.{ranges_had}
 use Rattle.pci_spare.specs.Board.{room_value}
 use Rattle.pci_spare.proofs.Beside.{plain_is}

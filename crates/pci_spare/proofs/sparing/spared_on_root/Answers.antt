@@ -1,6 +1,6 @@
 use Rattle.std.proofs.Common.{sym, refl, ◌∙◌}
 use Rattle.settle_spec.specs.Lists.{list_of}
-use Rattle.pci_settle.specs.Lists.{lists_value}
+use Rattle.pci_first_fit.specs.Lists.{lists_value}
 use Rattle.pci_spare.specs.Board.{room_value, class_of}
 use Rattle.pci_spare.proofs.Sparings.{root_none, root_some}
 use Rattle.pci_spare.proofs.sparing.spared_on_root.Goals as goal

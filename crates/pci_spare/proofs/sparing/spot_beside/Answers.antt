@@ -3,7 +3,7 @@ use Rattle.pci_spec.specs.System.{window_space}
 use Rattle.pci_base.specs.declared.range.Range.{Range}
 use Rattle.pci_base.specs.Ranges.{decoded_range_of}
 use Rattle.pci_base.specs.WindowKinds.{kind_value}
-use Rattle.pci_settle.specs.Spots.{FirstsRise}
+use Rattle.pci_first_fit.specs.Spots.{FirstsRise}
 use Rattle.pci_spare.specs.Board.{room_value}
 use Rattle.pci_spare.specs.Endings.{IsSpotBelow}
 use Rattle.pci_spare.proofs.Beside.{plain_is}

@@ -2,7 +2,7 @@ use Rattle.std.proofs.Common.{arith, ap, sym, subst, ◌∙◌}
 use Rattle.pci_spec.specs.System.{Space, window_space}
 use Rattle.settle_spec.specs.Lines.{lines_on}
 use Rattle.pci_base.specs.WindowKinds.{kind_value}
-use Rattle.pci_settle.specs.Lines.{AreAdded}
+use Rattle.pci_first_fit.specs.Lines.{AreAdded}
 use Rattle.pci_spare.specs.Board.{room_value}
 use Rattle.pci_spare.specs.Rows.{level}
 use Rattle.pci_spare.proofs.Beside.{taken_is}

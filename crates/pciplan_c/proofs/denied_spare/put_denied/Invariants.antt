@@ -1,5 +1,5 @@
 use Rattle.std.proofs.Common.{◌≡◌, length, map, take, drop}
-use Rattle.pci_settle_writes.specs.Denied.{denied_value}
+use Rattle.pci_settle.specs.Denied.{denied_value}
 use Rattle.pciplan_c.specs.DeniedSpares.{denied_value_of}
 use Rattle.pciplan_c.proofs.denied_spare.put_denied.Given as goal
 

@@ -5,11 +5,11 @@ use Rattle.pci_spec.specs.Text.{Block}
 use Rattle.settle_spec.specs.Sparing.{granted_beside}
 use Rattle.pci_plan.specs.Writes.{is_two_or_four, write_value}
 use Rattle.pci_plan.specs.declared.write.Write.{Write}
-use Rattle.pci_settle_writes.specs.Denied.{denied_value}
-use Rattle.pci_settle_writes.specs.declared.settle.Denied.{Denied}
-use Rattle.pci_settle.specs.Slots.{demand_value}
+use Rattle.pci_settle.specs.Denied.{denied_value}
+use Rattle.pci_settle.specs.declared.settle.Denied.{Denied}
+use Rattle.pci_first_fit.specs.Slots.{demand_value}
 use Rattle.pci_place.specs.Above.{system_in}
-use Rattle.pci_settle_writes.specs.Requests.{request}
+use Rattle.pci_settle.specs.Requests.{request}
 use Rattle.pciplan_tasks.specs.Answers.{answer_of, done_with}
 use Rattle.pciplan_tasks.specs.SettleAnswers.{settled_text, spare_remarks}
 use Rattle.pciplan_tasks.proofs.SettlingTold.{settled_is_told, refused_is_told}

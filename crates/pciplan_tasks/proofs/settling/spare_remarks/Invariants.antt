@@ -1,7 +1,7 @@
 use Rattle.std.proofs.Common.{◌≡◌, map, take}
 use Rattle.std.specs.List.{flat_map}
 use Rattle.std.specs.String.{string_bytes}
-use Rattle.pci_settle_writes.specs.Denied.{denied_value}
+use Rattle.pci_settle.specs.Denied.{denied_value}
 use Rattle.pciplan_tasks.specs.SettleAnswers.{spare_remark}
 use Rattle.pciplan_tasks.proofs.settling.spare_remarks.Given as goal
 

@@ -4,7 +4,7 @@ use Rattle.pci_given.specs.AllLines.{fault_of}
 use Rattle.pci_given.specs.declared.any_fault.AnyFault.{AnyFault}
 use Rattle.pci_model_settle.specs.Listed.{blocks_after, listed_write}
 use Rattle.pci_plan.specs.Writes.{write_value}
-use Rattle.pci_settle_writes.specs.Denied.{denied_value}
+use Rattle.pci_settle.specs.Denied.{denied_value}
 use Rattle.pci_spec.specs.Text.{Block}
 use Rattle.pciplan_tasks.specs.Answers.{answer_of}
 use Rattle.pciplan_tasks.specs.MapAnswers.{IsFirstLine}

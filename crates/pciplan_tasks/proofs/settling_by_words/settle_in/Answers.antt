@@ -3,11 +3,11 @@ use Rattle.std.specs.Prelude.{IfOk}
 use Rattle.settle_spec.specs.Sparing.{granted_beside}
 use Rattle.pci_plan.specs.Writes.{write_value}
 use Rattle.pci_place.specs.Above.{system_in}
-use Rattle.pci_settle.specs.Slots.{demand_value}
-use Rattle.pci_settle_writes.specs.Denied.{denied_value}
-use Rattle.pci_settle_writes.specs.FaultText.{settle_fault_text}
-use Rattle.pci_settle_writes.specs.Requests.{request}
-use Rattle.pci_settle_writes.specs.declared.lack.SettleFault.{SettleFault}
+use Rattle.pci_first_fit.specs.Slots.{demand_value}
+use Rattle.pci_settle.specs.Denied.{denied_value}
+use Rattle.pci_settle.specs.FaultText.{settle_fault_text}
+use Rattle.pci_settle.specs.Requests.{request}
+use Rattle.pci_settle.specs.declared.lack.SettleFault.{SettleFault}
 use Rattle.pciplan_tasks.specs.Answers.{answer_of, fault_answer_line, refused}
 use Rattle.pciplan_tasks.proofs.ByWords.{settled_taken, not_settled_taken}
 use Rattle.pciplan_tasks.proofs.SettlingWrites.{plain_writes}

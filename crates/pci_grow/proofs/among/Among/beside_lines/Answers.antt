@@ -2,7 +2,7 @@ use Rattle.std.proofs.Common.{◌<◌, length, refl, sym, ap, subst, ◌∙◌}
 use Rattle.std.proofs.lemmas.List.{take_all}
 use Rattle.pci_base.specs.Ranges.{decoded_range_of}
 use Rattle.pci_base.specs.Space.{space_of}
-use Rattle.pci_settle.specs.declared.lines.Line.{Line}
+use Rattle.pci_first_fit.specs.declared.lines.Line.{Line}
 use Rattle.pci_grow.specs.OffLines.{row_pieces, rows_beside, IsAmongAlso}
 use Rattle.pci_grow.proofs.NearestOf.{also_none, also_more}
 use Rattle.pci_grow.proofs.RowSlices.{rows_same}

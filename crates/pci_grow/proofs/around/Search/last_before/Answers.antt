@@ -1,5 +1,5 @@
 use Rattle.std.proofs.Common.{ap, sym, ◌∙◌}
-use Rattle.pci_settle.specs.Spots.{spot_place}
+use Rattle.pci_first_fit.specs.Spots.{spot_place}
 use Rattle.pci_grow.proofs.Searches.{no_last}
 use Rattle.pci_grow.proofs.around.Search.last_before.Goals as goal
 

@@ -1,7 +1,7 @@
 use Rattle.std.proofs.Common.{sym, subst, ◌∙◌, ap, length}
 use Rattle.std.specs.Vec.{with_items}
-use Rattle.pci_settle.specs.Tables.{told}
-use Rattle.pci_settle.specs.Spots.{FirstsRise}
+use Rattle.pci_first_fit.specs.Tables.{told}
+use Rattle.pci_first_fit.specs.Spots.{FirstsRise}
 use Rattle.pci_spare.specs.Rows.{LastsRise}
 use Rattle.pci_spare.proofs.Rooms.{row_of, row_put, row_rest, rows_long, rows_order, rows_rising, rewritten, ended_in, tells_in}
 use Rattle.pci_spare.proofs.room.Room.end_later.Goals as goal

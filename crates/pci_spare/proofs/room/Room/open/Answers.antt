@@ -1,6 +1,6 @@
 use Rattle.std.proofs.Common.{◌<◌, sym, subst, ◌∙◌, ap, length, map, set, arith}
-use Rattle.pci_settle.specs.Tables.{told}
-use Rattle.pci_settle.specs.Spots.{FirstsRise}
+use Rattle.pci_first_fit.specs.Tables.{told}
+use Rattle.pci_first_fit.specs.Spots.{FirstsRise}
 use Rattle.pci_spare.specs.Rows.{LastsRise}
 use Rattle.pci_spare.proofs.Rooms.{row_of, row_put, row_rest, rows_long, rows_order, rows_rising, rewritten, added_in, tells_in}
 use Rattle.pci_spare.proofs.room.Room.open.Goals as goal

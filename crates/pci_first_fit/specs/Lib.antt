@@ -1,0 +1,16 @@
+pub mod Spots
+pub mod Placings
+pub mod Windows
+pub mod Turns
+pub mod Lists
+pub mod ToldProp
+pub mod Lines
+pub mod Slots
+pub mod Kept
+pub mod Tables
+pub mod PlaceTables
+pub mod Over
+pub mod Keeping
+pub mod Own
+pub mod Buses
+pub mod NewWindows

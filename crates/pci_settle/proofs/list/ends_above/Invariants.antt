@@ -1,7 +1,0 @@
-use Rattle.std.proofs.Common.{◌≡◌, drop, map}
-use Rattle.settle_spec.specs.Lists.{end_above}
-use Rattle.pci_settle.specs.Lists.{root_range_value}
-use Rattle.pci_settle.proofs.list.ends_above.Given as goal
-
-abbrev pub invariant-loop-one : goal.invariant-loop-one
-invariant-loop-one l = end_above l.last (drop l.one-index (map root_range_value l.list)) ≡ end_above l.last (map root_range_value l.list)

@@ -1,5 +1,0 @@
-use Rattle.pci_settle.proofs.Starts.{IsSearched}
-use Rattle.pci_settle.proofs.spot.first_place.Given as goal
-
-abbrev pub invariant-loop-index : goal.invariant-loop-index
-invariant-loop-index l = IsSearched l.ranges l.taken l.extent l.initial.start l.start l.from l.index

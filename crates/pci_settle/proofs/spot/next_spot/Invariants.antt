@@ -1,5 +1,0 @@
-use Rattle.pci_settle.proofs.Spots.{IsAlong}
-use Rattle.pci_settle.proofs.spot.next_spot.Given as goal
-
-abbrev pub invariant-loop-index : goal.invariant-loop-index
-invariant-loop-index l = IsAlong l.taken l.low l.extent l.at l.index

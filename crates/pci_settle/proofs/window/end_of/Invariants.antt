@@ -1,5 +1,0 @@
-use Rattle.pci_settle.proofs.LaidOut.{IsLaid}
-use Rattle.pci_settle.proofs.window.end_of.Given as goal
-
-abbrev pub invariant-loop-extent : goal.invariant-loop-extent
-invariant-loop-extent g l = IsLaid l.extents l.taken.items l.end l.extent-index
