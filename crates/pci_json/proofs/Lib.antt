@@ -6,3 +6,10 @@ pub mod Steps
 pub mod Largest
 pub mod Choices
 pub mod ReadBack
+mod Values
+mod Words
+pub mod Texts
+pub mod FaultMembers
+pub mod FaultLists
+pub mod ToldMembers
+pub mod ToldLists

@@ -5,3 +5,7 @@ pub mod Reasons
 pub mod Listings
 pub mod Groups
 pub mod Documents
+pub mod Values
+pub mod TextLaws
+pub mod FaultValues
+pub mod FaultLaws

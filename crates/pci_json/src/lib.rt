@@ -1,7 +1,8 @@
-//! The answer of a command as one JSON document, made of the text that the command prints.
+//! The answer of a command as one JSON document, made of the text that the command prints; and laws of these documents.
 #![tactic(auto)]
 
 pub mod document;
+pub mod fault_laws;
 pub mod faults;
 pub mod group;
 pub mod lines;
@@ -10,3 +11,4 @@ pub mod map;
 pub mod members;
 pub mod output;
 pub mod reasons;
+pub mod text_laws;

@@ -13,9 +13,9 @@ use Rattle.judge_spec.specs.Line as given_line
 use Rattle.pci_json.specs.Lines.{behind, word}
 use Rattle.pci_json.specs.Members.{hex, count, object_of, array_of, line_number, register_or_line}
 use Rattle.pci_json.specs.Faults.{slot_members, unreached_members, clash_members, split_members, outside_members}
-use Rattle.json_laws.specs.FaultValues.{slot_value, region_values, address_values, two_region_values}
-use Rattle.json_laws.specs.FaultLaws.{HasFaultMembers, HasGivenFaultMembers}
-use Rattle.json_laws.proofs.Words.{AreWords, tail_of, words_of, no_blank, no_plus, byte_ok, slot_ok, space_ok, address_ok}
+use Rattle.pci_json.specs.FaultValues.{slot_value, region_values, address_values, two_region_values}
+use Rattle.pci_json.specs.FaultLaws.{HasFaultMembers, HasGivenFaultMembers}
+use Rattle.pci_json.proofs.Words.{AreWords, tail_of, words_of, no_blank, no_plus, byte_ok, slot_ok, space_ok, address_ok}
 
 -- a word behind the number and the name
 there : (line w : List ℕ) (ws : List (List ℕ)) → behind 2 line ≡ w ++ tail_of ws → AreWords (w ∷ ws) → (k : ℕ) → word k (behind 2 line) ≡ get_or (w ∷ ws) k []

@@ -1,6 +1,6 @@
 //! Laws of a fault's members. These functions do nothing: each contract is a law.
 
-ghost use Rattle.json_laws.specs.FaultLaws.{HasFaultMembers, HasGivenFaultMembers, HasToldFaultMembers, HasEachFault, HasEachToldFault};
+ghost use Rattle.pci_json.specs.FaultLaws.{HasFaultMembers, HasGivenFaultMembers, HasToldFaultMembers, HasEachFault, HasEachToldFault};
 
 /// The members of a fault's object are its number, its name, its line, and what it names, in this order.
 pub fn fault_members_are_of_the_fault()

@@ -13,10 +13,10 @@ use Rattle.judge_spec.specs.ToldLine.{register_text, fault_text}
 use Rattle.pci_json.specs.Lines.{behind}
 use Rattle.pci_json.specs.Members.{hex, count, object_of, array_of, line_number, register_or_line}
 use Rattle.pci_json.specs.Faults.{fault_members, unreached_members, clash_members, split_members, outside_members}
-use Rattle.json_laws.specs.FaultValues.{slot_value, address_values, told_region_values, two_told_region_values, all_told_values}
-use Rattle.json_laws.specs.FaultLaws.{IsRegister, NamesPlain, HasToldFaultMembers}
-use Rattle.json_laws.proofs.Words.{tail_of, no_blank, no_plus, decimal_value, register_lacks}
-use Rattle.json_laws.proofs.FaultMembers.{head, region_named, two_regions_named, slot_alone, unreached_named, clash_named, split_named, outside_named, has_fault_members}
+use Rattle.pci_json.specs.FaultValues.{slot_value, address_values, told_region_values, two_told_region_values, all_told_values}
+use Rattle.pci_json.specs.FaultLaws.{IsRegister, NamesPlain, HasToldFaultMembers}
+use Rattle.pci_json.proofs.Words.{tail_of, no_blank, no_plus, decimal_value, register_lacks}
+use Rattle.pci_json.proofs.FaultMembers.{head, region_named, two_regions_named, slot_alone, unreached_named, clash_named, split_named, outside_named, has_fault_members}
 
 register_ok : (r : ℕ) → IsRegister r → no_blank (register_text r) ≡ true
 register_ok r ok = register_lacks 32 r (omega arith) ok

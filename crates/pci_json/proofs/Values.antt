@@ -4,7 +4,7 @@ use Rattle.std.specs.Prelude.{nat_eq}
 use Rattle.std.specs.Cmp.Lexicographic.{pointwise}
 use Rattle.json.specs.Json.{Json}
 use Rattle.pci_json.specs.Members.{members_of}
-use Rattle.json_laws.specs.Values.{values_in}
+use Rattle.pci_json.specs.Values.{values_in}
 
 more_if : (same : Bool) (value : Json) (a b c : List Json) → a ≡ b ++ c
     → (if same then value ∷ a else a) ≡ (if same then value ∷ b else b) ++ c

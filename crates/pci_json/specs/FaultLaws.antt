@@ -11,7 +11,7 @@ use Rattle.pci_json.specs.Lines.{lines_of}
 use Rattle.pci_json.specs.Members.{object_of}
 use Rattle.pci_json.specs.Faults.{fault_members}
 use Rattle.pci_json.specs.Documents.{faults_of}
-use Rattle.json_laws.specs.FaultValues.{all_values, all_given_values, all_told_values}
+use Rattle.pci_json.specs.FaultValues.{all_values, all_given_values, all_told_values}
 
 -- The members that are made of a fault's line are those of the fault.
 abbrev pub HasFaultMembers : Type 0

@@ -15,11 +15,11 @@ use Rattle.pci_json.specs.Members.{object_of}
 use Rattle.pci_json.specs.Faults.{fault_members}
 use Rattle.pci_json.specs.Groups.{inner_of, why_member, fault_object}
 use Rattle.pci_json.specs.Documents.{faults_of}
-use Rattle.json_laws.specs.FaultValues.{all_told_values}
-use Rattle.json_laws.specs.FaultLaws.{IsRegister, NamesPlain, NamesRegisters, HasEachToldFault}
-use Rattle.json_laws.proofs.Words.{lacks, append_lacks, byte_lacks, address_lacks, register_lacks}
-use Rattle.json_laws.proofs.FaultLists.{IsOfFault, one_line, slot, known, of_known}
-use Rattle.json_laws.proofs.ToldMembers.{has_told_fault_members}
+use Rattle.pci_json.specs.FaultValues.{all_told_values}
+use Rattle.pci_json.specs.FaultLaws.{IsRegister, NamesPlain, NamesRegisters, HasEachToldFault}
+use Rattle.pci_json.proofs.Words.{lacks, append_lacks, byte_lacks, address_lacks, register_lacks}
+use Rattle.pci_json.proofs.FaultLists.{IsOfFault, one_line, slot, known, of_known}
+use Rattle.pci_json.proofs.ToldMembers.{has_told_fault_members}
 
 -- ---- a fault is one line
 

@@ -15,10 +15,10 @@ use Rattle.pci_json.specs.Members.{object_of}
 use Rattle.pci_json.specs.Faults.{fault_members}
 use Rattle.pci_json.specs.Groups.{inner_of, why_member, fault_object}
 use Rattle.pci_json.specs.Documents.{is_fault, faults_of}
-use Rattle.json_laws.specs.FaultValues.{all_given_values}
-use Rattle.json_laws.specs.FaultLaws.{HasEachFault}
-use Rattle.json_laws.proofs.Words.{lacks, append_lacks, byte_lacks, slot_lacks, address_lacks}
-use Rattle.json_laws.proofs.FaultMembers.{has_given_fault_members}
+use Rattle.pci_json.specs.FaultValues.{all_given_values}
+use Rattle.pci_json.specs.FaultLaws.{HasEachFault}
+use Rattle.pci_json.proofs.Words.{lacks, append_lacks, byte_lacks, slot_lacks, address_lacks}
+use Rattle.pci_json.proofs.FaultMembers.{has_given_fault_members}
 
 -- ---- a fault is one line
 

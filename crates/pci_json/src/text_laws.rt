@@ -1,6 +1,6 @@
 //! Laws of the lines that stand in a document as they are. These functions do nothing: each contract is a law.
 
-ghost use Rattle.json_laws.specs.TextLaws.{EachFaultHasItsLine, EachOffIsOneObject, RefusalHasItsLine, EachCapabilityHasItsText};
+ghost use Rattle.pci_json.specs.TextLaws.{EachFaultHasItsLine, EachOffIsOneObject, RefusalHasItsLine, EachCapabilityHasItsText};
 
 /// Each line of a list of faults is the `text` of one object, in the order of the lines, and no object has another.
 pub fn fault_lines_are_texts()

@@ -9,7 +9,7 @@ use Rattle.pci_json.specs.Faults.{fault_members}
 use Rattle.pci_json.specs.Reasons.{region_members}
 use Rattle.pci_json.specs.Groups.{inner_of, listed}
 use Rattle.pci_json.specs.Documents.{is_fault, faults_of, is_off, offs_of, first_line, behind_line, room_member}
-use Rattle.json_laws.specs.Values.{values_named}
+use Rattle.pci_json.specs.Values.{values_named}
 
 -- an object's members `text`, each of which is this text
 abbrev pub texts_of : Json → List Json

@@ -1,6 +1,6 @@
-use Rattle.json_laws.proofs.FaultMembers.{has_fault_members, has_given_fault_members}
-use Rattle.json_laws.proofs.ToldMembers.{has_told_fault_members}
-use Rattle.json_laws.proofs.fault_laws.fault_members_are_of_the_fault.Goals as goal
+use Rattle.pci_json.proofs.FaultMembers.{has_fault_members, has_given_fault_members}
+use Rattle.pci_json.proofs.ToldMembers.{has_told_fault_members}
+use Rattle.pci_json.proofs.fault_laws.fault_members_are_of_the_fault.Goals as goal
 
 pub returns-clause-known : goal.returns-clause-known
 returns-clause-known c = λ fault. has_fault_members fault

@@ -10,9 +10,9 @@ use Rattle.pci_json.specs.Reasons.{region_members}
 use Rattle.pci_json.specs.Listings.{capability_members}
 use Rattle.pci_json.specs.Groups.{inner_of, why_member, fault_object, listed}
 use Rattle.pci_json.specs.Documents.{is_fault, faults_of, is_off, offs_of, first_line, behind_line, room_member}
-use Rattle.json_laws.specs.Values.{values_in}
-use Rattle.json_laws.specs.TextLaws.{texts_of, EachFaultHasItsLine, EachOffIsOneObject, RefusalHasItsLine, EachCapabilityHasItsText}
-use Rattle.json_laws.proofs.Values.{values_of_more}
+use Rattle.pci_json.specs.Values.{values_in}
+use Rattle.pci_json.specs.TextLaws.{texts_of, EachFaultHasItsLine, EachOffIsOneObject, RefusalHasItsLine, EachCapabilityHasItsText}
+use Rattle.pci_json.proofs.Values.{values_of_more}
 
 abbrev texts_in : List (List ℕ × Json) → List Json
 texts_in ms = values_in (codes "text") (members_of ms)

@@ -1,5 +1,0 @@
-use Rattle.json_laws.proofs.Texts.{refusal_has_its_line}
-use Rattle.json_laws.proofs.text_laws.refusals_are_texts.Goals as goal
-
-pub returns : goal.returns
-returns c = λ text. refusal_has_its_line text

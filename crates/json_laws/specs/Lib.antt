@@ -1,4 +1,0 @@
-pub mod Values
-pub mod TextLaws
-pub mod FaultValues
-pub mod FaultLaws
