@@ -6,3 +6,4 @@ mod JsonReplies
 mod Opened
 mod PictureReplies
 mod Texts
+pub mod Explained

@@ -6,3 +6,7 @@ pub mod PictureAsked
 pub mod HereAsked
 pub mod DomainAnswers
 pub mod HereTold
+pub mod Faults
+pub mod Commands
+pub mod Explained
+pub mod Laws

@@ -2,7 +2,7 @@
 use Rattle.std.specs.Prelude.{◌≡◌, ◌⊎◌, ℕ, List, None, Some, codes}
 use Rattle.std.specs.Io.KnownBytes.{Appends}
 use Rattle.pci_dump.specs.Begun.{AppendsBeginning}
-use Rattle.pciplan_explain.specs.Explained.{all_names, text_of_word}
+use Rattle.pciplan_front.specs.Explained.{all_names, text_of_word}
 use Rattle.pciplan_words.specs.FurtherWords.{IsFurther, IsNoFurther}
 use Rattle.pciplan_words.specs.declared.further.Further.{Further}
 use Rattle.pciplan_words.specs.declared.further.Further.TheVariants.{Here, Explain, Version}

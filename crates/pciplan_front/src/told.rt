@@ -4,9 +4,9 @@ ghost use Rattle.pciplan_tasks.specs.declared.failure.Failure.{Failure};
 ghost use Rattle.pciplan_front.specs.TextAsked.{AskForNoText, IsTextAsked, IsTextOf, IsTold};
 ghost use Rattle.pciplan_front.specs.Went.{went};
 
+use super::explain::{all, explanation, version};
 use pci_dump::streams::Sink;
 use pci_dump::write::write_all;
-use pciplan_explain::explain::{all, explanation, version};
 use pciplan_tasks::failure::{Failure, report};
 use pciplan_words::asked::WordsFault;
 use pciplan_words::further::{Further, further_given};

@@ -7,11 +7,11 @@ use Rattle.judge_spec.specs.ToldFault as told
 use Rattle.judge_spec.specs.ToldLine as told_line
 use Rattle.plan_spec.specs.Plan.{PlanFault}
 use Rattle.plan_spec.specs.PlanLine.{plan_fault_text}
-use Rattle.pciplan_explain.specs.declared.fault.Fault.{Fault}
-use Rattle.pciplan_explain.specs.declared.command.Command.{Command}
-use Rattle.pciplan_explain.specs.Faults.{fault_number, fault_heading}
-use Rattle.pciplan_explain.specs.Commands.{command_name}
-use Rattle.pciplan_explain.specs.Explained.{named_fault, named_command, BeginsWith}
+use Rattle.pciplan_front.specs.declared.fault.Fault.{Fault}
+use Rattle.pciplan_front.specs.declared.command.Command.{Command}
+use Rattle.pciplan_front.specs.Faults.{fault_number, fault_heading}
+use Rattle.pciplan_front.specs.Commands.{command_name}
+use Rattle.pciplan_front.specs.Explained.{named_fault, named_command, BeginsWith}
 
 -- A fault's number names it, and a command's name names it,
 abbrev pub NumbersName : Type 0

@@ -1,8 +1,8 @@
 -- The commands that are explained.
 use Rattle.std.specs.Prelude.{ℕ, List, ◌++◌, codes}
-use Rattle.pciplan_explain.specs.declared.command.Command.{Command}
-use Rattle.pciplan_explain.specs.declared.command.Command.TheVariants.{Here, Show, Check, Faults, Map, Size, Plan, Settle, Probe, Json, Picture, Explain, Version}
-use Rattle.pciplan_explain.specs.declared.command_texts.TheConstants.{HERE, SHOW, CHECK, FAULTS, MAP, SIZE, PLAN, SETTLE, PROBE, JSON, PICTURE, EXPLAIN, VERSION}
+use Rattle.pciplan_front.specs.declared.command.Command.{Command}
+use Rattle.pciplan_front.specs.declared.command.Command.TheVariants.{Here, Show, Check, Faults, Map, Size, Plan, Settle, Probe, Json, Picture, Explain, Version}
+use Rattle.pciplan_front.specs.declared.command_texts.TheConstants.{HERE, SHOW, CHECK, FAULTS, MAP, SIZE, PLAN, SETTLE, PROBE, JSON, PICTURE, EXPLAIN, VERSION}
 
 abbrev pub command_name : Command → List ℕ
 command_name Here = codes "here"

@@ -5,10 +5,10 @@ use Rattle.pci_spec.specs.Fault as plain
 use Rattle.judge_spec.specs.Fault.{Known, Outside}
 use Rattle.judge_spec.specs.ToldFault as told
 use Rattle.plan_spec.specs.Plan as plans
-use Rattle.pciplan_explain.specs.declared.fault.Fault.TheVariants as faults
-use Rattle.pciplan_explain.specs.declared.command.Command.TheVariants as commands
-use Rattle.pciplan_explain.specs.Explained.{named_fault, names_fault, named_command}
-use Rattle.pciplan_explain.specs.Laws.{NumbersName, NamesName, FaultsHaveHeadings, ToldFaultsHaveHeadings, ProbeFaultsHaveHeadings, PlanFaultsHaveHeadings}
+use Rattle.pciplan_front.specs.declared.fault.Fault.TheVariants as faults
+use Rattle.pciplan_front.specs.declared.command.Command.TheVariants as commands
+use Rattle.pciplan_front.specs.Explained.{named_fault, names_fault, named_command}
+use Rattle.pciplan_front.specs.Laws.{NumbersName, NamesName, FaultsHaveHeadings, ToldFaultsHaveHeadings, ProbeFaultsHaveHeadings, PlanFaultsHaveHeadings}
 
 pub numbers_name : NumbersName
 unfolding named_fault names_fault

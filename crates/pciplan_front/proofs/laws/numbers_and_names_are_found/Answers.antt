@@ -1,5 +1,5 @@
-use Rattle.pciplan_explain.proofs.Explained.{numbers_name, names_name}
-use Rattle.pciplan_explain.proofs.laws.numbers_and_names_are_found.Goals as goal
+use Rattle.pciplan_front.proofs.Explained.{numbers_name, names_name}
+use Rattle.pciplan_front.proofs.laws.numbers_and_names_are_found.Goals as goal
 
 pub returns-clause-numbers : goal.returns-clause-numbers
 returns-clause-numbers c = numbers_name

@@ -1,5 +1,5 @@
-use Rattle.pciplan_explain.specs.Explained.{names_fault}
-use Rattle.pciplan_explain.proofs.explain.is_named.Goals as goal
+use Rattle.pciplan_front.specs.Explained.{names_fault}
+use Rattle.pciplan_front.proofs.explain.is_named.Goals as goal
 
 pub returns : goal.returns
 unfolding names_fault

@@ -3,13 +3,13 @@ use Rattle.std.specs.Prelude.{ℕ, Bool, ◌||◌, nat_eq, IsTrue, List, Option,
 use Rattle.std.specs.List.{starts_with}
 use Rattle.std.specs.Option.{option_map, option_or}
 use Rattle.std.specs.Str.{bytes_eq, str_eq_ignore_ascii_case}
-use Rattle.pciplan_explain.specs.declared.fault.Fault.{Fault}
-use Rattle.pciplan_explain.specs.declared.fault.TheConstants.{FAULTS}
-use Rattle.pciplan_explain.specs.declared.command.Command.{Command}
-use Rattle.pciplan_explain.specs.declared.command.TheConstants.{COMMANDS}
-use Rattle.pciplan_explain.specs.declared.names.TheConstants.{NAMES}
-use Rattle.pciplan_explain.specs.Faults.{fault_number, fault_name, fault_text}
-use Rattle.pciplan_explain.specs.Commands.{command_name, command_text}
+use Rattle.pciplan_front.specs.declared.fault.Fault.{Fault}
+use Rattle.pciplan_front.specs.declared.fault.TheConstants.{FAULTS}
+use Rattle.pciplan_front.specs.declared.command.Command.{Command}
+use Rattle.pciplan_front.specs.declared.command.TheConstants.{COMMANDS}
+use Rattle.pciplan_front.specs.declared.names.TheConstants.{NAMES}
+use Rattle.pciplan_front.specs.Faults.{fault_number, fault_name, fault_text}
+use Rattle.pciplan_front.specs.Commands.{command_name, command_text}
 
 -- the word is the fault's number, or its name in any case
 unfoldable pub names_fault : List ℕ → Fault → Bool

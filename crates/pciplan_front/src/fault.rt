@@ -1,7 +1,7 @@
 //! The faults that are explained.
 ghost use Rattle.std.specs.Prelude.{◌≡◌, nat_eq, IsTrue};
 ghost use Rattle.std.specs.List.{starts_with};
-ghost use Rattle.pciplan_explain.specs.Faults.{fault_number, fault_name, fault_heading, fault_text};
+ghost use Rattle.pciplan_front.specs.Faults.{fault_number, fault_name, fault_heading, fault_text};
 
 use super::fault_texts as texts;
 

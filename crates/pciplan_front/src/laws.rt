@@ -1,6 +1,6 @@
 //! Laws of what is explained. These functions do nothing: their contracts are the laws.
 
-ghost use Rattle.pciplan_explain.specs.Laws.{NumbersName, NamesName, FaultsHaveHeadings, ToldFaultsHaveHeadings, ProbeFaultsHaveHeadings, PlanFaultsHaveHeadings};
+ghost use Rattle.pciplan_front.specs.Laws.{NumbersName, NamesName, FaultsHaveHeadings, ToldFaultsHaveHeadings, ProbeFaultsHaveHeadings, PlanFaultsHaveHeadings};
 
 /// A fault is found by its number, and a command by its name.
 pub fn numbers_and_names_are_found()

@@ -2,7 +2,7 @@
 ghost use Rattle.std.specs.Prelude.{◌≡◌, ◌||◌, codes, find};
 ghost use Rattle.std.specs.Option.{option_map};
 ghost use Rattle.std.specs.Str.{bytes_eq, str_eq_ignore_ascii_case};
-ghost use Rattle.pciplan_explain.specs.Explained.{named_command, named_fault, names_fault, text_of_word};
+ghost use Rattle.pciplan_front.specs.Explained.{named_command, named_fault, names_fault, text_of_word};
 
 use super::command::{COMMANDS, Command};
 use super::fault::{FAULTS, Fault};

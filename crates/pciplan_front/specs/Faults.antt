@@ -1,8 +1,8 @@
 -- The faults that are explained: their numbers and names.
 use Rattle.std.specs.Prelude.{ℕ, List, ◌∷◌, ◌++◌, codes}
-use Rattle.pciplan_explain.specs.declared.fault.Fault.{Fault}
-use Rattle.pciplan_explain.specs.declared.fault.Fault.TheVariants.{ReadIo, Memory, BadSlot, BadTitle, BadLine, NoBlank, Order, TooMany, Ended, WriteIo, NoVendor, HeaderKind, BarType, BarMask, BarPair, RomMask, WindowMask, CapRange, CapLoop, CapCut, SlotsDiffer, StrayProbe, NoSize, OtherSize, NotListed, LoneFunction, PaletteSnoop, VgaEnable, IsaEnable, Subtractive, InReset, PowerState, BusRange, Orphan, Unreached, Clash, Split, Outside, BadPools, NoWindow, NoRoom, NotAccepted, Fixed, Told, Assumed, TooManyRanges, Changed, Port, Stuck}
-use Rattle.pciplan_explain.specs.declared.fault_texts.TheConstants.{READ_IO, MEMORY, BAD_SLOT, BAD_TITLE, BAD_LINE, NO_BLANK, ORDER, TOO_MANY, ENDED, WRITE_IO, NO_VENDOR, HEADER_KIND, BAR_TYPE, BAR_MASK, BAR_PAIR, ROM_MASK, WINDOW_MASK, CAP_RANGE, CAP_LOOP, CAP_CUT, SLOTS_DIFFER, STRAY_PROBE, NO_SIZE, OTHER_SIZE, NOT_LISTED, LONE_FUNCTION, PALETTE_SNOOP, VGA_ENABLE, ISA_ENABLE, SUBTRACTIVE, IN_RESET, POWER_STATE, BUS_RANGE, ORPHAN, UNREACHED, CLASH, SPLIT, OUTSIDE, BAD_POOLS, NO_WINDOW, NO_ROOM, NOT_ACCEPTED, FIXED, TOLD, ASSUMED, TOO_MANY_RANGES, CHANGED, PORT, STUCK}
+use Rattle.pciplan_front.specs.declared.fault.Fault.{Fault}
+use Rattle.pciplan_front.specs.declared.fault.Fault.TheVariants.{ReadIo, Memory, BadSlot, BadTitle, BadLine, NoBlank, Order, TooMany, Ended, WriteIo, NoVendor, HeaderKind, BarType, BarMask, BarPair, RomMask, WindowMask, CapRange, CapLoop, CapCut, SlotsDiffer, StrayProbe, NoSize, OtherSize, NotListed, LoneFunction, PaletteSnoop, VgaEnable, IsaEnable, Subtractive, InReset, PowerState, BusRange, Orphan, Unreached, Clash, Split, Outside, BadPools, NoWindow, NoRoom, NotAccepted, Fixed, Told, Assumed, TooManyRanges, Changed, Port, Stuck}
+use Rattle.pciplan_front.specs.declared.fault_texts.TheConstants.{READ_IO, MEMORY, BAD_SLOT, BAD_TITLE, BAD_LINE, NO_BLANK, ORDER, TOO_MANY, ENDED, WRITE_IO, NO_VENDOR, HEADER_KIND, BAR_TYPE, BAR_MASK, BAR_PAIR, ROM_MASK, WINDOW_MASK, CAP_RANGE, CAP_LOOP, CAP_CUT, SLOTS_DIFFER, STRAY_PROBE, NO_SIZE, OTHER_SIZE, NOT_LISTED, LONE_FUNCTION, PALETTE_SNOOP, VGA_ENABLE, ISA_ENABLE, SUBTRACTIVE, IN_RESET, POWER_STATE, BUS_RANGE, ORPHAN, UNREACHED, CLASH, SPLIT, OUTSIDE, BAD_POOLS, NO_WINDOW, NO_ROOM, NOT_ACCEPTED, FIXED, TOLD, ASSUMED, TOO_MANY_RANGES, CHANGED, PORT, STUCK}
 
 -- a fault's number in decimal digits
 abbrev pub fault_number : Fault → List ℕ

@@ -1,5 +1,5 @@
-use Rattle.pciplan_explain.proofs.Explained.{faults_have_headings, told_faults_have_headings, probe_faults_have_headings, plan_faults_have_headings}
-use Rattle.pciplan_explain.proofs.laws.printed_faults_are_explained.Goals as goal
+use Rattle.pciplan_front.proofs.Explained.{faults_have_headings, told_faults_have_headings, probe_faults_have_headings, plan_faults_have_headings}
+use Rattle.pciplan_front.proofs.laws.printed_faults_are_explained.Goals as goal
 
 pub returns-clause-faults : goal.returns-clause-faults
 returns-clause-faults c = faults_have_headings

@@ -1,7 +1,7 @@
 //! The commands that are explained.
 ghost use Rattle.std.specs.Prelude.{◌≡◌, nat_eq, IsTrue};
 ghost use Rattle.std.specs.List.{starts_with};
-ghost use Rattle.pciplan_explain.specs.Commands.{command_name, command_heading, command_text};
+ghost use Rattle.pciplan_front.specs.Commands.{command_name, command_heading, command_text};
 
 use super::command_texts as texts;
 

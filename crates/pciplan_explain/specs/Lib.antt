@@ -1,4 +1,0 @@
-pub mod Faults
-pub mod Commands
-pub mod Explained
-pub mod Laws
