@@ -1,6 +1,6 @@
 use Rattle.pci_claims.specs.Values.{given_value, told_value}
 use Rattle.pci_why.specs.Rooms.{AreRoomsKept}
-use Rattle.test_lists.proofs.reasons.told.Given as goal
+use Rattle.test_judging.proofs.reasons.told.Given as goal
 
 abbrev pub invariant-loop-named : goal.invariant-loop-named
 invariant-loop-named l = record {

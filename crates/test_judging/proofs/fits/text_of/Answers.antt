@@ -1,7 +1,7 @@
 use Rattle.std.proofs.Common.{sym, subst}
 use Rattle.pci_claims.specs.Values.{given_value, told_value}
 use Rattle.pci_claims.specs.ToldOn.{AreOnIn}
-use Rattle.test_given.proofs.fits.text_of.Goals as goal
+use Rattle.test_judging.proofs.fits.text_of.Goals as goal
 
 pub push_fits-requires-clause-kept : goal.push_fits-requires-clause-kept
 push_fits-requires-clause-kept c =

@@ -1,7 +1,7 @@
 use Rattle.std.proofs.Common.{sym, subst}
 use Rattle.pci_claims.specs.ToldOn.{AreOnIn}
-use Rattle.test_lists.proofs.Nothing.{nothing_told}
-use Rattle.test_lists.proofs.reasons.told.Goals as goal
+use Rattle.test_judging.proofs.Nothing.{nothing_told}
+use Rattle.test_judging.proofs.reasons.told.Goals as goal
 
 pub loop-named-init : goal.loop-named-init
 loop-named-init c = record {
