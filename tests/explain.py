@@ -4,7 +4,7 @@
 Usage: explain.py WORD       prints the text of a fault, by its number or name, or of a command
        explain.py            prints the list of all names
        explain.py --into F   writes the text of each word into a file of the folder F
-       explain.py --write    writes the tables of crates/pciplan_explain/src anew
+       explain.py --write    writes the tables of crates/pciplan_front/src anew
 
 Of a fault the manual page says what it is (DIAGNOSTICS), docs/FORMATS.md why it has no verdict, what it mostly is and
 what to do, and docs/APPLYING.md what the faults of `apply` are. Of a command the manual page says all.
@@ -15,7 +15,7 @@ import sys
 import textwrap
 
 TOP = os.path.join(os.path.dirname(os.path.abspath(__file__)), "..")
-SOURCE = os.path.join(TOP, "crates", "pciplan_explain", "src")
+SOURCE = os.path.join(TOP, "crates", "pciplan_front", "src")
 WIDTH = 80
 
 

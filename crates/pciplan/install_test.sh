@@ -371,7 +371,7 @@ settle grub'
 # The names that the program's definitions have, so that none is missing in the page.
 words=$top/crates/pciplan_words/src/commands.rt
 {
-    sed -n 's/^ *Command::[A-Za-z]* => "\([a-z]*\)",$/\1/p' "$top/crates/pciplan_explain/src/command.rt"
+    sed -n 's/^ *Command::[A-Za-z]* => "\([a-z]*\)",$/\1/p' "$top/crates/pciplan_front/src/command.rt"
     sed -n 's/^pub const [A-Z_]*: &str = "\([a-z-]*\)";$/--\1/p' "$words"
 } | sort -u >got
 tr ' ' '\n' <synopsis | tr -d = | sort -u >wanted

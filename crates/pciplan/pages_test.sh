@@ -105,7 +105,7 @@ fi
 flat() {
     tr -s ' \n' ' '
 }
-proved=$(flat <"$here/../test_stops/src/firmware.rt")
+proved=$(flat <"$here/../test_moves/src/firmware.rt")
 awk '/^```rust/ { shows = 1; next } /^```/ && shows { shows = 0; print "@" } shows' "$here/../../docs/APPLYING.md" |
     flat | tr '@' '\n' >../shown
 blocks=0
