@@ -34,6 +34,13 @@ pub title_with : (line below title : List ℕ) → IsTrue (is_one_line line) →
 title_with line below title one is same =
     ap titled_line same ∙ ap region_line (ap first_line (append_assoc line (10 ∷ []) below) ∙ first_of_more line below one) ∙ told line is
 
+-- a line, a line feed and two texts, put one behind the other
+pub title_put : (line name about first second third title : List ℕ) → IsTrue (is_one_line line) → IsTrue (is_region_line line)
+    → first ≡ line → second ≡ first ++ 10 ∷ [] → third ≡ second ++ name → title ≡ third ++ about → titled_line title ≡ line ∷ []
+title_put line name about first second third title one is a b c d =
+    title_with line (name ++ about) title one is
+    (d ∙ ap (λ l. l ++ about) (c ∙ ap (λ l. l ++ name) (b ∙ ap (λ l. l ++ 10 ∷ []) a)) ∙ append_assoc (line ++ 10 ∷ []) name about)
+
 -- ---- a title whose first word has no dash
 
 unranged : (word : List ℕ) → ltb (position_or_len is_dash word) (length word) ≡ false → is_range word ≡ false

@@ -185,6 +185,17 @@ impl<'a, A: Allocator + Copy> Faults<'a, A> {
         Ok(())
     }
 
+    /// Reads a line: the first one of a fault, a further one, or none of a fault.
+    fn take(&mut self, line: &'a [u8]) -> Result<(), OutOfMemory> {
+        if let Some(number) = fault_number(line) {
+            self.begin(number, line)
+        } else if line.starts_with(b"  ") {
+            self.reason(stripped(line))
+        } else {
+            Ok(())
+        }
+    }
+
     /// Reads the faults from what `faults --why` prints.
     pub fn read(alloc: A, text: &'a str) -> Result<Faults<'a, A>, OutOfMemory> {
         let mut faults = Faults {
@@ -194,12 +205,7 @@ impl<'a, A: Allocator + Copy> Faults<'a, A> {
             badges: Vec::new(alloc),
         };
         for line in text.split('\n') {
-            let line = line.as_bytes();
-            if let Some(number) = fault_number(line) {
-                faults.begin(number, line)?;
-            } else if line.starts_with(b"  ") {
-                faults.reason(stripped(line))?;
-            }
+            faults.take(line.as_bytes())?;
         }
         faults
             .namings

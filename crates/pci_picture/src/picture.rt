@@ -36,6 +36,32 @@ const LINES: usize = 40;
 /// The margin at the right and at the bottom.
 const MARGIN: u64 = 16;
 
+/// How many functions, regions and faults a board has, in words.
+fn counts_of<A: Allocator + Copy>(alloc: A, board: &Board<'_, A>) -> Result<Words<A>, OutOfMemory> {
+    let faults = board.faults.faults.len();
+    let mut words = Words::new(alloc);
+    words.put_number(alloc, board.functions.len())?;
+    words.put(b" functions, ")?;
+    words.put_number(alloc, board.map.region_count())?;
+    words.put(b" regions; ")?;
+    put_faults(alloc, &mut words, faults)?;
+    words.put(b". Heights grow with the logarithm of sizes.")?;
+    Ok(words)
+}
+
+/// Appends a number of faults in words.
+fn put_faults<A: Allocator + Copy>(
+    alloc: A,
+    words: &mut Words<A>,
+    faults: usize,
+) -> Result<(), OutOfMemory> {
+    if faults == 0 {
+        return words.put(b"no fault");
+    }
+    words.put_number(alloc, faults)?;
+    words.put(if faults == 1 { b" fault" } else { b" faults" })
+}
+
 /// Writes the title and how many functions, regions and faults there are.
 fn write_counts<A: Allocator + Copy>(
     alloc: A,
@@ -50,19 +76,7 @@ fn write_counts<A: Allocator + Copy>(
         class: b"title",
     };
     canvas.add_heading(title, b"pciplan")?;
-    let faults = board.faults.faults.len();
-    let mut words = Words::new(alloc);
-    words.put_number(alloc, board.functions.len())?;
-    words.put(b" functions, ")?;
-    words.put_number(alloc, board.map.region_count())?;
-    words.put(b" regions; ")?;
-    if faults == 0 {
-        words.put(b"no fault")?;
-    } else {
-        words.put_number(alloc, faults)?;
-        words.put(if faults == 1 { b" fault" } else { b" faults" })?;
-    }
-    words.put(b". Heights grow with the logarithm of sizes.")?;
+    let words = counts_of(alloc, board)?;
     let label = Label {
         x: LEFT,
         y: 46,
@@ -232,6 +246,19 @@ fn draw_off<A: Allocator + Copy>(
     Ok(y)
 }
 
+/// The words beside the box of a region that is off: what names it, its size, its range, and what it is called.
+fn off_words<A: Allocator + Copy>(
+    alloc: A,
+    board: &Board<'_, A>,
+    region: &Region<'_>,
+) -> Result<Words<A>, OutOfMemory> {
+    let mut words = Words::new(alloc);
+    words.put_region(region)?;
+    words.put_all(&[b", ".as_slice(), word(region.line, 0)])?;
+    board.put_called(&mut words, region)?;
+    Ok(words)
+}
+
 /// Draws a region that is off.
 fn draw_off_row<A: Allocator + Copy>(
     alloc: A,
@@ -257,11 +284,7 @@ fn draw_off_row<A: Allocator + Copy>(
         anchor: b"",
     };
     canvas.add_box(shape, lines)?;
-    let mut words = Words::new(alloc);
-    words.put_region(region)?;
-    words.put(b", ")?;
-    words.put(word(region.line, 0))?;
-    board.put_called(&mut words, region)?;
+    let mut words = off_words(alloc, board, region)?;
     let label = Label {
         x: x.saturating_add(5),
         y: site.y.saturating_add(11),

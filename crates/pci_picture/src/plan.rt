@@ -186,18 +186,28 @@ fn tellings_of<A: Allocator + Copy>(
         };
         for place in fault.begin..fault.end {
             let line = faults.line(place);
-            let Some(range) = range_told(*index, line, digits) else {
-                continue;
-            };
-            if line.starts_with(b"shared") {
-                tellings.shared.push(range)?;
-            }
-            if moves_here && line.starts_with(b"fits ") {
-                tellings.fits.push(range)?;
+            if let Some(range) = range_told(*index, line, digits) {
+                add_telling(&mut tellings, line, range, moves_here)?;
             }
         }
     }
     Ok(tellings)
+}
+
+/// Adds the range that a line tells: addresses that are shared, or where the region that a fault names last fits.
+fn add_telling<A: Allocator + Copy>(
+    tellings: &mut Tellings<A>,
+    line: &[u8],
+    range: Told,
+    moves_here: bool,
+) -> Result<(), OutOfMemory> {
+    if line.starts_with(b"shared") {
+        tellings.shared.push(range)?;
+    }
+    if moves_here && line.starts_with(b"fits ") {
+        tellings.fits.push(range)?;
+    }
+    Ok(())
 }
 
 /// Adds both ends of each range as cuts. Such a range doesn't count as covered.

@@ -157,6 +157,20 @@ fn put_marks<A: Allocator + Copy>(
     Ok(is_marked)
 }
 
+/// The name of a region's box, by which a link finds it: `r00:1f.2-24`, none where it is free.
+fn anchor_of<A: Allocator + Copy>(alloc: A, region: &Region<'_>) -> Result<Words<A>, OutOfMemory> {
+    let mut anchor = Words::new(alloc);
+    if region.part != Part::Free {
+        anchor.put_all(&[
+            b"r".as_slice(),
+            region.slot,
+            b"-".as_slice(),
+            region.register,
+        ])?;
+    }
+    Ok(anchor)
+}
+
 /// Draws the box of a region.
 fn draw_box<A: Allocator + Copy>(
     alloc: A,
@@ -169,13 +183,7 @@ fn draw_box<A: Allocator + Copy>(
 {
     let region = &placed.region;
     let class = class_of(&board.faults, region, placed.is_lost);
-    let mut anchor = Words::new(alloc);
-    if region.part != Part::Free {
-        anchor.put(b"r")?;
-        anchor.put(region.slot)?;
-        anchor.put(b"-")?;
-        anchor.put(region.register)?;
-    }
+    let anchor = anchor_of(alloc, region)?;
     let shape = Shape {
         at,
         class: class.as_bytes(),

@@ -1,5 +1,6 @@
 //! A line of words that is being written.
 ghost use Rattle.std.specs.Prelude.{◌≡◌, ◌++◌, [], IfOk, OnOk};
+ghost use Rattle.std.specs.List.{flat_map};
 
 use super::function::{Buses, Function};
 use super::memory::OutOfMemory;
@@ -59,6 +60,17 @@ impl<A: Allocator + Copy> Words<A> {
         Ok(())
     }
 
+    /// Appends some bytes one behind the other.
+    pub fn put_all(&mut self, parts: &[&[u8]]) -> Result<(), OutOfMemory>
+        ensures { OnOk result
+            (self.new.bytes.items ≡ self.old.bytes.items ++ flat_map (λ part. part.now) parts.now) }
+    {
+        for part in parts {
+            self.put(part)?;
+        }
+        Ok(())
+    }
+
     /// Appends the lowest `digits` hex digits of a number, at most 16.
     pub fn put_hex(&mut self, number: u64, digits: usize) -> Result<(), OutOfMemory> {
         let all = hex_digits(number);
@@ -105,23 +117,24 @@ impl<A: Allocator + Copy> Words<A> {
         }
         match class_name(function.class) {
             Some(name) => self.put(name.as_bytes())?,
-            None => {
-                self.put(b"class ")?;
-                self.put(function.class)?;
-            }
+            None => self.put_all(&[b"class ".as_slice(), function.class])?,
         }
-        self.put(b" ")?;
-        self.put(function.vendor)?;
-        self.put(b":")?;
-        self.put(function.device)
+        self.put_all(&[
+            b" ".as_slice(),
+            function.vendor,
+            b":".as_slice(),
+            function.device,
+        ])
     }
 
     /// Appends slot, register and size of a region, as `00:1f.2 24, 2K`.
     pub fn put_region(&mut self, region: &Region<'_>) -> Result<(), OutOfMemory> {
-        self.put(region.slot)?;
-        self.put(b" ")?;
-        self.put(region.register)?;
-        self.put(b", ")?;
+        self.put_all(&[
+            region.slot,
+            b" ".as_slice(),
+            region.register,
+            b", ".as_slice(),
+        ])?;
         self.put_size(region.size)
     }
 

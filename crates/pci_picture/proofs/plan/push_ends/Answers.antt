@@ -1,4 +1,4 @@
-use Rattle.std.proofs.Common.{arith, take, sym, ap, ◌∙◌, subst, ◌≡◌, ◌+◌}
+use Rattle.std.proofs.Common.{arith, sym, ap, ◌∙◌, subst, ◌≡◌, ◌+◌}
 use Rattle.std.proofs.lemmas.List.{take_all}
 use Rattle.pci_picture.specs.Cuts.{AddsEnds, HasCut}
 use Rattle.pci_picture.proofs.Marked.{keeps_all, keeps_more, has_last, ends_more, no_ends, unlike}
