@@ -29,3 +29,4 @@ pub mod Throughout
 pub mod Spares
 pub mod Examples
 pub mod Once
+pub mod Logs

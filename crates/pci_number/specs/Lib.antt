@@ -13,3 +13,5 @@ pub mod Left
 pub mod Few
 pub mod Calls
 pub mod Spare
+pub mod Logs
+pub mod Numberings

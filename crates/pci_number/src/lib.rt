@@ -3,6 +3,7 @@
 //! (Bridge 1.2, 3.2.5.2 to 3.2.5.4).
 #![tactic(auto)]
 
+pub mod access;
 pub mod board_laws;
 pub mod hot_plug;
 mod hush;
@@ -12,6 +13,7 @@ pub mod number;
 mod open;
 pub mod port;
 mod put;
+pub mod replay;
 mod spare;
 pub mod stop;
 mod walk;

@@ -1,0 +1,69 @@
+-- A log of accesses to a board, and the boards of which it is true.
+use Rattle.std.specs.Prelude.{◌≡◌, ℕ, zero, suc, ◌+◌, ◌/◌, ◌%◌, ◌==◌, nat_le, Bool, true, false, if◌then◌else◌, List, [], ◌∷◌, Option, Some, None}
+use Rattle.std.specs.List.{slice_get}
+use Rattle.pci_spec.specs.Slot.{Slot}
+use Rattle.pci_spec.specs.Machine.{Write}
+use Rattle.number_spec.specs.Board.{Board}
+use Rattle.number_spec.specs.Access.{IsByteRead, IsByteWritten}
+use Rattle.pci_number.specs.Stops.{number_write}
+use Rattle.pci_number.specs.declared.access.Access.{Access}
+
+-- the slot of a bus and a place: eight times the device, and the function
+abbrev pub slot_of : Access → Slot
+slot_of a = record { bus = a.bus; device = a.place / 8; function = a.place % 8 }
+
+-- an access of the kind 1 is a write, any other one a read
+abbrev pub is_write : Access → Bool
+is_write a = a.kind == 1
+
+-- what an access shows of the board before it, and what it leaves
+pub record IsTrueOf (before : Board) (a : Access) (after : Board) : Type 0 where
+  pub shown : is_write a ≡ false → IsByteRead before (slot_of a) a.offset a.value
+  pub same : is_write a ≡ false → after ≡ before
+  pub written : is_write a ≡ true → IsByteWritten before (slot_of a) a.offset after
+
+-- each access of a log is true of the board before it and the one after it, from the n-th board on
+abbrev pub AreTrueFrom : (ℕ → Board) → ℕ → List Access → Type 0
+AreTrueFrom boards n [] = Unit {0}
+AreTrueFrom boards n (a ∷ log) = IsTrueOf (boards n) a (boards (suc n)) × AreTrueFrom boards (suc n) log
+
+-- A log, and the boards that stood before each of its accesses and after the last one.
+pub record TrueLog : Type 0 where
+  pub log : List Access
+  pub boards : ℕ → Board
+  pub are_true : AreTrueFrom boards 0 log
+
+-- no access
+pub no_log : TrueLog
+no_log = record { log = []; boards = λ n. []; are_true = tt }
+
+-- an access that is wanted is a read or a write
+abbrev pub is_access : Option Access → Bool
+is_access None = true
+is_access (Some a) = nat_le a.kind 1
+
+-- ---- what was written by the first n accesses of a log
+
+abbrev pub is_a_write : Option Access → Bool
+is_a_write None = false
+is_a_write (Some a) = is_write a
+
+abbrev pub write_of : Option Access → Option Write
+write_of None = None
+write_of (Some a) = Some (number_write (slot_of a) a.offset a.value)
+
+-- how many writes they are
+abbrev pub writes_made : List Access → ℕ → ℕ
+writes_made log zero = 0
+writes_made log (suc n) = if is_a_write (slice_get log n) then writes_made log n + 1 else writes_made log n
+
+-- the last write
+abbrev pub last_made : List Access → ℕ → Option Write
+last_made log zero = None
+last_made log (suc n) = if is_a_write (slice_get log n) then write_of (slice_get log n) else last_made log n
+
+-- the boards that stood after each write, the last one first
+abbrev pub boards_stood : TrueLog → ℕ → List Board
+boards_stood world zero = []
+boards_stood world (suc n) =
+    if is_a_write (slice_get world.log n) then world.boards (suc n) ∷ boards_stood world n else boards_stood world n
