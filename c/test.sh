@@ -37,7 +37,7 @@ shows() {
 
 # What firmware takes is compiled with no header but the compiler's own.
 headers=$(${CC:-cc} -print-file-name=include)
-for part in capture/pciplan_capture number/pciplan_number apply/pciplan_apply memory/pciplan_fixed_memory \
+for part in capture/pciplan_capture number/pciplan_number number/pciplan_number_steps apply/pciplan_apply memory/pciplan_fixed_memory \
     processor/pciplan_supported version/pciplan_version example/pciplan_bring_up; do
     compiled "${part##*_}.o" -ffreestanding -nostdinc -isystem "$headers" -c "$here/$part.c"
 done
@@ -113,6 +113,11 @@ compiled used -Wl,--wrap=rattle_alloc,--wrap=rattle_realloc \
 told '' "$built/used"
 compiled put "$here/test/pciplan_apply_test.c" "$built/apply.o" "$built/capture.o" "$built/memory.o" "$library"
 told '' "$built/put"
+# Numbering by the library's steps makes the writes that crates/test_numbering makes.
+compiled steps_told "$here/test/pciplan_number_told.c" "$here/test/pciplan_number_steps_test.c" \
+    "$built/steps.o" "$here/test/pciplan_board.c" "$built/memory.o" "$library"
+"$built/steps_told" <"$boards/stdin" | cmp - "$boards/stdout"
+told "number by steps: $(grep -vc @ "$boards/stdout")" echo ' writes and answers as in crates/test_numbering'
 compiled bring_up "$here/test/pciplan_bring_up_test.c" "$here/test/pciplan_board.c" "$built/up.o" "$built/apply.o" \
     "$built/number.o" "$built/capture.o" "$built/supported.o" "$built/memory.o" "$library"
 told '' "$built/bring_up"

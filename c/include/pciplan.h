@@ -1,5 +1,5 @@
-/* The verdict, the list of faults, the plan and the settling of pciplan, and the accesses that put these onto a machine, from
-   C: link crates/pciplan_c/out/libpciplan_c.a, which `rt lib` makes there, or libpciplan.a or libpciplan.so.0, which
+/* The verdict, the list of faults, the plan and the settling of pciplan, the accesses that put these onto a machine, and those
+   that number its buses, from C: link crates/pciplan_c/out/libpciplan_c.a, which `rt lib` makes there, or libpciplan.a or libpciplan.so.0, which
    `install.sh --library` makes of it and of c/memory/pciplan_memory.c, c/processor and c/version.
 
    The library holds no state, keeps nothing between calls, starts no thread and touches no file. Besides memcpy, memmove,
@@ -26,8 +26,8 @@
 
    What the caller has to uphold, which nothing checks: each pointer is to as many bytes as its length says, and isn't
    null, even where the length is 0; they stay as they are during the call; what is written to (line, line_used,
-   text, text_used, writes, writes_used, safe_from, denied, denied_used, registers, registers_used, access) overlaps nothing
-   else that is handed in. */
+   text, text_used, writes, writes_used, safe_from, denied, denied_used, registers, registers_used, access, step) overlaps
+   nothing else that is handed in. */
 #ifndef PCIPLAN_H
 #define PCIPLAN_H
 
@@ -243,6 +243,45 @@ enum pciplan_fault {
    access->done writes made. answered is 0 where the access failed; shown is what a read showed, and of no matter for a
    write. It takes no memory. c/apply/pciplan_apply.c makes all accesses by these calls. */
 uint8_t pciplan_judge(const struct pciplan_access *access, uint8_t answered, uint32_t shown);
+
+enum pciplan_number_kind {
+    PCIPLAN_READ = 0, /* a byte is read */
+    PCIPLAN_WRITE = 1 /* a byte is written */
+};
+
+/* An access to a byte of a function's configuration space. */
+struct pciplan_number_access {
+    uint8_t bus;
+    uint8_t place;  /* eight times the device, and the function */
+    uint8_t offset;
+    uint8_t kind;   /* of enum pciplan_number_kind */
+    uint8_t value;  /* what is written, or what was read; 0 of a read that wasn't made yet */
+};
+
+enum pciplan_number_answer {
+    PCIPLAN_NUMBER_DONE = 0,   /* each bridge has its numbers */
+    PCIPLAN_NUMBER_NO_BUS = 1, /* they ran out: access names the first bridge without; it and all after it forward nothing */
+    PCIPLAN_NUMBER_STUCK = 2,  /* access is the last write, and it read back otherwise; nothing more is to be done */
+    PCIPLAN_NUMBER_ACCESS = 3  /* access is to be made next */
+};
+
+struct pciplan_number_step {
+    struct pciplan_number_access access;
+    size_t used;     /* so many accesses of the log were the numbering's: all, if nothing else was put into it */
+    uint8_t highest; /* at DONE and NO_BUS the greatest bus number given or kept free, root where none was */
+};
+
+/* What follows from the accesses that were made to give bus numbers to the bridges behind the host's bus root, of
+   enum pciplan_number_answer. log has all of them in their order, with what each read showed. The next access is made and
+   appended, and the call is made again with the longer log, from log_len 0 on. Numbers are given as pciplan_number.h says:
+   depth first in the order of slots, with root + 1 to last; spare numbers are kept free behind a bridge with a hot-plug
+   slot. Only bytes 18h to 1Ah of bridges are written.
+
+   It holds of any board whose accesses showed what log says. Where an access fails, nothing more is to be made. Each call
+   goes over the whole log, so the time grows with its square: 255 bridges in a row take some 33,000 accesses. It takes no
+   memory. c/number/pciplan_number_steps.c makes all accesses by this call. */
+uint8_t pciplan_number_step(const struct pciplan_number_access *log, size_t log_len,
+                            uint8_t root, uint8_t last, uint8_t spare, struct pciplan_number_step *step);
 
 /* What the library calls for memory. A block that was handed out is the library's until it is given back, and so lies
    apart from all else. It begins at a multiple of align, a power of two.

@@ -7,6 +7,7 @@ pub mod DeniedSpares
 pub mod SettleWords
 pub mod SettleAnswers
 pub mod Stepping
+pub mod Numbering
 pub mod FaultsWords
 pub mod NoLists
 pub mod Listings

@@ -6,6 +6,8 @@ ghost use Rattle.pci_dump.specs.declared.read_fault.ReadFault.{ReadFault};
 ghost use Rattle.pci_tree.specs.Roots.{IsRootList};
 ghost use Rattle.pci_plan.specs.Steps.{judged, steps_of};
 ghost use Rattle.pci_function.specs.declared.fault.Fault.{Fault};
+ghost use Rattle.pci_number.specs.Logs.{TrueLog};
+ghost use Rattle.pci_number.specs.Numberings.{IsSteppedTo};
 ghost use Rattle.pci_check.specs.declared.outcome.Outcome.TheVariants.{Yes, No};
 ghost use Rattle.pciplan_c.specs.Answers.{IsVerdictText, IsAnswerTold, IsTooLong};
 ghost use Rattle.pciplan_c.specs.Listings.{IsListing, IsListingTooLong, IsTextPut, MayWantToList};
@@ -13,6 +15,7 @@ ghost use Rattle.pciplan_held.specs.RegisterWrites.{write_value_of};
 ghost use Rattle.pciplan_c.specs.Endings.{ArePut, AreTooMany, IsNoneTold, IsNoneTooLong};
 ghost use Rattle.pciplan_c.specs.PlanAnswers.{ArePlanned, IsNoPlanOf, pools_of};
 ghost use Rattle.pciplan_c.specs.SettleAnswers.{AreAllPut, AreSettledSome, AreTooManyDenied, IsNoSettlingOf, MayWant, arrays};
+ghost use Rattle.pciplan_c.specs.Numbering.{stepped_of};
 ghost use Rattle.pciplan_c.specs.Stepping.{IsStartPut, IsStartTooLong, answer_number, said_of, shown_value, c_step_value};
 ghost use Rattle.pciplan_c.specs.declared.answer.Answer.TheVariants.{Verdict, Refused};
 ghost use Rattle.pciplan_c.specs.declared.listing.Listing.{Listing};
@@ -24,6 +27,7 @@ use crate::denied_spare::DeniedSpare;
 use crate::ending::{Ending, HeldBack};
 use crate::faults_words::FaultsWords;
 use crate::listing::{Listing, faults_into};
+use crate::numbering::{NumberStep, put_step};
 use crate::planning::plan_into;
 use crate::pools::PoolsOfC;
 use crate::settle_words::SettleWords;
@@ -32,6 +36,8 @@ use crate::starting::{NoStart, start_into};
 use crate::stepping::{RegisterStep, judge, step_at};
 use crate::verdict::check_into;
 use pci_check::outcome::Outcome;
+use pci_number::access::Access;
+use pci_number::replay::next_access;
 use pciplan_held::put::Withheld;
 use pciplan_held::register_write::RegisterWrite;
 use std::alloc::Global;
@@ -436,4 +442,28 @@ pub extern "C" fn pciplan_judge(step: &RegisterStep, answered: u8, shown: u32) -
     } else {
         judge(step, Some(shown))
     }
+}
+
+/// What follows from the accesses that were made to number the buses behind `root`, in their order, each with what it showed.
+/// Bridges get the numbers up to `last`, and `spare` more are kept free behind each with a hot-plug slot.
+///
+/// It answers 3 where `step.access` is to be made next, which is then appended to `log`. It answers 0 where each bridge has its
+/// numbers, and 1 where they ran out at the bridge of `step.access`; `step.highest` is the last bus that a bridge leads to. It
+/// answers 2 where the last write, `step.access`, read back otherwise. `step.used` accesses of `log` are the numbering's.
+#[unsafe(no_mangle)]
+pub extern "C" fn pciplan_number_step(
+    log: &[Access],
+    root: u8,
+    last: u8,
+    spare: u8,
+    step: &mut NumberStep,
+) -> u8
+    // whatever the board is: each access showed what is there
+    ghost world: { TrueLog }
+    requires { log.now ≡ world.log }
+    ensures step { IsSteppedTo world root last spare (stepped_of result step.new) }
+    // a caller's loop has no other case
+    ensures known { result ≤ 3 }
+{
+    put_step(&next_access(log, root, last, spare), step)
 }

@@ -7,7 +7,8 @@
 //! `no_list` has why there is no list. `settle_words` reads what is asked of settling, and `told` the ranges that are told
 //! beside it; `unready` has what stands in the way of judging with these. `ending` has what planning and settling end with, and
 //! `no_writes` why there are no writes. As no hook of C can be called from here, a plan is put onto a machine by
-//! accesses that C makes one after another: `starting` and `stepping` say which, and what follows from each.
+//! accesses that C makes one after another: `starting` and `stepping` say which, and what follows from each. So are the buses of
+//! a board numbered: `numbering` has the answers.
 #![tactic(auto)]
 
 pub mod answer;
@@ -20,6 +21,7 @@ pub mod faults_words;
 pub mod listing;
 pub mod no_list;
 pub mod no_writes;
+pub mod numbering;
 #[cfg(test)]
 mod plan_tests;
 pub mod planning;
