@@ -13,6 +13,10 @@ pub mod Apart
 pub mod Positions
 pub mod Titles
 pub mod Taken
+pub mod Headings
+pub mod Filtered
+pub mod Members
+pub mod Groups
 pub mod Sections
 pub mod HexDigits
 pub mod DecimalDigits

@@ -1,18 +1,17 @@
 -- The regions of sections while they are drawn.
-use Rattle.std.proofs.Common.{◌≡◌, ◌≤◌, ◌<◌, ◌+◌, ◌-◌, ◌==◌, ℕ, true, List, [], ◌∷◌, ◌++◌, map, take, drop, length, get_or, Result, Ok, Err, IfOk, refl, sym, ap, subst, ◌∙◌, arith}
-use Rattle.std.specs.List.{All}
-use Rattle.std.specs.List.Sorted.{IsPermutation}
-use Rattle.std.proofs.lemmas.Bool.{eqb-true}
-use Rattle.std.proofs.lemmas.List.{append_assoc, map-append, append-nil, map_more, take_more, take-append-drop, take-take, drop-take, take_all}
-use Rattle.std.proofs.lemmas.List.Concat.{flat_map-append}
-use Rattle.std.proofs.lemmas.List.Elements.{All-append, All-cons, All-nil}
-use Rattle.std.proofs.lemmas.List.Sorted.{IsPermutation-refl, IsPermutation-trans, IsPermutation-append_left, IsPermutation-map}
+use Rattle.std.proofs.Common.{◌≡◌, ◌≤◌, ◌<◌, ◌+◌, ◌-◌, ◌==◌, ℕ, true, List, [], ◌∷◌, ◌++◌, map, take, drop, length, get_or, Result, Ok, Err, IfOk, refl, sym, ap, subst, ◌∙◌, arith, inl, inr}
+use Rattle.std.specs.List.{All, slice_split}
+use Rattle.std.specs.List.Sorted.{IsNonDecreasingBy, IsPermutation}
+use Rattle.std.proofs.lemmas.Bool.{cases_lt, eqb-true}
+use Rattle.std.proofs.lemmas.List.{append_assoc, map-append, map_more, take_more, take-append-drop, take-take, drop-take, take_all, length-take, length-drop, get_or-take, get_or-drop, get_or_default}
+use Rattle.std.proofs.lemmas.List.Sorted.{IsPermutation-trans, IsPermutation-append_left, IsPermutation-map}
 use Rattle.pci_picture.specs.Boxes.{IsDrawnOf, IsPictureOf}
 use Rattle.pci_picture.specs.Canvases.{Adds, AddsSome, HasDrawn}
-use Rattle.pci_picture.specs.Drawings.{AreOfSection, AreOfSections}
-use Rattle.pci_picture.specs.Lines.{region_lines}
-use Rattle.pci_picture.specs.Maps.{lines_of, regions_under, regions_of, regions_at, lines_read}
-use Rattle.pci_picture.specs.Spots.{Spot, spot_at, lines_drawn, all_of, AreStanding}
+use Rattle.pci_picture.specs.Drawings.{AreGrouped, AreOfSection, AreOfSections, IsRunOfSection, sections_of}
+use Rattle.pci_picture.specs.Headings.{AreSectionsOf, headed_regions}
+use Rattle.pci_picture.specs.Lines.{is_feed, region_lines}
+use Rattle.pci_picture.specs.Maps.{AreMembersOf, IsReadOf, lines_of, regions_under, regions_of, regions_at, lines_read}
+use Rattle.pci_picture.specs.Spots.{Spot, spot_at, lines_drawn, all_of}
 use Rattle.pci_picture.specs.declared.canvas.Canvas.{Canvas}
 use Rattle.pci_picture.specs.declared.map.Line.{Line}
 use Rattle.pci_picture.specs.declared.map.Map.{Map}
@@ -20,6 +19,7 @@ use Rattle.pci_picture.specs.declared.plan.Member.{Member}
 use Rattle.pci_picture.specs.declared.plan.Placed.{Placed}
 use Rattle.pci_picture.specs.declared.region.Region.{Region}
 use Rattle.pci_picture.proofs.Boxes.{then_adds, then_some, unchanged}
+use Rattle.pci_picture.proofs.Groups.{no_group, group_more, grouped, sections_of_all}
 
 take_both : {X : Type 0} (m n : ℕ) (xs : List X) → take (m + n) xs ≡ take m xs ++ take n (drop m xs)
 take_both m n xs =
@@ -99,73 +99,56 @@ same_rows regions every first after is done = subst (λ l. AddsSome (λ spots. l
 
 -- ---- one section more
 
-pub one_of_all : {X : Type 0} (P : X → Type 0) (x : X) → P x → All P (x ∷ [])
-one_of_all P x p = All-cons P x [] p (All-nil P)
+pub no_section : {A : Type 0} (members : List Member) (y : ℕ) (canvas : Canvas A) → AddsSome (AreGrouped members 0 y) canvas canvas
+no_section members y canvas = record { spots = []; hold = no_group members y; adds = unchanged canvas }
 
-all_more : (sections : List (List Spot)) (spots : List Spot) → all_of (sections ++ spots ∷ []) ≡ all_of sections ++ spots
-all_more sections spots =
-    flat_map-append (λ s. s) sections (spots ∷ []) ∙ ap (λ l. all_of sections ++ l) (append-nil spots)
+part_alike : (members : List Member) (begin end number : ℕ) → begin ≤ end → end ≤ length members
+    → ((d : Member) → (get_or members begin d).section ≡ number) → IsRunOfSection members begin end
+    → All (λ member. member.section ≡ number) (take (end - begin) (drop begin members))
+part_alike members begin end number up within is run k d inside =
+    let long = length-take (end - begin) (drop begin members) in
+    let rest = length-drop begin members in
+    ap (λ m. m.section) (get_or-take (end - begin) (drop begin members) k d (omega arith) ∙ get_or-drop begin members k d)
+    ∙ run.alike (begin + k) d (omega arith) (omega arith) ∙ is d
 
-pub no_section : {A : Type 0} (y : ℕ) (canvas : Canvas A) → AddsSome (AreOfSections [] y) canvas canvas
-no_section y canvas = record {
-  spots = [];
-  hold = record { sections = []; joined = refl; each_once = IsPermutation-refl []; stand = λ small. All-nil AreStanding };
-  adds = unchanged canvas;
-}
+between : (number here there : ℕ) → here ≡ number → here ≤ there → (there ≡ here → ⊥) → number < there
+between number here there is up apart =
+    elim (cases_lt here there) [
+      | inl less ↦ omega (arith, is, less)
+      | inr more ↦ absurd (apart (omega (arith, up, more)))
+    ]
 
-of_sections : (some one lines : List (List ℕ)) (y end : ℕ) (spots more : List Spot) → lines ≡ some ++ one → y ≤ end
-    → AreOfSections some y spots → AreOfSection one end more → AreOfSections lines end (spots ++ more)
-of_sections some one lines y end spots more is down done last =
-    let both : lines_drawn (spots ++ more) ≡ lines_drawn spots ++ one =
-    map-append (λ s. s.line) spots more ∙ ap (λ l. lines_drawn spots ++ l) last.drawn in
-    record {
-      sections = done.sections ++ more ∷ [];
-      joined = all_more done.sections more ∙ ap (λ l. l ++ more) done.joined;
-      each_once =
-          subst (λ l. IsPermutation l (lines_drawn (spots ++ more))) (sym is)
-          (subst (λ l. IsPermutation (some ++ one) l) (sym both) (IsPermutation-append_left one some (lines_drawn spots) done.each_once));
-      stand = λ small.
-          All-append AreStanding done.sections (more ∷ []) (done.stand (omega (arith, down, small))) (one_of_all AreStanding more (last.stand small));
-    }
-
-pub section_more : {A : Type 0} (members part : List Member) (begin end y bottom : ℕ) (first before after : Canvas A) → begin ≤ end → end ≤ length members
-    → part ≡ take (end - begin) (drop begin members) → y ≤ bottom
-    → AddsSome (AreOfSections (lines_of (regions_of (take begin members))) y) first before
+pub section_more : {A : Type 0} (members part : List Member) (begin end y bottom : ℕ) (member : Member) (first before after : Canvas A) → begin < end
+    → end ≤ length members → member ≡ get_or members begin member → part ≡ take (end - begin) (drop begin members) → y ≤ bottom
+    → IsNonDecreasingBy (λ (m : Member). m.section) members → IsRunOfSection members begin end
+    → AddsSome (AreGrouped members begin y) first before
     → AddsSome (AreOfSection (lines_of (regions_of part)) bottom) before after
-    → AddsSome (AreOfSections (lines_of (regions_of (take end members))) bottom) first after
-section_more members part begin end y bottom first before after up within is down done adds =
+    → AddsSome (AreGrouped members end bottom) first after
+section_more members part begin end y bottom member first before after up within at is down sorted run done adds =
     let joined : take end members ≡ take begin members ++ part =
     ap (λ n. take n members) (omega arith) ∙ take_both begin (end - begin) members ∙ ap (λ l. take begin members ++ l) (sym is) in
-    let more : lines_of (regions_of (take end members)) ≡ lines_of (regions_of (take begin members)) ++ lines_of (regions_of part) =
-    ap (λ l. lines_of (regions_of l)) joined
-    ∙ ap lines_of (map-append (λ m. m.region) (take begin members) part)
-    ∙ map-append (λ r. r.line.now) (regions_of (take begin members)) (regions_of part) in
+    let number : ℕ = member.section in
+    let there : (d : Member) → (get_or members begin d).section ≡ number =
+    λ d. ap (λ m. m.section) (get_or_default members begin d member (omega arith) ∙ sym at) in
     record {
       spots = done.spots ++ adds.spots;
       hold =
-          of_sections (lines_of (regions_of (take begin members))) (lines_of (regions_of part)) (lines_of (regions_of (take end members))) y bottom
-          done.spots adds.spots more down done.hold adds.hold;
+          group_more members part begin end y bottom number done.spots adds.spots done.hold joined down
+          (subst (All (λ m. m.section ≡ number)) (sym is) (part_alike members begin end number (omega arith) within there run))
+          (subst (λ n. All (λ section. section.number < n) (sections_of done.hold.groups)) (there member) (done.hold.below member (omega arith)))
+          (λ d inside. between number ((get_or members begin d).section) ((get_or members end d).section) (there d)
+          (sorted begin end d (omega arith) inside) (run.next d inside))
+          adds.hold;
       adds = then_adds done.spots adds.spots first before after done.adds adds.adds;
     }
 
 pub all_sections : {A : Type 0} (lines : List Line) (members : List Member) (begin y : ℕ) (first after : Canvas A) → length members ≤ begin
-    → AddsSome (AreOfSections (lines_of (regions_of (take begin members))) y) first after
-    → IsPermutation (regions_under lines) (regions_of members) → AddsSome (AreOfSections (lines_of (regions_under lines)) y) first after
-all_sections lines members begin y first after past done moved =
-    let all : IsPermutation (lines_of (regions_of members)) (lines_drawn done.spots) =
-    subst (λ l. IsPermutation (lines_of (regions_of l)) (lines_drawn done.spots)) (take_all begin members past) done.hold.each_once in
-    record {
-      spots = done.spots;
-      hold = record {
-        sections = done.hold.sections;
-        joined = done.hold.joined;
-        each_once =
-            IsPermutation-trans (lines_of (regions_under lines)) (lines_of (regions_of members)) (lines_drawn done.spots)
-            (IsPermutation-map (λ r. r.line.now) (regions_under lines) (regions_of members) moved) all;
-        stand = done.hold.stand;
-      };
-      adds = done.adds;
-    }
+    → AreMembersOf lines members → AddsSome (AreGrouped members begin y) first after → AddsSome (AreOfSections lines y) first after
+all_sections lines members begin y first after past are done = record {
+  spots = done.spots;
+  hold = grouped lines members begin y done.spots past are done.hold;
+  adds = done.adds;
+}
 
 pub sorted_members : (lines : List Line) (before after : List Member) → regions_of before ≡ regions_under lines → IsPermutation before after
     → IsPermutation (regions_under lines) (regions_of after)
@@ -175,8 +158,8 @@ sorted_members lines before after is moved =
 -- ---- the whole
 
 pub whole_picture : {A T E : Type 0} (map : List ℕ) (read : Map A) (new before between last : Canvas A) (y height : ℕ) (result : Result T E) (bytes : T → List ℕ)
-    → IsPermutation (region_lines map) (lines_read read) → y ≤ height
-    → HasDrawn [] new → Adds [] new before → AddsSome (AreOfSections (lines_of (regions_under read.lines.items)) y) before between
+    → IsReadOf (slice_split is_feed map) read → y ≤ height
+    → HasDrawn [] new → Adds [] new before → AddsSome (AreOfSections read.lines.items y) before between
     → AddsSome (λ spots. lines_drawn spots ≡ lines_of read.off.items) between last
     → ((spots : List Spot) → HasDrawn spots last → IfOk result (λ text. IsDrawnOf spots height (bytes text)))
     → IfOk result (λ text. IsPictureOf map (bytes text))
@@ -191,8 +174,12 @@ whole_picture map read new before between last y height (Ok text) bytes told dow
       each_once =
           subst (λ l. IsPermutation (region_lines map) (lines_drawn l)) joined
           (subst (λ l. IsPermutation (region_lines map) l) (sym both)
-          (IsPermutation-trans (region_lines map) (lines_read read) (lines_drawn some.spots ++ lines_of read.off.items) told
+          (IsPermutation-trans (region_lines map) (lines_read read) (lines_drawn some.spots ++ lines_of read.off.items) told.each_once
           (IsPermutation-append_left (lines_of read.off.items) (lines_of (regions_under read.lines.items)) (lines_drawn some.spots) some.hold.each_once)));
+      below_headings =
+          sections_of_all (headed_regions map) some.hold.sections
+          (subst (λ l. AreSectionsOf l some.hold.sections) told.kept some.hold.below_headings);
+      below_none = off.hold ∙ told.off;
       height = height;
       drawn =
           subst (λ l. IsDrawnOf l height (bytes text)) joined

@@ -1,14 +1,14 @@
 -- The lines of a map while it is read.
-use Rattle.std.proofs.Common.{◌≡◌, ◌≤◌, ◌<◌, ℕ, zero, suc, Bool, true, false, not, ltb, IsTrue, List, [], ◌∷◌, ◌++◌, map, drop, length, get_or, refl, sym, ap, subst, ◌∙◌, inl, inr}
+use Rattle.std.proofs.Common.{◌≡◌, ◌<◌, ℕ, zero, suc, Bool, true, false, not, IsTrue, List, [], ◌∷◌, ◌++◌, map, drop, length, get_or, refl, sym, ap, subst, ◌∙◌, inl, inr}
 use Rattle.std.specs.List.{list_all, All, flat_map, slice_split, onto_first}
 use Rattle.std.specs.List.Sorted.{IsPermutation}
-use Rattle.std.proofs.lemmas.Bool.{and_parts, cases_Bool, lt-ltb, le-ltb}
+use Rattle.std.proofs.lemmas.Bool.{and_parts, cases_Bool}
 use Rattle.std.proofs.lemmas.List.{append_assoc, append-nil, map-append}
 use Rattle.std.proofs.lemmas.List.Concat.{flat_map-append}
 use Rattle.std.proofs.lemmas.List.Elements.{All-head, All-tail, All-cons, All-nil, All-get_or}
 use Rattle.std.proofs.lemmas.List.Sorted.{IsPermutation-refl, IsPermutation-trans, IsPermutation-append_left, IsPermutation-append_right, IsPermutation-append_comm}
 use Rattle.std.proofs.lemmas.List.Splits.{slice_split-cons_yes, slice_split-cons_no}
-use Rattle.pci_picture.specs.Lines.{is_feed, is_one_line, indent_of, content_of, region_line, told_line, region_lines}
+use Rattle.pci_picture.specs.Lines.{is_feed, is_one_line, indent_of, content_of, told_line}
 use Rattle.pci_picture.specs.Maps.{lines_of, regions_under}
 use Rattle.pci_picture.specs.declared.map.Line.{Line}
 use Rattle.pci_picture.specs.declared.region.Region.{Region}
@@ -45,25 +45,6 @@ pub part_one_line : (text line : List ℕ) (k : ℕ) → (k < length (slice_spli
 part_one_line text line k at =
     subst IsOneLine (sym at.1) (All-get_or IsOneLine (slice_split is_feed text) k line at.0 (parts_one_line text))
 
--- ---- what a line tells
-
-pub shallow : (line : List ℕ) (blanks : ℕ) → blanks ≡ indent_of line → blanks < 2 → told_line line ≡ []
-shallow line blanks is less = rw (lt-ltb (indent_of line) 2 (subst (λ n. n < 2) is less)) refl
-
-pub deep : (line content : List ℕ) (blanks : ℕ) (told : List (List ℕ)) → blanks ≡ indent_of line → 2 ≤ blanks → content ≡ content_of line
-    → region_line content ≡ told → told_line line ≡ told
-deep line content blanks told is more same says =
-    let far : ltb (indent_of line) 2 ≡ false = le-ltb (indent_of line) 2 (subst (λ n. 2 ≤ n) is more) in
-    let here : region_line (content_of line) ≡ told = ap region_line (sym same) ∙ says in
-    rw far here
-
-pub untold : (old told : List (List ℕ)) → told ≡ [] → IsPermutation (old ++ told) old
-untold old told none =
-    subst (λ l. IsPermutation l old) (sym (ap (λ t. old ++ t) none ∙ append-nil old)) (IsPermutation-refl old)
-
-pub told_one : (old new told : List (List ℕ)) (line : List ℕ) → told ≡ line ∷ [] → IsPermutation (old ++ line ∷ []) new → IsPermutation (old ++ told) new
-told_one old new told line is moved = subst (λ t. IsPermutation (old ++ t) new) (sym is) moved
-
 -- ---- one more region
 
 more_line : (lines : List Line) (line : Line) → lines_of (regions_under (lines ++ line ∷ [])) ≡ lines_of (regions_under lines) ++ line.region.line.now ∷ []
@@ -80,13 +61,6 @@ put_line lines new off line is =
     (subst (λ l. IsPermutation (before ++ (off ++ one)) l) (sym (append_assoc before one off))
     (IsPermutation-append_right before (off ++ one) (one ++ off) (IsPermutation-append_comm off one))))
 
-pub put_off : (lines : List (List ℕ)) (off new : List Region) (region : Region) → new ≡ off ++ region ∷ []
-    → IsPermutation ((lines ++ lines_of off) ++ region.line.now ∷ []) (lines ++ lines_of new)
-put_off lines off new region is =
-    let one = region.line.now ∷ [] in
-    subst (λ l. IsPermutation ((lines ++ lines_of off) ++ one) (lines ++ l)) (sym (ap lines_of is ∙ map-append (λ r. r.line.now) off (region ∷ [])))
-    (subst (λ l. IsPermutation ((lines ++ lines_of off) ++ one) l) (append_assoc lines (lines_of off) one) (IsPermutation-refl _))
-
 -- ---- one more line
 
 pub more_told : {X : Type 0} (now : X → List ℕ) (lines : List X) (line : X) (bytes : List ℕ) (old new : List (List ℕ)) → bytes ≡ now line
@@ -101,10 +75,6 @@ more_told now lines line bytes old new same before step =
     subst (λ l. IsPermutation l new) (sym split)
     (IsPermutation-trans (told ++ told_line bytes) (old ++ told_line bytes) new
     (IsPermutation-append_left (told_line bytes) told old before) step)
-
-pub all_told : {X : Type 0} (now : X → List ℕ) (lines : List X) (text : List ℕ) (old : List (List ℕ)) → map now lines ≡ slice_split is_feed text
-    → IsPermutation (flat_map told_line (map now lines)) old → IsPermutation (region_lines text) old
-all_told now lines text old whole before = subst (λ l. IsPermutation (flat_map told_line l) old) whole before
 
 pub none_read : (lines : List Line) (off : List Region) → lines ≡ [] → off ≡ [] → IsPermutation [] (lines_of (regions_under lines) ++ lines_of off)
 none_read lines off none nothing =

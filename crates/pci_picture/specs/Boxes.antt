@@ -3,8 +3,9 @@ use Rattle.std.specs.Prelude.{◌≡◌, ℕ, Bool, List, [], ◌∷◌, ◌++�
 use Rattle.std.specs.List.{flat_map}
 use Rattle.std.specs.List.Sorted.{IsPermutation}
 use Rattle.pci_picture.specs.Elements.{box_text, words_text, axis_text, tick_text, gap_text}
+use Rattle.pci_picture.specs.Headings.{AreSectionsOf, headed_regions, is_off, lines_below}
 use Rattle.pci_picture.specs.Lines.{is_feed, region_line, region_lines}
-use Rattle.pci_picture.specs.Spots.{Spot, spot_at, lines_drawn, all_of, EachStands}
+use Rattle.pci_picture.specs.Spots.{Section, Spot, spot_at, lines_drawn, all_of, EachStands}
 use Rattle.pci_picture.specs.Whole.{picture_text}
 
 -- a box by its title, its top and its height
@@ -64,12 +65,15 @@ pub record IsDrawnOf (spots : List Spot) (height : ℕ) (text : List ℕ) : Type
   pub says : text ≡ picture_text is_told boxes words width height
 
 -- a picture of a map: each line that is a region is the first line of the title of exactly one box, as often as it stands
--- in the map, and no other title begins with such a line; in each section the boxes stand at heights that rise with
--- addresses, where the height of the picture was not cut off at 64 bits
+-- in the map, and no other title begins with such a line. A section has what stands below the headings with its number, and
+-- some of what is out of place. What stands below no such heading is off, in its order. In each section the boxes stand at
+-- heights that rise with addresses, where the height of the picture was not cut off at 64 bits
 pub record IsPictureOf (map text : List ℕ) : Type 0 where
-  pub sections : List (List Spot)
+  pub sections : List Section
   pub off : List Spot
   pub each_once : IsPermutation (region_lines map) (lines_drawn (all_of sections ++ off))
+  pub below_headings : AreSectionsOf (headed_regions map) sections
+  pub below_none : lines_drawn off ≡ lines_below is_off (headed_regions map)
   pub height : ℕ
   pub drawn : IsDrawnOf (all_of sections ++ off) height text
   pub stand : EachStands height sections

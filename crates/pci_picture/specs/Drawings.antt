@@ -1,10 +1,14 @@
 -- What is drawn of a section, and of all.
-use Rattle.std.specs.Prelude.{◌≡◌, ◌<◌, ◌≤◌, ◌+◌, ◌-◌, ◌^◌, ℕ, List}
-use Rattle.std.specs.List.{All}
+use Rattle.std.specs.Prelude.{◌≡◌, ◌<◌, ◌≤◌, ◌+◌, ◌-◌, ◌^◌, ℕ, List, map, take, length, slice_index_or}
+use Rattle.std.specs.List.{All, AllPairs, flat_map}
 use Rattle.std.specs.List.Sorted.{IsPermutation, IsNonDecreasingBy}
-use Rattle.pci_picture.specs.Spots.{Spot, first_address, last_address, lines_drawn, all_of, Rise, AreStanding, EachStands}
+use Rattle.pci_picture.specs.Headings.{AreSectionsOf, is_lost, lines_below}
+use Rattle.pci_picture.specs.Maps.{headed_line, headed_member, lines_of, regions_of, regions_under}
+use Rattle.pci_picture.specs.Spots.{Section, Spot, first_address, last_address, lines_drawn, all_of, Rise, AreStanding, EachStands}
 use Rattle.pci_picture.specs.Stacked.{height_at}
 use Rattle.pci_picture.specs.declared.heights.Run.{Run}
+use Rattle.pci_picture.specs.declared.map.Line.{Line}
+use Rattle.pci_picture.specs.declared.plan.Member.{Member}
 
 -- where a box stands, of the heights of its first address and of the one past its last
 pub record IsFramed (height_of : ℕ → ℕ) (first last y height : ℕ) : Type 0 where
@@ -32,9 +36,46 @@ pub record AreOfSection (lines : List (List ℕ)) (end : ℕ) (spots : List Spot
   pub drawn : lines_drawn spots ≡ lines
   pub stand : end < 2 ^ 64 - 1 → AreStanding spots
 
--- the boxes of regions in sections, of which the last one ends at a height: each region once
-pub record AreOfSections (lines : List (List ℕ)) (end : ℕ) (spots : List Spot) : Type 0 where
-  pub sections : List (List Spot)
+-- ---- members by sections
+
+-- members from an index up to another have one section, and the member behind them has another one
+pub record IsRunOfSection (members : List Member) (begin end : ℕ) : Type 0 where
+  pub alike : (i : ℕ) (d : Member) → begin ≤ i → i < end
+      → (slice_index_or members i d).section ≡ (slice_index_or members begin d).section
+  pub next : (d : Member) → end < length members
+      → ¬ ((slice_index_or members end d).section ≡ (slice_index_or members begin d).section)
+
+-- a section and the members that are drawn in it
+pub record Group : Type 0 where
+  pub section : Section
+  pub members : List Member
+
+pub record IsGroup (group : Group) : Type 0 where
+  pub drawn : lines_drawn group.section.spots ≡ lines_of (regions_of group.members)
+  pub lost : group.section.lost ≡ lines_below is_lost (map headed_member group.members)
+  pub alike : All (λ member. member.section ≡ group.section.number) group.members
+
+abbrev pub sections_of : List Group → List Section
+sections_of groups = map (λ group. group.section) groups
+
+abbrev pub members_of : List Group → List Member
+members_of groups = flat_map (λ group. group.members) groups
+
+-- the boxes of the first members in sections, of which the last one ends at a height
+pub record AreGrouped (members : List Member) (count end : ℕ) (spots : List Spot) : Type 0 where
+  pub groups : List Group
+  pub joined : all_of (sections_of groups) ≡ spots
+  pub taken : members_of groups ≡ take count members
+  pub each : All IsGroup groups
+  pub rise : AllPairs (λ one other. one.number < other.number) (sections_of groups)
+  pub below : (d : Member) → count < length members
+      → All (λ section. section.number < (slice_index_or members count d).section) (sections_of groups)
+  pub stand : EachStands end (sections_of groups)
+
+-- the boxes of lines in sections, of which the last one ends at a height: each region once
+pub record AreOfSections (lines : List Line) (end : ℕ) (spots : List Spot) : Type 0 where
+  pub sections : List Section
   pub joined : all_of sections ≡ spots
-  pub each_once : IsPermutation lines (lines_drawn spots)
+  pub each_once : IsPermutation (lines_of (regions_under lines)) (lines_drawn spots)
+  pub below_headings : AreSectionsOf (map headed_line lines) sections
   pub stand : EachStands end sections

@@ -4,6 +4,7 @@ pub mod Whole
 pub mod Stacked
 pub mod Lines
 pub mod Spots
+pub mod Headings
 pub mod Boxes
 pub mod Canvases
 pub mod Maps

@@ -1,6 +1,12 @@
--- The lines of regions.
-use Rattle.std.specs.Prelude.{List, ◌++◌, map, ℕ}
+-- The regions of lines, and of maps and members.
+use Rattle.std.specs.Prelude.{◌≡◌, ℕ, Option, Some, None, List, ◌++◌, map, if◌then◌else◌}
+use Rattle.std.specs.List.{filter, flat_map}
+use Rattle.std.specs.List.Sorted.{IsPermutation, IsNonDecreasingBy}
+use Rattle.pci_picture.specs.Headings.{Headed, headed, headed_lines, is_kept, is_off, lines_below}
+use Rattle.pci_picture.specs.Lines.{told_line}
 use Rattle.pci_picture.specs.declared.region.Region.{Region}
+use Rattle.pci_picture.specs.declared.map.Heading.{Heading}
+use Rattle.pci_picture.specs.declared.map.Heading.TheVariants.{Section, Lost, Off}
 use Rattle.pci_picture.specs.declared.map.Line.{Line}
 use Rattle.pci_picture.specs.declared.map.Map.{Map}
 use Rattle.pci_picture.specs.declared.plan.Member.{Member}
@@ -21,3 +27,39 @@ regions_at places = map (λ placed. placed.region) places
 -- the lines of a map: those of its sections and what is lost, and those of what is off
 abbrev pub lines_read : {A : Type 0} → Map A → List (List ℕ)
 lines_read read = lines_of (regions_under read.lines.items) ++ lines_of read.off.items
+
+-- ---- headings
+
+abbrev pub heading_in : Option ℕ → Heading
+heading_in (Some number) = Section number
+heading_in None = Lost
+
+abbrev pub headed_line : Line → Headed
+headed_line line = headed (heading_in line.section) line.region.line.now
+
+abbrev pub headed_member : Member → Headed
+headed_member member = headed (if member.is_lost then Lost else Section member.section) member.region.line.now
+
+-- a map has the regions of some lines of text, each with its heading; those that are off stand apart
+pub record IsReadOf {A : Type 0} (lines : List (List ℕ)) (read : Map A) : Type 0 where
+  pub each_once : IsPermutation (flat_map told_line lines) (lines_read read)
+  pub kept : map headed_line read.lines.items ≡ filter is_kept (headed_lines Off lines)
+  pub off : lines_of read.off.items ≡ lines_below is_off (headed_lines Off lines)
+
+-- a map took up regions that stand below a heading
+pub record TakesUp {A : Type 0} (heading : Heading) (told : List (List ℕ)) (old new : Map A) : Type 0 where
+  pub each_once : IsPermutation (lines_read old ++ told) (lines_read new)
+  pub kept : map headed_line new.lines.items ≡ map headed_line old.lines.items ++ filter is_kept (map (headed heading) told)
+  pub off : lines_of new.off.items ≡ lines_of old.off.items ++ lines_below is_off (map (headed heading) told)
+
+-- ---- members
+
+-- the sort key of a member in its section
+abbrev pub rank_of : Member → ℕ × ℕ
+rank_of member = if member.is_lost then (member.region.first, member.region.key) else (member.top, 0)
+
+-- the members of lines, by rising numbers of their sections
+pub record AreMembersOf (lines : List Line) (members : List Member) : Type 0 where
+  pub moved : IsPermutation (regions_under lines) (regions_of members)
+  pub seated : IsPermutation (map headed_line lines) (map headed_member members)
+  pub sorted : IsNonDecreasingBy (λ (member : Member). member.section) members

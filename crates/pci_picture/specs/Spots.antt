@@ -31,9 +31,15 @@ spot_at y height line = record { line = line; y = y; height = height }
 abbrev pub lines_drawn : List Spot → List (List ℕ)
 lines_drawn spots = map (λ spot. spot.line) spots
 
+-- a section of a picture: its number, its boxes, and those of its lines that are out of place
+pub record Section : Type 0 where
+  pub number : ℕ
+  pub spots : List Spot
+  pub lost : List (List ℕ)
+
 -- the boxes of some sections, one section behind the other
-abbrev pub all_of : List (List Spot) → List Spot
-all_of sections = flat_map (λ spots. spots) sections
+abbrev pub all_of : List Section → List Spot
+all_of sections = flat_map (λ section. section.spots) sections
 
 -- ---- the heights of a section
 
@@ -58,8 +64,8 @@ pub record AreStanding (spots : List Spot) : Type 0 where
   pub stand : All (StandsAt height_of) spots
 
 -- all sections do so, where the last one ends at a height that was not cut off at 64 bits
-abbrev pub EachStands : ℕ → List (List Spot) → Type 0
-EachStands end sections = end < 2 ^ 64 - 1 → All AreStanding sections
+abbrev pub EachStands : ℕ → List Section → Type 0
+EachStands end sections = end < 2 ^ 64 - 1 → All (λ section. AreStanding section.spots) sections
 
 -- of two boxes of a section, the one whose last address is below the first address of the other ends above it
 abbrev pub BoxesAreApart : Type 0

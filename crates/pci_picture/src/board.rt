@@ -1,9 +1,9 @@
 //! A board, read from the texts of three commands.
 ghost use Rattle.std.specs.Prelude.{◌≡◌, [], ◌∷◌, IfOk};
-ghost use Rattle.std.specs.List.Sorted.{IsPermutation};
+ghost use Rattle.std.specs.List.{slice_split};
 ghost use Rattle.pci_picture.specs.Boxes.{titled_line};
-ghost use Rattle.pci_picture.specs.Lines.{region_lines};
-ghost use Rattle.pci_picture.specs.Maps.{lines_read};
+ghost use Rattle.pci_picture.specs.Lines.{is_feed};
+ghost use Rattle.pci_picture.specs.Maps.{IsReadOf};
 
 use super::faults::{Fault, Faults};
 use super::function::{Buses, Function, Span, find, give_titles, read_functions};
@@ -73,8 +73,7 @@ fn names_of<A: Allocator + Copy>(
 impl<'a, A: Allocator + Copy> Board<'a, A> {
     /// Reads the board from the texts.
     pub fn read(alloc: A, texts: &Texts<'a>) -> Result<Board<'a, A>, OutOfMemory>
-        ensures { IfOk result (λ board. IsPermutation
-            (region_lines texts.entry.now.map.now) (lines_read board.map)) }
+        ensures { IfOk result (λ board. IsReadOf (slice_split is_feed texts.entry.now.map.now) board.map) }
     {
         let mut functions = read_functions(alloc, texts.show)?;
         give_titles(&mut functions, texts.titles);

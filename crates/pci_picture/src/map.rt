@@ -1,8 +1,9 @@
 //! The text of a map.
-ghost use Rattle.std.specs.Prelude.{◌++◌, ◌<◌, [], ◌∷◌, IsTrue, IfOk, OnOk};
-ghost use Rattle.std.specs.List.Sorted.{IsPermutation};
-ghost use Rattle.pci_picture.specs.Lines.{is_one_line, region_lines, told_line};
-ghost use Rattle.pci_picture.specs.Maps.{lines_read};
+ghost use Rattle.std.specs.Prelude.{◌≡◌, [], ◌∷◌, IsTrue, IfOk, OnOk};
+ghost use Rattle.std.specs.List.{slice_split};
+ghost use Rattle.pci_picture.specs.Headings.{heading_told, next_heading, number_of_section};
+ghost use Rattle.pci_picture.specs.Lines.{is_feed, is_one_line, told_line};
+ghost use Rattle.pci_picture.specs.Maps.{IsReadOf, TakesUp};
 
 use super::memory::OutOfMemory;
 use super::reading::{hex_byte, indent, stripped, word};
@@ -40,7 +41,9 @@ enum Heading {
 }
 
 /// The number of the section of a root bus and a space. The I/O space of a bus stands before its memory space.
-pub fn section_number(bus: u8, is_io: bool) -> u16 {
+pub fn section_number(bus: u8, is_io: bool) -> u16
+    ensures { result ≡ number_of_section bus is_io }
+{
     if is_io {
         2 * u16::from(bus)
     } else {
@@ -49,17 +52,23 @@ pub fn section_number(bus: u8, is_io: bool) -> u16 {
 }
 
 /// Which heading a line is.
-fn heading_of(line: &[u8]) -> Heading {
-    match word(line, 0) {
-        b"outside" | b"unreached" => Heading::Lost,
-        b"bus" => match hex_byte(word(line, 1)) {
+#[tactic(auto, unfolding(crate::specs::Headings::heading_told))]
+fn heading_of(line: &[u8]) -> Heading
+    ensures { result ≡ heading_told line.now }
+{
+    let name = word(line, 0);
+    if name == b"bus".as_slice() {
+        match hex_byte(word(line, 1)) {
             Some(bus) => {
                 let is_io = word(line, 2) == b"io".as_slice();
                 Heading::Section(section_number(bus, is_io))
             }
             None => Heading::Off,
-        },
-        _ => Heading::Off,
+        }
+    } else if name == b"outside".as_slice() || name == b"unreached".as_slice() {
+        Heading::Lost
+    } else {
+        Heading::Off
     }
 }
 
@@ -79,8 +88,8 @@ struct Reader<'a, A: Allocator> {
 impl<'a, A: Allocator + Copy> Reader<'a, A> {
     /// Adds a region below the heading.
     fn put(&mut self, region: Region<'a>) -> Result<(), OutOfMemory>
-        ensures { OnOk result (IsPermutation
-            (lines_read self.old.map ++ region.entry.line.now ∷ []) (lines_read self.new.map)) }
+        ensures taken { OnOk result (TakesUp self.old.heading (region.entry.line.now ∷ []) self.old.map self.new.map) }
+        ensures same { self.new.heading ≡ self.old.heading }
     {
         match self.heading {
             Heading::Section(number) => {
@@ -120,8 +129,8 @@ impl<'a, A: Allocator + Copy> Reader<'a, A> {
     /// Reads a line.
     fn take(&mut self, line: &'a [u8]) -> Result<(), OutOfMemory>
         requires { IsTrue (is_one_line line.now) }
-        ensures { OnOk result (IsPermutation
-            (lines_read self.old.map ++ told_line line.entry.now) (lines_read self.new.map)) }
+        ensures taken { OnOk result (TakesUp self.old.heading (told_line line.entry.now) self.old.map self.new.map) }
+        ensures below { self.new.heading ≡ next_heading self.old.heading line.entry.now }
     {
         let blanks = indent(line);
         if blanks < 2 {
@@ -149,7 +158,7 @@ impl<'a, A: Allocator + Copy> Reader<'a, A> {
 impl<'a, A: Allocator + Copy> Map<'a, A> {
     /// Reads the lines of a map.
     pub fn read(alloc: A, text: &'a str) -> Result<Map<'a, A>, OutOfMemory>
-        ensures { IfOk result (λ read. IsPermutation (region_lines text.entry.now) (lines_read read)) }
+        ensures { IfOk result (λ read. IsReadOf (slice_split is_feed text.entry.now) read) }
     {
         let mut reader = Reader {
             map: Map {

@@ -1,11 +1,10 @@
 //! The picture of a board.
 ghost use Rattle.std.specs.Prelude.{◌≡◌, ◌<◌, ◌≤◌, [], ◌∷◌, length, IfOk, OnOk};
-ghost use Rattle.std.specs.List.Sorted.{IsPermutation};
 ghost use Rattle.std.specs.String.{string_bytes};
 ghost use Rattle.pci_picture.specs.Boxes.{IsPictureOf};
 ghost use Rattle.pci_picture.specs.Canvases.{Adds, AddsSome};
-ghost use Rattle.pci_picture.specs.Drawings.{AreOfSections};
-ghost use Rattle.pci_picture.specs.Maps.{lines_of, regions_under, regions_of};
+ghost use Rattle.pci_picture.specs.Drawings.{AreOfSections, IsRunOfSection};
+ghost use Rattle.pci_picture.specs.Maps.{AreMembersOf, lines_of};
 ghost use Rattle.pci_picture.specs.Spots.{lines_drawn, spot_at};
 ghost use Rattle.pci_picture.specs.Whole.{IsPictureText};
 
@@ -151,8 +150,7 @@ fn members<'a, A: Allocator + Copy>(
     alloc: A,
     board: &Board<'a, A>,
 ) -> Result<Vec<Member<'a>, A>, OutOfMemory>
-    ensures { IfOk result (λ members. IsPermutation
-        (regions_under board.entry.now.map.lines.items) (regions_of members.items)) }
+    ensures { IfOk result (λ members. AreMembersOf board.entry.now.map.lines.items members.items) }
 {
     let roots = board.roots();
     let mut members = Vec::new(alloc);
@@ -178,6 +176,7 @@ fn section_end(members: &[Member<'_>], begin: usize) -> usize
     requires { begin < length members.now }
     ensures some { begin < result }
     ensures within { result ≤ length members.now }
+    ensures alike { IsRunOfSection members.now begin result }
 {
     let section = members[begin].section;
     for index in begin + 1..members.len() {
@@ -196,7 +195,7 @@ fn draw_sections<A: Allocator + Copy>(
     first: &Site,
 ) -> Result<u64, OutOfMemory>
     ensures drawn { IfOk result (λ end. AddsSome
-        (AreOfSections (lines_of (regions_under board.entry.now.map.lines.items)) end) canvas.old canvas.new) }
+        (AreOfSections board.entry.now.map.lines.items end) canvas.old canvas.new) }
     ensures down { IfOk result (λ end. first.now.y ≤ end) }
 {
     let sorted = members(alloc, board)?;

@@ -61,9 +61,13 @@ pub struct Member<'a> {
 }
 
 impl Member<'_> {
+    ghost use Rattle.pci_picture.specs.Maps.{rank_of};
+
     /// The sort key of a region in its section. Lines of depth 1 are sorted by their first addresses, and what is inside
     /// stays behind its line. Those that are lost are sorted by address and key.
-    pub fn rank(&self) -> (u64, u64) {
+    pub fn rank(&self) -> (u64, u64)
+        ensures { result ≡ rank_of self.entry.now }
+    {
         if self.is_lost {
             (self.region.first, self.region.key)
         } else {

@@ -1,7 +1,7 @@
 //! Words, numbers and slots of a line.
 ghost use Rattle.std.specs.Prelude.{◌≡◌, ◌≤◌, ◌<◌, length, is_some, IfSome};
 ghost use Rattle.pci_picture.specs.Spots.{IsExtent};
-ghost use Rattle.pci_picture.specs.Lines.{indent_of, content_of, words_of, nth_word, digit_of, number_of, decimal_digit_of, decimal_number, is_register, is_slot, is_range, is_told_number};
+ghost use Rattle.pci_picture.specs.Lines.{indent_of, content_of, words_of, nth_word, digit_of, number_of, decimal_digit_of, decimal_number, is_register, is_slot, is_range, is_told_number, value_of};
 
 use std::simd::prelude::*;
 
@@ -101,7 +101,8 @@ pub fn hex_number(digits: &[u8]) -> Option<u64>
 /// The number of two hex digits.
 #[tactic(auto, unfolding(crate::specs::Lines::is_register))]
 pub fn hex_byte(digits: &[u8]) -> Option<u8>
-    ensures { is_some result ≡ is_register digits.now }
+    ensures some { is_some result ≡ is_register digits.now }
+    ensures value { IfSome result (λ byte. byte ≡ value_of digits.now) }
 {
     if digits.len() != 2 {
         return None;

@@ -1,14 +1,13 @@
-use Rattle.std.proofs.Common.{◌≤◌, ◌-◌, length, take}
+use Rattle.std.proofs.Common.{◌≤◌, ◌-◌, length}
 use Rattle.pci_picture.specs.Canvases.{AddsSome}
-use Rattle.pci_picture.specs.Drawings.{AreOfSections}
-use Rattle.pci_picture.specs.Maps.{lines_of, regions_of}
+use Rattle.pci_picture.specs.Drawings.{AreGrouped}
 use Rattle.pci_picture.proofs.picture.draw_sections.Given as goal
 
 abbrev pub invariant-loop-begin : goal.invariant-loop-begin
 invariant-loop-begin g l = record {
   within : l.begin ≤ length l.members;
   down : l.first.y ≤ l.y;
-  adds : AddsSome (AreOfSections (lines_of (regions_of (take l.begin l.members))) l.y) l.initial.canvas l.canvas;
+  adds : AddsSome (AreGrouped l.members l.begin l.y) l.initial.canvas l.canvas;
 }
 
 abbrev pub decreases-loop-begin : goal.decreases-loop-begin

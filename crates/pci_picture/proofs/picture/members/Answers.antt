@@ -1,11 +1,27 @@
-use Rattle.std.proofs.Common.{ap, ◌∙◌, arith}
+use Rattle.std.proofs.Common.{ap, ◌∙◌, arith, map, subst, rules}
+use Rattle.std.specs.List.Sorted.{IsPermutation}
+use Rattle.std.specs.Ordering.{bool_cmp, nat_cmp, ordering_then}
 use Rattle.std.proofs.lemmas.List.{take_all}
-use Rattle.pci_picture.specs.Maps.{regions_under}
+use Rattle.std.proofs.lemmas.List.Sorted.{IsPermutation-map, answers_always}
+use Rattle.pci_picture.specs.Maps.{headed_line, headed_member, rank_of, regions_under}
+use Rattle.pci_picture.proofs.Members.{sorted_by_first}
 use Rattle.pci_picture.proofs.Sections.{sorted_members}
 use Rattle.pci_picture.proofs.picture.members.Goals as goal
 
 pub returns : goal.returns
 returns g c =
-    sorted_members c.args.board.now.map.lines.items c.loop-line.members.items c.sort_by_key.new.self.items
-    (c.loop-line.invariant ∙ ap regions_under (take_all c.loop-line.line-index c.args.board.now.map.lines.items (omega arith)))
-    c.in_ok-sort_by_key.ensures.permutation
+    let lines = c.args.board.now.map.lines.items in
+    let all = take_all c.loop-line.line-index lines (omega arith) in
+    record {
+      moved =
+          sorted_members lines c.loop-line.members.items c.sort_by_key.new.self.items
+          (c.loop-line.invariant.moved ∙ ap regions_under all) c.in_ok-sort_by_key.ensures.permutation;
+      seated =
+          subst (λ l. IsPermutation l (map headed_member c.sort_by_key.new.self.items))
+          (c.loop-line.invariant.seated ∙ ap (map headed_line) all)
+          (IsPermutation-map headed_member c.loop-line.members.items c.sort_by_key.new.self.items c.in_ok-sort_by_key.ensures.permutation);
+      sorted =
+          sorted_by_first (λ m. m.section) (λ x y. bool_cmp x.is_lost y.is_lost)
+          (λ x y. ordering_then (nat_cmp ((rank_of x).0) ((rank_of y).0)) (nat_cmp ((rank_of x).1) ((rank_of y).1)))
+          c.sort_by_key.new.self.items (c.in_ok-sort_by_key.ensures.sorted (λ m. (m.section, m.is_lost, rank_of m)) (answers_always _ _ _ (λ f a r h k. search rules)));
+    }

@@ -1,9 +1,11 @@
-use Rattle.std.proofs.Common.{map}
-use Rattle.std.specs.List.{flat_map}
-use Rattle.std.specs.List.Sorted.{IsPermutation}
-use Rattle.pci_picture.specs.Lines.{told_line}
-use Rattle.pci_picture.specs.Maps.{lines_read}
+use Rattle.std.proofs.Common.{◌≡◌, fold, map}
+use Rattle.pci_picture.specs.Headings.{next_heading}
+use Rattle.pci_picture.specs.Maps.{IsReadOf}
+use Rattle.pci_picture.specs.declared.map.Heading.TheVariants.{Off}
 use Rattle.pci_picture.proofs.map.Map.read.Given as goal
 
 abbrev pub invariant-loop-line : goal.invariant-loop-line
-invariant-loop-line g l = IsPermutation (flat_map told_line (map (λ x. x.now) l.yielded)) (lines_read l.reader.map)
+invariant-loop-line g l = record {
+  read : IsReadOf (map (λ x. x.now) l.yielded) l.reader.map;
+  heading : l.reader.heading ≡ fold next_heading Off (map (λ x. x.now) l.yielded);
+}

@@ -1,14 +1,13 @@
-use Rattle.std.proofs.Common.{Some, None}
-use Rattle.pci_picture.proofs.Taken.{put_line}
-use Rattle.pci_picture.specs.Maps.{lines_of}
+use Rattle.std.proofs.Common.{Some, None, refl}
+use Rattle.pci_picture.proofs.Headings.{put_kept}
 use Rattle.pci_picture.proofs.map.Reader.put.Goals as goal
 
-pub returns-in_ok-push-in-Section : goal.returns-in_ok-push-in-Section
-returns-in_ok-push-in-Section g c =
-    put_line c.args.self.now.map.lines.items c.push.new.self.items (lines_of c.args.self.now.map.off.items)
-    (record { section = Some c.in-Section.number; top = c.args.self.now.top; region = c.args.region }) c.in_ok-push-in-Section.ensures.items
+pub returns-in_ok-push-in-Section-clause-taken : goal.returns-in_ok-push-in-Section-clause-taken
+returns-in_ok-push-in-Section-clause-taken g c =
+    put_kept c.args.self.now.heading c.args.self.now.map (record { lines = c.push.new.self; off = c.args.self.now.map.off })
+    (record { section = Some c.in-Section.number; top = c.args.self.now.top; region = c.args.region }) c.in-Section.is c.in_ok-push-in-Section.ensures.items refl
 
-pub returns-in_ok-push-in-Lost : goal.returns-in_ok-push-in-Lost
-returns-in_ok-push-in-Lost g c =
-    put_line c.args.self.now.map.lines.items c.push-in-Lost.new.self.items (lines_of c.args.self.now.map.off.items)
-    (record { section = None; top = c.args.self.now.top; region = c.args.region }) c.in_ok-push-in-Lost.ensures.items
+pub returns-in_ok-push-in-Lost-clause-taken : goal.returns-in_ok-push-in-Lost-clause-taken
+returns-in_ok-push-in-Lost-clause-taken g c =
+    put_kept c.args.self.now.heading c.args.self.now.map (record { lines = c.push-in-Lost.new.self; off = c.args.self.now.map.off })
+    (record { section = None; top = c.args.self.now.top; region = c.args.region }) c.in-Lost.is c.in_ok-push-in-Lost.ensures.items refl
