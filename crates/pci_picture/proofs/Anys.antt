@@ -17,7 +17,7 @@ any_last P xs x p = any_at P (xs ++ x ∷ []) x (Contains-append_right xs (x ∷
 pub any_moved : {X : Type 0} (P : X → Type 0) (xs ys : List X) → IsPermutation xs ys → Any P xs → Any P ys
 any_moved P xs ys moved (k, x, lt, is, p) = any_at P ys x (Contains-permutation xs ys x moved (k, lt, is)) p
 
-any_next : {X : Type 0} (P : X → Type 0) (x : X) (xs : List X) → Any P xs → Any P (x ∷ xs)
+pub any_next : {X : Type 0} (P : X → Type 0) (x : X) (xs : List X) → Any P xs → Any P (x ∷ xs)
 any_next P x xs (k, y, lt, is, p) = (suc k, y, omega (arith, lt), is, p)
 
 pub any_mapped : {X Y : Type 0} (P : Y → Type 0) (f : X → Y) (xs : List X) → Any (λ x. P (f x)) xs → Any P (map f xs)

@@ -1,7 +1,10 @@
--- Lines of maps, and titles.
-use Rattle.std.proofs.Common.{◌≡◌, [], ◌∷◌, ◌++◌, codes, refl}
+-- Lines of maps, their headings, and titles.
+use Rattle.std.proofs.Common.{◌≡◌, ℕ, List, [], ◌∷◌, ◌++◌, codes, refl, arith}
+use Rattle.pci_picture.specs.Headings.{AreSectionsOf, Headed, heading_told, headed_regions, is_lost, is_off, is_section, lines_below}
 use Rattle.pci_picture.specs.Lines.{region_lines, is_region_line, is_range, is_part, is_slot, is_register, is_told_number, words_of}
 use Rattle.pci_picture.specs.Boxes.{titled_line}
+use Rattle.pci_picture.specs.Spots.{Section}
+use Rattle.pci_picture.specs.declared.map.Heading.TheVariants.{Section as InSection, Lost, Off}
 
 -- a map of a heading and a line
 one_region : region_lines (codes "bus 00 io" ++ 10 ∷ codes "  0000d040-0000d05f 32 bar 00:1f.2 20")
@@ -43,3 +46,54 @@ of_region = refl
 of_fault : titled_line (codes "61 Clash bus 00 io 00000720 00:1f.3 20 00:1f.2 20") ≡ []
 unfolding is_region_line is_range is_part is_slot is_register words_of
 of_fault = refl
+
+-- headings: of bus 1f the section of I/O has the number 62, that of memory 63
+of_io : heading_told (codes "bus 1f io") ≡ InSection 62
+unfolding heading_told is_register words_of
+of_io = refl
+
+of_memory : heading_told (codes "bus 1f mem") ≡ InSection 63
+unfolding heading_told is_register words_of
+of_memory = refl
+
+-- a bus in other digits
+of_no_bus : heading_told (codes "bus 1F io") ≡ Off
+unfolding heading_told is_register words_of
+of_no_bus = refl
+
+of_outside : heading_told (codes "outside") ≡ Lost
+unfolding heading_told is_register words_of
+of_outside = refl
+
+of_unreached : heading_told (codes " unreached") ≡ Lost
+unfolding heading_told is_register words_of
+of_unreached = refl
+
+of_off : heading_told (codes "off") ≡ Off
+unfolding heading_told is_register words_of
+of_off = refl
+
+-- a map with a line before its headings, with two sections, and with what is out of place and off
+abbrev headed_map : List ℕ
+headed_map = codes "  a-b 2 free" ++ 10 ∷ (codes "bus 00 io" ++ 10 ∷ (codes "  c-d 2 free" ++ 10 ∷ (codes "bus 00 mem" ++ 10 ∷ (codes "  e-f 2 free"
+    ++ 10 ∷ (codes "    0-1 2 free" ++ 10 ∷ (codes "outside" ++ 10 ∷ (codes "  2-3 2 free" ++ 10 ∷ (codes "off" ++ 10 ∷ codes "  4-5 2 free"))))))))
+
+below_io : lines_below (is_section 0) (headed_regions headed_map) ≡ codes "c-d 2 free" ∷ []
+unfolding heading_told is_region_line is_range is_part is_register words_of
+below_io = refl
+
+below_memory : lines_below (is_section 1) (headed_regions headed_map) ≡ codes "e-f 2 free" ∷ codes "0-1 2 free" ∷ []
+unfolding heading_told is_region_line is_range is_part is_register words_of
+below_memory = refl
+
+out_of_place : lines_below is_lost (headed_regions headed_map) ≡ codes "2-3 2 free" ∷ []
+unfolding heading_told is_region_line is_range is_part is_register words_of
+out_of_place = refl
+
+below_none : lines_below is_off (headed_regions headed_map) ≡ codes "a-b 2 free" ∷ codes "4-5 2 free" ∷ []
+unfolding heading_told is_region_line is_range is_part is_register words_of
+below_none = refl
+
+-- two sections of one number are refused
+one_section : (regions : List Headed) (one other : Section) → one.number ≡ other.number → AreSectionsOf regions (one ∷ other ∷ []) → ⊥
+one_section regions one other same are = omega (arith, are.rise 0 1 one (omega arith) (omega arith), same)

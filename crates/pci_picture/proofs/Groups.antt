@@ -1,13 +1,14 @@
 -- Members by sections, and the sections of a picture.
-use Rattle.std.proofs.Common.{◌≡◌, ◌≤◌, ◌<◌, ◌==◌, ◌&&◌, not, ℕ, suc, Bool, true, false, if◌then◌else◌, List, [], ◌∷◌, ◌++◌, map, take, length, get_or, refl, sym, ap, subst, ◌∙◌, arith}
-use Rattle.std.specs.List.{All, AllPairs, filter, flat_map}
+use Rattle.std.proofs.Common.{◌≡◌, ◌≤◌, ◌<◌, ◌==◌, ◌&&◌, not, ℕ, suc, Bool, true, false, if◌then◌else◌, List, [], ◌∷◌, ◌++◌, map, take, length, get_or, refl, sym, ap, subst, ◌∙◌, arith, ◌⊎◌, inl, inr}
+use Rattle.std.specs.List.{All, AllPairs, Any, filter, flat_map}
 use Rattle.std.specs.List.Sorted.{IsPermutation}
 use Rattle.std.proofs.lemmas.Bool.{eq-eqb, ne_eqb}
-use Rattle.std.proofs.lemmas.List.{append-nil, map-append, take_all}
+use Rattle.std.proofs.lemmas.Bool.Decides.{eqb_tells}
+use Rattle.std.proofs.lemmas.List.{append-nil, map-append, nil_from_length, take_all}
 use Rattle.std.proofs.lemmas.List.Concat.{flat_map-append}
 use Rattle.std.proofs.lemmas.List.Elements.{All-cons, All-head, All-map, All-nil, All-push, All-tail, All-weaker, filter-append, filter_agree}
 use Rattle.std.proofs.lemmas.List.Quantifiers.{all_pairs_push}
-use Rattle.std.proofs.lemmas.List.Sorted.{IsPermutation-append_comm, IsPermutation-append_left, IsPermutation-filter_both, IsPermutation-map, IsPermutation-sym, IsPermutation-trans}
+use Rattle.std.proofs.lemmas.List.Sorted.{IsPermutation-append_comm, IsPermutation-append_left, IsPermutation-filter_both, IsPermutation-map, IsPermutation-sym, IsPermutation-trans, length_permutation}
 use Rattle.pci_picture.specs.Drawings.{AreGrouped, AreOfSection, AreOfSections, Group, IsGroup, members_of, sections_of}
 use Rattle.pci_picture.specs.Headings.{AreSectionsOf, Headed, IsSectionOf, is_kept, is_lost, is_off, is_section, lines_below}
 use Rattle.pci_picture.specs.Maps.{AreMembersOf, headed_line, headed_member, lines_of, regions_of, regions_under}
@@ -16,6 +17,7 @@ use Rattle.pci_picture.specs.declared.map.Heading.{Heading}
 use Rattle.pci_picture.specs.declared.map.Heading.TheVariants.{Section as InSection, Lost, Off}
 use Rattle.pci_picture.specs.declared.map.Line.{Line}
 use Rattle.pci_picture.specs.declared.plan.Member.{Member}
+use Rattle.pci_picture.proofs.Anys.{any_at, any_next}
 use Rattle.pci_picture.proofs.Filtered.{filter_map, filter_permuted, filter_twice}
 
 -- ---- regions below headings
@@ -56,6 +58,8 @@ sections_of_all regions sections are = record {
   each = All-weaker (IsSectionOf (filter is_kept regions)) (IsSectionOf regions) (λ section is.
       subst (λ l. IsPermutation (l ++ section.lost) (lines_drawn section.spots))
       (below_kept (is_section section.number) (section_kept section.number) regions) is) sections are.each;
+  all = λ number. subst (λ l. Any (λ section. section.number ≡ number) sections ⊎ (l ≡ []))
+      (below_kept (is_section number) (section_kept number) regions) (are.all number);
   lost =
       subst (λ l. IsPermutation l (flat_map (λ section. section.lost) sections))
       (below_kept is_lost lost_kept regions) are.lost;
@@ -187,6 +191,32 @@ section_of regions members group moved is has =
     subst (λ l. IsPermutation (lines_below (is_section n) regions ++ l) (lines_drawn group.section.spots)) (sym is.lost)
     (subst (λ l. IsPermutation (lines_below (is_section n) regions ++ lines_below is_lost seats) l) (sym is.drawn) all)
 
+-- each number has a section or no line
+section_or_none : (number : ℕ) (groups : List Group) → All IsGroup groups
+    → Any (λ section. section.number ≡ number) (sections_of groups) ⊎ (filter (is_in number) (members_of groups) ≡ [])
+section_or_none number [] each = inr refl
+section_or_none number (group ∷ groups) each =
+    let one : IsGroup group = All-head IsGroup group groups each in
+    elim (eqb_tells group.section.number number) [
+      | inl same ↦ inl (any_at (λ section. section.number ≡ number) (sections_of (group ∷ groups)) group.section (0, omega arith, refl) same.1)
+      | inr apart ↦ elim (section_or_none number groups (All-tail IsGroup group groups each)) [
+        | inl found ↦ inl (any_next (λ section. section.number ≡ number) group.section (sections_of groups) found)
+        | inr none ↦ inr (filter-append (is_in number) group.members (members_of groups)
+            ∙ ap (λ l. l ++ filter (is_in number) (members_of groups)) (filter_other number group.section.number group.members apart.1 one.alike)
+            ∙ none)
+      ]
+    ]
+
+no_lines : (regions : List Headed) (members : List Member) (number : ℕ) → IsPermutation regions (map headed_member members)
+    → filter (is_in number) members ≡ [] → lines_below (is_section number) regions ≡ []
+no_lines regions members number moved none =
+    let below : List (List ℕ) = lines_below (is_section number) (map headed_member members) in
+    let nothing : below ≡ [] =
+    lines_in number members ∙ ap (λ l. lines_below (λ heading. not (is_lost heading)) (map headed_member l)) none in
+    let long = length_permutation (lines_below (is_section number) regions) below (below_permuted (is_section number) regions (map headed_member members) moved) in
+    let short : length below ≡ 0 = ap length nothing in
+    nil_from_length (lines_below (is_section number) regions) (omega (arith, long, short))
+
 all_lost : (groups : List Group) → All IsGroup groups
     → lines_below is_lost (map headed_member (members_of groups)) ≡ flat_map (λ section. section.lost) (sections_of groups)
 all_lost [] each = refl
@@ -277,6 +307,10 @@ grouped lines members count end spots past are done =
         each =
             All-map (IsSectionOf regions) (λ g. g.section) done.groups
             (λ k d inside. section_of regions members (get_or done.groups k d) are.seated (done.each k d inside) (has k d inside));
+        all = λ number. elim (section_or_none number done.groups done.each) [
+          | inl found ↦ inl found
+          | inr none ↦ inr (no_lines regions members number are.seated (ap (filter (is_in number)) (sym taken) ∙ none))
+        ];
         lost =
             subst (λ l. IsPermutation (lines_below is_lost regions) l)
             (ap (λ ms. lines_below is_lost (map headed_member ms)) (sym taken) ∙ all_lost done.groups done.each)

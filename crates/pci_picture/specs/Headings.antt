@@ -1,6 +1,6 @@
 -- Under which heading the regions of a map stand, and in which section they are drawn.
-use Rattle.std.specs.Prelude.{◌<◌, ℕ, Bool, true, false, not, ◌==◌, ◌||◌, ◌+◌, ◌*◌, List, [], ◌∷◌, ◌++◌, map, nat_lt, codes, if◌then◌else◌}
-use Rattle.std.specs.List.{All, AllPairs, filter, flat_map, slice_split}
+use Rattle.std.specs.Prelude.{◌≡◌, ◌⊎◌, ◌<◌, ℕ, Bool, true, false, not, ◌==◌, ◌||◌, ◌+◌, ◌*◌, List, [], ◌∷◌, ◌++◌, map, nat_lt, codes, if◌then◌else◌}
+use Rattle.std.specs.List.{All, AllPairs, Any, filter, flat_map, slice_split}
 use Rattle.std.specs.List.Sorted.{IsPermutation}
 use Rattle.pci_picture.specs.Lines.{indent_of, is_feed, is_register, nth_word, says, told_line, value_of, words_of}
 use Rattle.pci_picture.specs.Spots.{Section, lines_drawn}
@@ -74,8 +74,10 @@ abbrev pub IsSectionOf : List Headed → Section → Type 0
 IsSectionOf regions section =
     IsPermutation (lines_below (is_section section.number) regions ++ section.lost) (lines_drawn section.spots)
 
--- numbers rise, so no two sections have the same; each region that is out of place is drawn in one section
+-- numbers rise, so no two sections have the same; below the headings of a number without a section stands nothing;
+-- each region that is out of place is drawn in one section
 pub record AreSectionsOf (regions : List Headed) (sections : List Section) : Type 0 where
   pub rise : AllPairs (λ one other. one.number < other.number) sections
   pub each : All (IsSectionOf regions) sections
+  pub all : (number : ℕ) → Any (λ section. section.number ≡ number) sections ⊎ (lines_below (is_section number) regions ≡ [])
   pub lost : IsPermutation (lines_below is_lost regions) (flat_map (λ section. section.lost) sections)
