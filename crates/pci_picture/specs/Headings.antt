@@ -22,12 +22,13 @@ heading_told line =
     else Off)
     else (if says (nth_word (words_of line) 0) (codes "outside") || says (nth_word (words_of line) 0) (codes "unreached") then Lost else Off)
 
--- the heading of what stands below a line: itself where it has fewer than two blanks before it, else the one that it has
+-- the heading of what stands below a line: that line, where it has fewer than two blanks before it, else the one above it
 abbrev pub next_heading : Heading → List ℕ → Heading
 next_heading heading line = if nat_lt (indent_of line) 2 then heading_told line else heading
 
 -- ---- the regions of a map, each with its heading
 
+-- a region and the heading above it
 pub record Headed : Type 0 where
   pub heading : Heading
   pub line : List ℕ
@@ -35,19 +36,20 @@ pub record Headed : Type 0 where
 abbrev pub headed : Heading → List ℕ → Headed
 headed heading line = record { heading = heading; line = line }
 
--- those of some lines, of which the first one stands below a heading
+-- the regions of some lines, of which the first one stands below a heading
 abbrev pub headed_lines : Heading → List (List ℕ) → List Headed
 headed_lines heading [] = []
 headed_lines heading (line ∷ lines) = map (headed heading) (told_line line) ++ headed_lines (next_heading heading line) lines
 
--- those of a map's text, of which the first lines stand below no heading
+-- the regions of a map's text, whose first lines stand below no heading
 abbrev pub headed_regions : List ℕ → List Headed
 headed_regions map = headed_lines Off (slice_split is_feed map)
 
--- those below the headings that are meant
+-- the lines of those that stand below the headings that are meant
 abbrev pub lines_below : (Heading → Bool) → List Headed → List (List ℕ)
 lines_below is_meant regions = map (λ region. region.line) (filter (λ region. is_meant region.heading) regions)
 
+-- the headings of a section
 abbrev pub is_section : ℕ → Heading → Bool
 is_section number (InSection n) = n == number
 is_section number Lost = false
@@ -59,6 +61,7 @@ is_lost (InSection n) = false
 is_lost Lost = true
 is_lost Off = false
 
+-- below none of these headings
 abbrev pub is_off : Heading → Bool
 is_off (InSection n) = false
 is_off Lost = false
@@ -69,7 +72,7 @@ is_kept region = not (is_off region.heading)
 
 -- ---- the sections of a picture
 
--- what is drawn in a section is what stands below the headings with its number, and what is out of place
+-- what is drawn in a section is what stands below the headings with its number, and some of what is out of place
 abbrev pub IsSectionOf : List Headed → Section → Type 0
 IsSectionOf regions section =
     IsPermutation (lines_below (is_section section.number) regions ++ section.lost) (lines_drawn section.spots)

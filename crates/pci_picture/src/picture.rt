@@ -307,8 +307,8 @@ pub fn picture_of<A: Allocator + Copy>(
 ) -> Result<String<A>, OutOfMemory>
     // no byte of a title or of another text becomes markup
     ensures closed { IfOk result (λ text. IsPictureText (string_bytes text)) }
-    // each line of the map that is a region is the first line of the title of exactly one box, and in each section the
-    // boxes stand at the heights of their addresses
+    // each line of the map that is a region is the first line of the title of exactly one box. A section has the regions
+    // below its headings, and in it the boxes stand at the heights of their addresses
     ensures drawn { IfOk result (λ text. IsPictureOf texts.entry.now.map.now (string_bytes text)) }
 {
     let board = Board::read(alloc, texts)?;
