@@ -166,6 +166,19 @@ static SYSTEMS: [System; 17] = [
     ),
 ];
 
+/// Functions of bus 00 by their device numbers: what they show, what is told of them, and their titles in a probe.
+struct Titled(
+    &'static [(u8, Registers)],
+    &'static [(u8, &'static [Line])],
+    &'static [&'static [u8]],
+);
+
+static TITLED: Titled = Titled(
+    &[(1, ENABLED), (2, WITH_ROM), (3, BRIDGE)],
+    &[(1, SIZED), (2, SIZED), (3, UNTOLD)],
+    &[b"", b"assumed 30", b"assumed 1c,24,38"],
+);
+
 /// The slot of a device of bus 00.
 fn slot(device: u8) -> Slot {
     Slot::new(0, device, 0).unwrap_or_default()
@@ -306,18 +319,33 @@ fn has_title(block: &Block, text: &[u8]) -> bool {
     }
 }
 
+/// Whether blocks have titles of these texts.
+fn have_titles(blocks: &[Block], texts: &[&[u8]]) -> bool {
+    for (block, text) in blocks.iter().zip(texts) {
+        if !has_title(block, text) {
+            return false;
+        }
+    }
+    blocks.len() == texts.len()
+}
+
+/// Whether a probe that is derived with what is disabled assumed has titles of these texts.
+fn is_titled(rt: &HostRuntime, dump: &Dump, sizes: &Sizes, texts: &[&[u8]]) -> bool {
+    match probe_of(rt.alloc(), dump, sizes, Assuming::Disabled) {
+        Ok(derived) => have_titles(derived.probe.blocks(), texts),
+        Err(_) => false,
+    }
+}
+
+/// Whether the probe of these functions has their titles.
+fn has_its_titles(rt: &HostRuntime, titled: &Titled) -> bool {
+    match (dump_of(rt, titled.0), sizes_of(rt, titled.1)) {
+        (Some(dump), Some(sizes)) => is_titled(rt, &dump, &sizes, titled.2),
+        _ => false,
+    }
+}
+
 #[test]
 fn titles_name_what_is_assumed(rt: HostRuntime) {
-    let dump = dump_of(&rt, &[(1, ENABLED), (2, WITH_ROM), (3, BRIDGE)]);
-    let sizes = sizes_of(&rt, &[(1, SIZED), (2, SIZED), (3, UNTOLD)]);
-    let (Some(dump), Some(sizes)) = (dump, sizes) else {
-        return assert!(rt; false);
-    };
-    let Ok(derived) = probe_of(rt.alloc(), &dump, &sizes, Assuming::Disabled) else {
-        return assert!(rt; false);
-    };
-    let texts: [&[u8]; 3] = [b"", b"assumed 30", b"assumed 1c,24,38"];
-    for (block, text) in derived.probe.blocks().iter().zip(texts.iter()) {
-        assert!(rt; has_title(block, text));
-    }
+    assert!(rt; has_its_titles(&rt, &TITLED));
 }
