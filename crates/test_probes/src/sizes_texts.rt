@@ -221,7 +221,12 @@ fn each_fault_has_its_line(rt: HostRuntime) {
 
 /// A hex digit.
 fn digit(number: u8) -> u8 {
-    b"0123456789abcdef"[usize::from(number % 16)]
+    let value = number % 16;
+    if value < 10 {
+        b'0' + value
+    } else {
+        b'a' + (value - 10)
+    }
 }
 
 /// Appends the blocks of the functions of a bus.
