@@ -31,8 +31,6 @@ mod part;
 pub mod place;
 pub mod places;
 pub mod resource;
-#[cfg(test)]
-mod tests;
 pub mod trouble;
 pub mod words;
 
