@@ -11,32 +11,41 @@ fn bridge() -> Slot {
     Slot::new(0, 1, 0).unwrap_or_default()
 }
 
+/// Whether numbering answers so, up to a last bus.
+fn is_answered(port: &mut OneBridge, last: u8, answer: Result<Numbering, Stop>) -> bool {
+    number(port, 0, last, 0) == answer
+}
+
+/// Whether the bridge has these numbers, by so many writes.
+fn is_left(port: &OneBridge, numbers: [u8; 3], writes: usize) -> bool {
+    port.numbers() == numbers && port.made() == writes
+}
+
 #[test]
 fn a_bare_bridge_gets_its_numbers_by_two_writes(rt: HostRuntime) {
     let mut port = OneBridge::new(rt.alloc(), 0, 0, 0, NONE);
-    assert!(rt; number(&mut port, 0, 0xff, 0) == Ok(Numbering::Numbered { highest: 1 }));
-    assert_eq!(rt; port.numbers(), [0, 1, 1]);
-    assert_eq!(rt; port.made(), 2);
+    let numbered = Ok(Numbering::Numbered { highest: 1 });
+    assert!(rt; is_answered(&mut port, 0xff, numbered));
+    assert!(rt; is_left(&port, [0, 1, 1], 2));
 }
 
 #[test]
 fn old_numbers_are_closed_first(rt: HostRuntime) {
     let mut port = OneBridge::new(rt.alloc(), 0, 5, 9, NONE);
-    assert!(rt; number(&mut port, 0, 0xff, 0) == Ok(Numbering::Numbered { highest: 1 }));
-    assert_eq!(rt; port.numbers(), [0, 1, 1]);
-    assert_eq!(rt; port.made(), 4);
+    let numbered = Ok(Numbering::Numbered { highest: 1 });
+    assert!(rt; is_answered(&mut port, 0xff, numbered));
+    assert!(rt; is_left(&port, [0, 1, 1], 4));
 }
 
 #[test]
 fn without_a_number_a_bridge_is_closed_and_named(rt: HostRuntime) {
     let mut port = OneBridge::new(rt.alloc(), 3, 4, 5, NONE);
-    let answer = Ok(Numbering::NoBus {
+    let closed = Ok(Numbering::NoBus {
         slot: bridge(),
         highest: 0,
     });
-    assert!(rt; number(&mut port, 0, 0, 0) == answer);
-    assert_eq!(rt; port.numbers(), [0, 0, 0]);
-    assert_eq!(rt; port.made(), 3);
+    assert!(rt; is_answered(&mut port, 0, closed));
+    assert!(rt; is_left(&port, [0, 0, 0], 3));
 }
 
 #[test]
@@ -47,6 +56,6 @@ fn a_number_that_is_not_taken_stops_it(rt: HostRuntime) {
         offset: 0x19,
         number: 1,
     }));
-    assert!(rt; number(&mut port, 0, 0xff, 0) == stop);
-    assert_eq!(rt; port.made(), 1);
+    assert!(rt; is_answered(&mut port, 0xff, stop));
+    assert!(rt; port.made() == 1);
 }
