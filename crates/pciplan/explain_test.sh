@@ -55,10 +55,15 @@ refused() {
 for file in words/*; do
     printed "explain ${file#words/}" "$file" explain "${file#words/}"
 done
+# a fault is named in any case, the first one of those that share a name
+for named in BusRange:57 busrange:57 BUSRANGE:57 io:1 toomany:8; do
+    printed "explain ${named%:*}" "words/${named#*:}" explain "${named%:*}"
+done
 printed 'explain' all explain
 head -n 1 "$top/docs/pciplan.1" | sed 's/.*"\(pciplan .*\)" ".*/\1/' >version
 printed 'version' version version
-for word in 0 11 19 35 59 64 78 83 057 57. ' 57' 57BusRange 'BusRange ' Bus CHECK Here pciplan --help ''; do
+for word in 0 11 19 35 59 64 78 83 057 57. ' 57' '57 ' 57BusRange '57 BusRange' 'BusRange ' BusRang Bus CHECK Check Here \
+    pciplan --help ''; do
     refused explain "$word"
 done
 refused explain 57 58

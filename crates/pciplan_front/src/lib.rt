@@ -33,6 +33,4 @@ pub mod here_asked;
 pub mod laws;
 mod messages;
 mod names;
-#[cfg(test)]
-mod tests;
 pub mod told;
