@@ -18,7 +18,6 @@ use pci_settle::settle::settle;
 use pci_tree::admit_with;
 use pci_tree::admitted::Admitted;
 use std::alloc::Global;
-use std::test::Fail;
 use test_support::row::Row;
 use test_support::row::Row::{Bridge, Device};
 
@@ -214,28 +213,25 @@ fn is_put_onto(
 const MEM: &[Listed] = &[(None, 0xe000_0000, 0xe00f_ffff)];
 
 #[test]
-fn a_window_that_moves_is_put_onto_its_machine(rt: HostRuntime) -> Result<(), Fail> {
+fn a_window_that_moves_is_put_onto_its_machine(rt: HostRuntime) {
     const BOARD: &[Row] = &[
         Bridge("00:01.0", 3, (0, 1, 1), &[(0x20, 0xe010_e010, 0xfff0_fff0)]),
         Device("01:00.0", 3, &[(0x10, 0xe010_0000, 0xffff_f000)]),
     ];
     assert!(rt; is_put_onto(rt.alloc(), BOARD, MEM, true, (5, 2)));
-    Ok(())
 }
 
 #[test]
-fn a_board_that_is_not_sound_is_safe_once_it_is_closed(rt: HostRuntime) -> Result<(), Fail> {
+fn a_board_that_is_not_sound_is_safe_once_it_is_closed(rt: HostRuntime) {
     const BOARD: &[Row] = &[
         Device("00:01.0", 2, &[(0x10, 0xe000_0000, 0xffff_f000)]),
         Device("00:02.0", 2, &[(0x10, 0xe000_0000, 0xffff_f000)]),
     ];
     assert!(rt; is_put_onto(rt.alloc(), BOARD, MEM, false, (3, 1)));
-    Ok(())
 }
 
 #[test]
-fn where_nothing_is_to_be_written_all_is_compared(rt: HostRuntime) -> Result<(), Fail> {
+fn where_nothing_is_to_be_written_all_is_compared(rt: HostRuntime) {
     const BOARD: &[Row] = &[Device("00:01.0", 2, &[(0x10, 0xe000_0000, 0xffff_f000)])];
     assert!(rt; is_put_onto(rt.alloc(), BOARD, MEM, false, (0, 0)));
-    Ok(())
 }

@@ -13,7 +13,6 @@ use pci_tree::admit_with;
 use pci_tree::admitted::Admitted;
 use pci_tree::roots::Roots;
 use std::alloc::Global;
-use std::test::Fail;
 use test_support::row::Row::{Bridge, Device};
 use test_support::row::{Row, dumps_of_rows};
 
@@ -139,7 +138,7 @@ fn gets(alloc: Global, roots: &[u8], board: &[Row], mem: &[Listed], wanted: &[Wa
 }
 
 #[test]
-fn a_window_is_as_large_as_what_is_behind(rt: HostRuntime) -> Result<(), Fail> {
+fn a_window_is_as_large_as_what_is_behind(rt: HostRuntime) {
     const BOARD: &[Row] = &[
         Bridge("00:01.0", 0, (0, 1, 2), &[]),
         Bridge("01:00.0", 0, (1, 2, 2), &[]),
@@ -160,11 +159,10 @@ fn a_window_is_as_large_as_what_is_behind(rt: HostRuntime) -> Result<(), Fail> {
         ),
     ];
     assert!(rt; gets(rt.alloc(), &[0], BOARD, MEM, WANTED));
-    Ok(())
 }
 
 #[test]
-fn a_wide_bar_goes_on_in_prefetchable_memory(rt: HostRuntime) -> Result<(), Fail> {
+fn a_wide_bar_goes_on_in_prefetchable_memory(rt: HostRuntime) {
     const BOARD: &[Row] = &[
         Device("00:01.0", 0, &[(0x10, 0, 0xfff0_0000)]),
         Device(
@@ -179,17 +177,15 @@ fn a_wide_bar_goes_on_in_prefetchable_memory(rt: HostRuntime) -> Result<(), Fail
         (None, Some((0x1_0000_0000, 0x1_000f_ffff)), None),
     ];
     assert!(rt; gets(rt.alloc(), &[0], BOARD, MEM, WANTED));
-    Ok(())
 }
 
 #[test]
-fn a_root_has_ranges_of_its_own(rt: HostRuntime) -> Result<(), Fail> {
+fn a_root_has_ranges_of_its_own(rt: HostRuntime) {
     const WANTED: &[Wanted] = &[
         (None, Some((0xe000_0000, 0xe00f_ffff)), None),
         (None, Some((0xe010_0000, 0xe01f_ffff)), None),
     ];
     assert!(rt; gets(rt.alloc(), &[0, 0x40], TWO_ROOTS, RANGE_OF_EACH, WANTED));
-    Ok(())
 }
 
 /// What of a board below root 00 has no place where there is nothing but a list of memory: its class, function and size.
@@ -206,7 +202,7 @@ fn unplaced(alloc: Global, board: &[Row], mem: &[Listed]) -> Option<(WindowKind,
 }
 
 #[test]
-fn what_lacks_a_place_is_named(rt: HostRuntime) -> Result<(), Fail> {
+fn what_lacks_a_place_is_named(rt: HostRuntime) {
     const BOARD: &[Row] = &[
         Device("00:01.0", 0, &[(0x10, 0, 0xfff0_0000)]),
         Device("00:02.0", 0, &[(0x10, 0, 0xffff_f000)]),
@@ -214,5 +210,4 @@ fn what_lacks_a_place_is_named(rt: HostRuntime) -> Result<(), Fail> {
     const MEM: &[Listed] = &[(None, 0xe000_0000, 0xe00f_ffff)];
     let lack = Some((WindowKind::Memory, 1, 0x1000));
     assert!(rt; unplaced(rt.alloc(), BOARD, MEM) == lack);
-    Ok(())
 }

@@ -9,13 +9,13 @@ use pci_base::failures::Failures;
 use pci_base::slot::Slot;
 use pci_machine::access::{fits, is_access};
 use pci_machine::fail_at::FailAt;
+use pci_machine::machine::Machine;
 use pci_machine::port::{ConfigPort, PortError};
 use pci_plan::apply::apply;
 use pci_plan::apply_fault::ApplyFault;
 use pci_plan::plan::Plan;
 use pci_plan::write::Write;
-use std::process::Abort;
-use std::test::Fail;
+use std::alloc::Global;
 
 /// What a firmware has: accesses to the configuration space of its functions. Whoever implements it vouches
 /// for what it says of the hardware.
@@ -148,52 +148,45 @@ impl<P: ConfigPort> Hardware for Board<P> {
     }
 }
 
-/// Asserts what a firmware does where access `n` fails.
-fn goes_on(
-    rt: &(impl Abort + AllocGlobal),
-    plan: &Plan<'_>,
-    n: u64,
-    next: Next,
-) -> Result<(), Fail> {
+/// Whether a firmware does this next, and at the end plans anew.
+fn does_next<H: Hardware>(firmware: &mut Firmware<H>, plan: &Plan<'_>, next: Next) -> bool {
+    // what was written stays, and what was written to isn't what the plan starts from
+    set_up(firmware, plan) == next
+        && (next != Next::TryAgain || set_up(firmware, plan) == Next::Start)
+        && set_up(firmware, plan) == Next::PlanAnew
+}
+
+/// Whether it does where access `n` fails.
+fn goes_on(alloc: Global, plan: &Plan<'_>, n: u64, next: Next) -> bool {
+    let Some(machine) = machine_of(alloc, plan) else {
+        return false;
+    };
     let mut firmware = Firmware {
         hardware: Board {
-            functions: FailAt::new(machine_of(rt.alloc(), plan)?, n),
+            functions: FailAt::new(machine, n),
         },
         failed: Failures::new(),
     };
-    assert!(rt; set_up(&mut firmware, plan) == next, "access {n}");
-    // what was written stays, and what was written to isn't what the plan starts from
-    if next == Next::TryAgain {
-        assert!(rt; set_up(&mut firmware, plan) == Next::Start, "access {n}");
-    }
-    assert!(rt; set_up(&mut firmware, plan) == Next::PlanAnew, "access {n}");
-    Ok(())
+    does_next(&mut firmware, plan, next)
 }
 
-/// Asserts what a firmware does whichever access of the plan of three functions fails.
-pub fn firmware_knows_what_next(
-    rt: &(impl Abort + AllocGlobal),
-    plan: &Plan<'_>,
-) -> Result<(), Fail> {
+/// Whether a firmware knows what to do next whichever access of the plan of three functions fails.
+pub fn firmware_knows_what_next(alloc: Global, plan: &Plan<'_>) -> bool {
     for n in 0..=40u64 {
         let next = match n {
             0 => Next::Start,
             1..=27 => Next::TryAgain,
             _ => Next::PlanAnew,
         };
-        goes_on(rt, plan, n, next)?;
+        if !goes_on(alloc, plan, n, next) {
+            return false;
+        }
     }
-    Ok(())
+    true
 }
 
-/// Asserts that a firmware learns which write of the plan of three functions doesn't stay.
-pub fn firmware_learns_what_stuck(
-    rt: &(impl Abort + AllocGlobal),
-    plan: &Plan<'_>,
-) -> Result<(), Fail> {
-    let here = slot(0, 2)?;
-    let mut machine = machine_of(rt.alloc(), plan)?;
-    assert!(rt; pin(&mut machine, here, 0x13, 0xff));
+/// Whether a firmware whose board is this machine distrusts the write to the BAR of 00:02.0.
+fn distrusts(machine: Machine, plan: &Plan<'_>, here: Slot) -> bool {
     let mut firmware = Firmware {
         hardware: Board { functions: machine },
         failed: Failures::new(),
@@ -204,16 +197,25 @@ pub fn firmware_learns_what_stuck(
         width: 4,
         value: 0xe020_0000,
     };
-    assert!(rt; set_up(&mut firmware, plan) == Next::Distrust(stuck));
-    Ok(())
+    set_up(&mut firmware, plan) == Next::Distrust(stuck)
+}
+
+/// Whether a firmware learns which write of the plan of three functions doesn't stay.
+pub fn firmware_learns_what_stuck(alloc: Global, plan: &Plan<'_>) -> bool {
+    match (machine_of(alloc, plan), slot(0, 2)) {
+        (Some(mut machine), Some(here)) => {
+            pin(&mut machine, here, 0x13, 0xff) && distrusts(machine, plan, here)
+        }
+        _ => false,
+    }
 }
 
 #[test]
-fn a_firmware_knows_what_to_do_next(rt: HostRuntime) -> Result<(), Fail> {
-    tried(&rt, &three(0), &POOLS, Trial::FirmwareGoesOn)
+fn a_firmware_knows_what_to_do_next(rt: HostRuntime) {
+    assert!(rt; tried(rt.alloc(), &three(0), &POOLS, Trial::FirmwareGoesOn));
 }
 
 #[test]
-fn a_firmware_learns_which_write_does_not_stay(rt: HostRuntime) -> Result<(), Fail> {
-    tried(&rt, &three(0), &POOLS, Trial::FirmwareIsStuck)
+fn a_firmware_learns_which_write_does_not_stay(rt: HostRuntime) {
+    assert!(rt; tried(rt.alloc(), &three(0), &POOLS, Trial::FirmwareIsStuck));
 }

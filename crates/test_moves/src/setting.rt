@@ -1,25 +1,20 @@
 //! Boards that are planned, the machines that their plans start from, and what such a machine holds afterwards.
-use pci_base::memory::Refused;
 use pci_base::range::Range;
 use pci_base::slot::Slot;
 use pci_check::check::check;
 use pci_check::verdict::Verdict;
 use pci_dump::block::Block;
 use pci_dump::dump::Dump;
-use pci_dump::read_fault::ReadFault;
-use pci_dump::reader::read_dump;
-use pci_dump::std_streams::Incoming;
-use pci_function::fault::PairFault;
 use pci_machine::machine::Machine;
 use pci_machine::port::{ConfigPort, PortError};
 use pci_place::pools::Pools;
 use pci_plan::plan::Plan;
+use pci_plan::write::Write;
 use pci_tree::admit::admit;
 use pci_tree::admitted::Admitted;
-use pci_tree::fault::Fault;
 use std::alloc::Global;
-use std::test::Fail;
 use test_support::board::{Function, bridge, device, texts_of};
+use test_support::row::dumps_of;
 
 /// Pools with room for the boards of this crate that are written down register by register.
 pub const POOLS: Pools = Pools {
@@ -54,9 +49,8 @@ pub const WIDE_POOLS: Pools = Pools {
 };
 
 /// Function 0 of a device.
-pub fn slot(bus: u8, dev: u8) -> Result<Slot, Fail> {
-    let slot = Slot::new(bus, dev, 0).ok_or("no slot")?;
-    Ok(slot)
+pub fn slot(bus: u8, dev: u8) -> Option<Slot> {
+    Slot::new(bus, dev, 0)
 }
 
 /// A bridge to bus 01, a device beside it and one behind it, none of which has an address yet.
@@ -69,56 +63,36 @@ pub fn three(command: u16) -> [Function; 3] {
     ]
 }
 
-/// The dump that a text is.
-fn read(alloc: Global, text: &str) -> Result<Dump, ReadFault> {
-    read_dump(alloc, &mut Incoming::new(text.as_bytes()))
-}
-
-/// A dump and its probe, admitted.
-fn admitted_pair(alloc: Global, dump: Dump, probe: Dump) -> Result<Admitted, Refused<Fault>> {
-    admit(alloc, dump, probe)
-}
-
 /// The dump and the probe of a board, admitted.
-pub fn admitted(alloc: Global, board: &[Function]) -> Result<Admitted, Fail> {
-    let texts = texts_of(alloc, board)?;
-    let dump = read(alloc, texts.dump.as_str())?;
-    let probe = read(alloc, texts.probe.as_str())?;
-    Ok(admitted_pair(alloc, dump, probe)?)
+pub fn admitted(alloc: Global, board: &[Function]) -> Option<Admitted> {
+    let texts = texts_of(alloc, board).ok()?;
+    let (dump, probe) = dumps_of(alloc, &texts)?;
+    admit(alloc, dump, probe).ok()
 }
 
 /// An equal dump.
-fn copy_of(alloc: Global, dump: &Dump) -> Result<Dump, Fail> {
+fn copy_of(alloc: Global, dump: &Dump) -> Option<Dump> {
     let mut copy = Dump::empty(alloc);
     for block in dump.blocks() {
-        copy.push(block.copy())?;
+        copy.push(block.copy()).ok()?;
     }
-    Ok(copy)
+    Some(copy)
 }
 
 /// The board that a plan leads to, admitted.
-pub fn planned(alloc: Global, plan: &Plan<'_>) -> Result<Admitted, Fail> {
+pub fn planned(alloc: Global, plan: &Plan<'_>) -> Option<Admitted> {
     let dump = copy_of(alloc, plan.dump())?;
     let probe = copy_of(alloc, plan.start().probe())?;
-    Ok(admitted_pair(alloc, dump, probe)?)
-}
-
-/// The machine of a dump and a probe, or why there is none.
-fn machine_of_pair(
-    alloc: Global,
-    dump: &Dump,
-    probe: &Dump,
-) -> Result<Machine, Refused<PairFault>> {
-    Machine::of(alloc, dump, probe)
+    admit(alloc, dump, probe).ok()
 }
 
 /// The machine of an admitted dump and probe.
-pub fn machine_at(alloc: Global, start: &Admitted) -> Result<Machine, Fail> {
-    Ok(machine_of_pair(alloc, start.dump(), start.probe())?)
+pub fn machine_at(alloc: Global, start: &Admitted) -> Option<Machine> {
+    Machine::of(alloc, start.dump(), start.probe()).ok()
 }
 
 /// The machine that a plan starts from.
-pub fn machine_of(alloc: Global, plan: &Plan<'_>) -> Result<Machine, Fail> {
+pub fn machine_of(alloc: Global, plan: &Plan<'_>) -> Option<Machine> {
     machine_at(alloc, plan.start())
 }
 
@@ -143,41 +117,72 @@ pub fn pin(machine: &mut Machine, slot: Slot, off: u8, bits: u8) -> bool {
     machine.pin(slot, off, bits)
 }
 
+/// The block of a function of a machine.
+fn block_of(machine: &Machine, slot: Slot) -> Option<Block> {
+    let image = *machine.image(slot)?;
+    Some(Block {
+        slot,
+        title: None,
+        image,
+    })
+}
+
 /// What a machine holds at the slots that a plan is for.
-pub fn held(alloc: Global, plan: &Plan<'_>, machine: &Machine) -> Result<Dump, Fail> {
+pub fn held(alloc: Global, plan: &Plan<'_>, machine: &Machine) -> Option<Dump> {
     let mut dump = Dump::empty(alloc);
     for block in plan.start().dump().blocks() {
-        let image = machine.image(block.slot).ok_or("no function")?;
-        dump.push(Block {
-            slot: block.slot,
-            title: None,
-            image: *image,
-        })?;
+        dump.push(block_of(machine, block.slot)?).ok()?;
     }
-    Ok(dump)
+    Some(dump)
+}
+
+/// Makes a write on a machine.
+fn make(machine: &mut Machine, write: &Write) -> bool {
+    write_at(machine, write.slot, write.off, write.width, write.value) == Ok(())
 }
 
 /// What the machine that a plan starts from holds after the first writes of the plan.
-pub fn held_after(alloc: Global, plan: &Plan<'_>, done: usize) -> Result<Dump, Fail> {
+fn held_after(alloc: Global, plan: &Plan<'_>, done: usize) -> Option<Dump> {
     let mut machine = machine_of(alloc, plan)?;
     for write in plan.writes().iter().take(done) {
-        write_at(
-            &mut machine,
-            write.slot,
-            write.off,
-            write.width,
-            write.value,
-        )?;
+        if !make(&mut machine, write) {
+            return None;
+        }
     }
     held(alloc, plan, &machine)
 }
 
+/// What a machine holds, if that is what the first writes of a plan leave.
+pub fn left_after(alloc: Global, plan: &Plan<'_>, machine: &Machine, done: usize) -> Option<Dump> {
+    let left = held(alloc, plan, machine)?;
+    let wanted = held_after(alloc, plan, done)?;
+    if left.blocks() == wanted.blocks() {
+        Some(left)
+    } else {
+        None
+    }
+}
+
+/// Whether a machine holds just this at the slots that a plan is for.
+pub fn holds(alloc: Global, plan: &Plan<'_>, machine: &Machine, wanted: &Dump) -> bool {
+    match held(alloc, plan, machine) {
+        Some(left) => left.blocks() == wanted.blocks(),
+        None => false,
+    }
+}
+
+/// Whether an admission is judged sound.
+fn is_accepted(alloc: Global, admitted: &Admitted) -> bool {
+    matches!(check(alloc, admitted), Ok(Verdict::Yes(_)))
+}
+
 /// Whether a dump, with the probe that a plan is for, is judged sound.
-pub fn is_sound(alloc: Global, plan: &Plan<'_>, dump: Dump) -> Result<bool, Fail> {
-    let probe = copy_of(alloc, plan.start().probe())?;
-    let admitted = admitted_pair(alloc, dump, probe)?;
-    match check(alloc, &admitted)? {
-        Verdict::Yes(_) => Ok(true),
-        Verdict::No(_) => Ok(false),
+pub fn is_sound(alloc: Global, plan: &Plan<'_>, dump: Dump) -> bool {
+    let Some(probe) = copy_of(alloc, plan.start().probe()) else {
+        return false;
+    };
+    match admit(alloc, dump, probe) {
+        Ok(admitted) => is_accepted(alloc, &admitted),
+        Err(_) => false,
     }
 }

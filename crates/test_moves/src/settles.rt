@@ -10,7 +10,6 @@ use pci_settle::settle::settle;
 use pci_settle::writes::Writes;
 use pci_tree::admitted::Admitted;
 use std::alloc::Global;
-use std::test::Fail;
 use test_support::row::Row;
 use test_support::row::Row::{Bridge, Device};
 
@@ -78,7 +77,7 @@ fn settles(
 }
 
 #[test]
-fn bars_behind_a_bridge_are_placed_and_opened(rt: HostRuntime) -> Result<(), Fail> {
+fn bars_behind_a_bridge_are_placed_and_opened(rt: HostRuntime) {
     const BOARD: &[Row] = &[
         Bridge("00:01.0", 0, (0, 1, 1), &[]),
         Device(
@@ -97,11 +96,10 @@ fn bars_behind_a_bridge_are_placed_and_opened(rt: HostRuntime) -> Result<(), Fai
         (1, 0, 0x04, 2, 2),
     ];
     assert!(rt; settles(rt.alloc(), &[0], BOARD, MEM, 1, WANTED));
-    Ok(())
 }
 
 #[test]
-fn what_fits_no_hole_goes_behind_it(rt: HostRuntime) -> Result<(), Fail> {
+fn what_fits_no_hole_goes_behind_it(rt: HostRuntime) {
     const BOARD: &[Row] = &[
         Device("00:01.0", 6, &[(0x10, 0xe000_0000, 0xfff0_0000)]),
         Device("00:02.0", 2, &[(0x10, 0xe040_0000, 0xffe0_0000)]),
@@ -116,11 +114,10 @@ fn what_fits_no_hole_goes_behind_it(rt: HostRuntime) -> Result<(), Fail> {
         (0, 2, 0x04, 2, 2),
     ];
     assert!(rt; settles(rt.alloc(), &[0], BOARD, MEM, 1, WANTED));
-    Ok(())
 }
 
 #[test]
-fn each_root_is_settled_in_its_own_range(rt: HostRuntime) -> Result<(), Fail> {
+fn each_root_is_settled_in_its_own_range(rt: HostRuntime) {
     const WANTED: &[Wanted] = &[
         (0, 1, 0x10, 4, 0xe000_0000),
         (0x40, 1, 0x10, 4, 0xe010_0000),
@@ -128,11 +125,10 @@ fn each_root_is_settled_in_its_own_range(rt: HostRuntime) -> Result<(), Fail> {
         (0x40, 1, 0x04, 2, 2),
     ];
     assert!(rt; settles(rt.alloc(), &[0, 0x40], TWO_ROOTS, RANGE_OF_EACH, 0, WANTED));
-    Ok(())
 }
 
 #[test]
-fn io_that_is_left_is_switched_off(rt: HostRuntime) -> Result<(), Fail> {
+fn io_that_is_left_is_switched_off(rt: HostRuntime) {
     const BOARD: &[Row] = &[Device(
         "00:01.0",
         3,
@@ -144,20 +140,18 @@ fn io_that_is_left_is_switched_off(rt: HostRuntime) -> Result<(), Fail> {
     const MEM: &[Listed] = &[(None, 0xe000_0000, 0xe00f_ffff)];
     const WANTED: &[Wanted] = &[(0, 1, 0x04, 2, 2)];
     assert!(rt; settles(rt.alloc(), &[0], BOARD, MEM, 1, WANTED));
-    Ok(())
 }
 
 #[test]
-fn a_window_with_nothing_behind_is_closed(rt: HostRuntime) -> Result<(), Fail> {
+fn a_window_with_nothing_behind_is_closed(rt: HostRuntime) {
     const BOARD: &[Row] = &[Bridge("00:01.0", 2, (0, 1, 1), &[(0x20, 0xe000_e000, 0xfff0_fff0)])];
     const MEM: &[Listed] = &[(None, 0xe000_0000, 0xe00f_ffff)];
     const WANTED: &[Wanted] = &[(0, 1, 0x20, 4, 0x0000_fff0)];
     assert!(rt; settles(rt.alloc(), &[0], BOARD, MEM, 1, WANTED));
-    Ok(())
 }
 
 #[test]
-fn a_bridge_stays_on_while_its_window_moves(rt: HostRuntime) -> Result<(), Fail> {
+fn a_bridge_stays_on_while_its_window_moves(rt: HostRuntime) {
     const BOARD: &[Row] = &[
         Bridge("00:01.0", 3, (0, 1, 1), &[(0x20, 0xe010_e010, 0xfff0_fff0)]),
         Device("01:00.0", 3, &[(0x10, 0xe010_0000, 0xffff_f000)]),
@@ -171,11 +165,10 @@ fn a_bridge_stays_on_while_its_window_moves(rt: HostRuntime) -> Result<(), Fail>
         (1, 0, 0x04, 2, 3),
     ];
     assert!(rt; settles(rt.alloc(), &[0], BOARD, MEM, 2, WANTED));
-    Ok(())
 }
 
 #[test]
-fn what_is_cut_off_is_shut_until_the_bridge_is_open(rt: HostRuntime) -> Result<(), Fail> {
+fn what_is_cut_off_is_shut_until_the_bridge_is_open(rt: HostRuntime) {
     const BOARD: &[Row] = &[
         Bridge("00:01.0", 0, (0, 1, 1), &[(0x20, 0xe000_e000, 0xfff0_fff0)]),
         Device("01:00.0", 2, &[(0x10, 0xe000_0000, 0xfff0_0000)]),
@@ -183,7 +176,6 @@ fn what_is_cut_off_is_shut_until_the_bridge_is_open(rt: HostRuntime) -> Result<(
     const MEM: &[Listed] = &[(None, 0xe000_0000, 0xe00f_ffff)];
     const WANTED: &[Wanted] = &[(1, 0, 0x04, 2, 0), (0, 1, 0x04, 2, 2), (1, 0, 0x04, 2, 2)];
     assert!(rt; settles(rt.alloc(), &[0], BOARD, MEM, 1, WANTED));
-    Ok(())
 }
 
 /// The fault for which a board below bus 00 isn't settled.
@@ -207,29 +199,23 @@ fn is_lack(lack: &Lack, bus: u8, dev: u8, register: u8) -> bool {
 }
 
 #[test]
-fn what_lacks_a_place_is_named_by_slot_and_register(rt: HostRuntime) -> Result<(), Fail> {
+fn what_lacks_a_place_is_named_by_slot_and_register(rt: HostRuntime) {
     const BOARD: &[Row] = &[
         Device("00:01.0", 0, &[(0x10, 0, 0xfff0_0000)]),
         Device("00:02.0", 0, &[(0x14, 0, 0xffff_f000)]),
     ];
     const MEM: &[Listed] = &[(None, 0xe000_0000, 0xe00f_ffff)];
-    match lack_in(rt.alloc(), BOARD, MEM) {
-        Some(lack) => assert!(rt; is_lack(&lack, 0, 2, 0x14)),
-        None => assert!(rt; false),
-    }
-    Ok(())
+    assert!(rt;
+        matches!(lack_in(rt.alloc(), BOARD, MEM), Some(lack) if is_lack(&lack, 0, 2, 0x14))
+    );
 }
 
 #[test]
-fn lists_that_share_addresses_are_refused(rt: HostRuntime) -> Result<(), Fail> {
+fn lists_that_share_addresses_are_refused(rt: HostRuntime) {
     const BOARD: &[Row] = &[Device("00:01.0", 0, &[])];
     const MEM: &[Listed] = &[
         (None, 0xe000_0000, 0xe00f_ffff),
         (None, 0xe00f_0000, 0xe01f_ffff),
     ];
-    match fault_in(rt.alloc(), BOARD, MEM) {
-        Some(fault) => assert_eq!(rt; fault.number(), 70),
-        None => assert!(rt; false),
-    }
-    Ok(())
+    assert!(rt; matches!(fault_in(rt.alloc(), BOARD, MEM), Some(fault) if fault.number() == 70));
 }

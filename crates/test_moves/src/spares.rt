@@ -5,9 +5,9 @@ use pci_base::slot::Slot;
 use pci_first_fit::list::Lists;
 use pci_first_fit::slots::Slots;
 use pci_first_fit::told::ToldRanges;
+use pci_plan::write::Write;
 use pci_settle::settle::{Denied, Settled, settle};
 use std::alloc::Global;
-use std::test::Fail;
 use test_support::row::Row;
 use test_support::row::Row::{Bridge, Device};
 
@@ -52,34 +52,35 @@ fn spared(alloc: Global, board: &[Row]) -> Option<Settled> {
     settle(alloc, &admitted, &lists, &[], false).ok()
 }
 
+/// Whether writes are one, of a window of memory: its base and limit.
+fn are_one(writes: &[Write], window: u32) -> bool {
+    matches!(writes, [write] if write.off == 0x20 && write.value == window)
+}
+
 /// Whether a window is that of memory of the bridge 00:01.0.
 fn is_of_bridge(denied: &Denied) -> bool {
     Slot::new(0, 1, 0) == Some(denied.slot) && denied.register == 0x20
 }
 
-#[test]
-fn a_window_ends_later_for_a_spare(rt: HostRuntime) -> Result<(), Fail> {
-    match spared(rt.alloc(), ALONE) {
-        Some(settled) => {
-            assert!(rt; settled.denied.is_empty());
-            assert!(rt; settled.writes.all.len() == 1);
-            assert!(rt; settled.writes.all[0].off == 0x20);
-            assert!(rt; settled.writes.all[0].value == 0xe030_e000);
-        }
-        None => panic!(rt; "not settled"),
-    }
-    Ok(())
+/// Whether nothing is denied, and a window of memory is written alone.
+fn is_spared(settled: &Settled, window: u32) -> bool {
+    settled.denied.is_empty() && are_one(settled.writes.all.as_slice(), window)
+}
+
+/// Whether nothing is written, and the window of the bridge is denied alone.
+fn is_denied(settled: &Settled) -> bool {
+    settled.writes.all.is_empty()
+        && matches!(settled.denied.as_slice(), [denied] if is_of_bridge(denied))
 }
 
 #[test]
-fn a_spare_without_room_is_denied(rt: HostRuntime) -> Result<(), Fail> {
-    match spared(rt.alloc(), BESIDE) {
-        Some(settled) => {
-            assert!(rt; settled.writes.all.is_empty());
-            assert!(rt; settled.denied.len() == 1);
-            assert!(rt; is_of_bridge(&settled.denied[0]));
-        }
-        None => panic!(rt; "not settled"),
-    }
-    Ok(())
+fn a_window_ends_later_for_a_spare(rt: HostRuntime) {
+    let settled = spared(rt.alloc(), ALONE);
+    assert!(rt; matches!(&settled, Some(settled) if is_spared(settled, 0xe030_e000)));
+}
+
+#[test]
+fn a_spare_without_room_is_denied(rt: HostRuntime) {
+    let settled = spared(rt.alloc(), BESIDE);
+    assert!(rt; matches!(&settled, Some(settled) if is_denied(settled)));
 }

@@ -10,7 +10,6 @@ use pci_kept::rules::Rules;
 use pci_kept::staying::staying;
 use pci_tree::admitted::Admitted;
 use std::alloc::Global;
-use std::test::Fail;
 use test_support::row::Row;
 use test_support::row::Row::{Bridge, Device};
 
@@ -59,7 +58,7 @@ fn stay(alloc: Global, board: &[Row], mem: &[Listed], wanted: &[Stays]) -> bool 
 }
 
 #[test]
-fn what_stands_with_room_stays(rt: HostRuntime) -> Result<(), Fail> {
+fn what_stands_with_room_stays(rt: HostRuntime) {
     const BOARD: &[Row] = &[
         Bridge("00:01.0", 2, (0, 1, 1), &[(0x20, 0xe010_e000, 0xfff0_fff0)]),
         Device("01:00.0", 2, &[(0x10, 0xe000_0000, 0xffff_f000)]),
@@ -68,11 +67,10 @@ fn what_stands_with_room_stays(rt: HostRuntime) -> Result<(), Fail> {
     const MEM: &[Listed] = &[(None, 0xe000_0000, 0xefff_ffff)];
     const WANTED: &[Stays] = &[(false, true), (true, false), (false, false)];
     assert!(rt; stay(rt.alloc(), BOARD, MEM, WANTED));
-    Ok(())
 }
 
 #[test]
-fn nothing_stays_in_a_window_without_room(rt: HostRuntime) -> Result<(), Fail> {
+fn nothing_stays_in_a_window_without_room(rt: HostRuntime) {
     const BOARD: &[Row] = &[
         Bridge("00:01.0", 2, (0, 1, 1), &[(0x20, 0xe000_e000, 0xfff0_fff0)]),
         Device("01:00.0", 2, &[(0x10, 0xe000_0000, 0xfff0_0000)]),
@@ -81,11 +79,10 @@ fn nothing_stays_in_a_window_without_room(rt: HostRuntime) -> Result<(), Fail> {
     const MEM: &[Listed] = &[(None, 0xe000_0000, 0xefff_ffff)];
     const WANTED: &[Stays] = &[(false, false), (false, false), (false, false)];
     assert!(rt; stay(rt.alloc(), BOARD, MEM, WANTED));
-    Ok(())
 }
 
 #[test]
-fn a_window_below_one_without_room_moves(rt: HostRuntime) -> Result<(), Fail> {
+fn a_window_below_one_without_room_moves(rt: HostRuntime) {
     const BOARD: &[Row] = &[
         Bridge("00:01.0", 2, (0, 1, 2), &[(0x20, 0xe000_e000, 0xfff0_fff0)]),
         Device("00:02.0", 2, &[(0x10, 0xe100_0000, 0xffff_f000)]),
@@ -103,16 +100,14 @@ fn a_window_below_one_without_room_moves(rt: HostRuntime) -> Result<(), Fail> {
         (false, false),
     ];
     assert!(rt; stay(rt.alloc(), BOARD, MEM, WANTED));
-    Ok(())
 }
 
 #[test]
-fn what_lies_in_no_list_moves(rt: HostRuntime) -> Result<(), Fail> {
+fn what_lies_in_no_list_moves(rt: HostRuntime) {
     const BOARD: &[Row] = &[
         Device("00:01.0", 2, &[(0x10, 0xe000_0000, 0xffff_f000)]),
         Device("00:02.0", 2, &[(0x10, 0xd000_0000, 0xffff_f000)]),
     ];
     const MEM: &[Listed] = &[(None, 0xe000_0000, 0xefff_ffff)];
     assert!(rt; stay(rt.alloc(), BOARD, MEM, &[(true, false), (false, false)]));
-    Ok(())
 }

@@ -1,5 +1,5 @@
 //! Plans that stop, because an access fails.
-use crate::setting::{held, held_after, is_sound, machine_of};
+use crate::setting::{is_sound, left_after, machine_of};
 use pci_dump::dump::Dump;
 use pci_machine::fail_at::FailAt;
 use pci_machine::machine::Machine;
@@ -8,8 +8,6 @@ use pci_plan::apply::apply;
 use pci_plan::apply_fault::ApplyFault;
 use pci_plan::plan::Plan;
 use std::alloc::Global;
-use std::process::Abort;
-use std::test::Fail;
 
 /// How many accesses compare the functions of a plan: one for Command and one for each address register.
 pub fn comparisons(plan: &Plan<'_>) -> u64 {
@@ -46,38 +44,38 @@ pub fn applied(
     alloc: Global,
     plan: &Plan<'_>,
     n: u64,
-) -> Result<(Result<(), ApplyFault>, Machine), Fail> {
+) -> Option<(Result<(), ApplyFault>, Machine)> {
     let mut port = FailAt::new(machine_of(alloc, plan)?, n);
     let answer = put_onto(&mut port, plan);
-    Ok((answer, port.into_inner()))
+    Some((answer, port.into_inner()))
 }
 
-/// Asserts what a plan answers where access `n` fails: exactly the writes that it says were made. How many they are, and
-/// what is left.
-fn stops_at(
-    rt: &(impl Abort + AllocGlobal),
-    plan: &Plan<'_>,
-    n: u64,
-) -> Result<(usize, Dump), Fail> {
+/// How many writes were made where access `n` fails, and what is left: exactly the writes that the plan says were made.
+/// None where it is anything else.
+fn stopped_at(alloc: Global, plan: &Plan<'_>, n: u64) -> Option<(usize, Dump)> {
     let (wanted, done) = stop_at(plan, n);
-    let (answer, machine) = applied(rt.alloc(), plan, n)?;
-    assert!(rt; answer == wanted, "access {n}");
-    let left = held(rt.alloc(), plan, &machine)?;
-    let wanted = held_after(rt.alloc(), plan, done)?;
-    assert!(rt; left.blocks() == wanted.blocks(), "access {n}");
-    Ok((done, left))
+    let (answer, machine) = applied(alloc, plan, n)?;
+    if answer != wanted {
+        return None;
+    }
+    let left = left_after(alloc, plan, &machine, done)?;
+    Some((done, left))
 }
 
-/// Asserts the same with each access failing once, and with none: neither one before the first nor one after the last.
+/// Whether that is so with each access failing once, and with none: neither one before the first nor one after the last.
 /// What is left is sound, as far as the plan says so; it is judged once for each number of writes.
-pub fn stops_anywhere(rt: &(impl Abort + AllocGlobal), plan: &Plan<'_>) -> Result<(), Fail> {
+pub fn stops_anywhere(alloc: Global, plan: &Plan<'_>) -> bool {
     let mut judged = None;
     for n in 0..=accesses(plan).saturating_add(1) {
-        let (done, left) = stops_at(rt, plan, n)?;
+        let Some((done, left)) = stopped_at(alloc, plan, n) else {
+            return false;
+        };
         if plan.safe_from() <= done && judged != Some(done) {
-            assert!(rt; is_sound(rt.alloc(), plan, left)?, "access {n}");
+            if !is_sound(alloc, plan, left) {
+                return false;
+            }
             judged = Some(done);
         }
     }
-    Ok(())
+    true
 }

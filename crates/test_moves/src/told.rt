@@ -11,7 +11,6 @@ use pci_settle::settle::settle;
 use pci_settle::writes::Writes;
 use pci_told::reader::read_told;
 use std::alloc::Global;
-use std::test::Fail;
 use test_support::row::Row;
 use test_support::row::Row::{Bridge, Device};
 
@@ -75,23 +74,21 @@ fn settles_anew(alloc: Global, board: &[Row], text: &str, count: usize, wanted: 
 }
 
 #[test]
-fn nothing_is_placed_on_what_is_told(rt: HostRuntime) -> Result<(), Fail> {
+fn nothing_is_placed_on_what_is_told(rt: HostRuntime) {
     const UNTOLD: &[Wanted] = &[(1, 1, 0x10, 4, 0xe000_4000), (1, 1, 0x04, 2, 2)];
     const WANTED: &[Wanted] = &[(1, 1, 0x10, 4, 0xe000_c000), (1, 1, 0x04, 2, 2)];
     assert!(rt; settles_beside(rt.alloc(), BOARD, "", UNTOLD));
     assert!(rt; settles_beside(rt.alloc(), BOARD, TWO, WANTED));
-    Ok(())
 }
 
 #[test]
-fn a_window_that_is_full_of_it_grows(rt: HostRuntime) -> Result<(), Fail> {
+fn a_window_that_is_full_of_it_grows(rt: HostRuntime) {
     const WANTED: &[Wanted] = &[
         (0, 1, 0x20, 4, 0xe020_e000),
         (1, 1, 0x10, 4, 0xe020_0000),
         (1, 1, 0x04, 2, 2),
     ];
     assert!(rt; settles_beside(rt.alloc(), BOARD, ALL, WANTED));
-    Ok(())
 }
 
 /// The fault for which a board isn't settled beside the ranges of a text.
@@ -99,24 +96,19 @@ fn fault_beside(alloc: Global, board: &[Row], text: &str) -> Option<SettleFault>
     settled_beside(alloc, board, text, false)?.err()
 }
 
-/// Whether a fault names the first line of a text, which is of 01:00.0.
+/// Whether a fault is 75 and names the first line of a text, which is of 01:00.0.
 fn is_first_line(fault: SettleFault) -> bool {
     match fault {
-        SettleFault::Told { slot, line } => Slot::new(1, 0, 0) == Some(slot) && line == 1,
+        SettleFault::Told { slot, line } => {
+            fault.number() == 75 && Slot::new(1, 0, 0) == Some(slot) && line == 1
+        }
         _ => false,
     }
 }
 
 #[test]
-fn it_is_named_where_its_window_would_go(rt: HostRuntime) -> Result<(), Fail> {
-    match fault_beside(rt.alloc(), FULL, ALL) {
-        Some(fault) => {
-            assert_eq!(rt; fault.number(), 75);
-            assert!(rt; is_first_line(fault));
-        }
-        None => assert!(rt; false),
-    }
-    Ok(())
+fn it_is_named_where_its_window_would_go(rt: HostRuntime) {
+    assert!(rt; fault_beside(rt.alloc(), FULL, ALL).is_some_and(is_first_line));
 }
 
 /// A window of 2 MB with two BARs of 16 KB in it, and a BAR of 512 KB that has no place yet.
@@ -131,7 +123,7 @@ const PIECES: &[Row] = &[
 const SECOND: &str = "01:00.0 mem 00000000e0100000-00000000e01fffff always vf0\n";
 
 #[test]
-fn anew_the_window_over_it_stands(rt: HostRuntime) -> Result<(), Fail> {
+fn anew_the_window_over_it_stands(rt: HostRuntime) {
     const WANTED: &[Wanted] = &[
         (1, 2, 0x04, 2, 0),
         (1, 0, 0x04, 2, 0),
@@ -143,11 +135,10 @@ fn anew_the_window_over_it_stands(rt: HostRuntime) -> Result<(), Fail> {
         (1, 2, 0x04, 2, 2),
     ];
     assert!(rt; settles_anew(rt.alloc(), PIECES, SECOND, 2, WANTED));
-    Ok(())
 }
 
 #[test]
-fn without_it_the_window_is_placed_anew_too(rt: HostRuntime) -> Result<(), Fail> {
+fn without_it_the_window_is_placed_anew_too(rt: HostRuntime) {
     const WANTED: &[Wanted] = &[
         (1, 2, 0x04, 2, 0),
         (1, 0, 0x04, 2, 0),
@@ -161,5 +152,4 @@ fn without_it_the_window_is_placed_anew_too(rt: HostRuntime) -> Result<(), Fail>
         (1, 2, 0x04, 2, 2),
     ];
     assert!(rt; settles_anew(rt.alloc(), PIECES, "", 3, WANTED));
-    Ok(())
 }

@@ -14,8 +14,7 @@ use pci_place::pools::Pools;
 use pci_plan::plan::Plan;
 use pci_plan::planning::plan;
 use pci_tree::admitted::Admitted;
-use std::process::Abort;
-use std::test::Fail;
+use std::alloc::Global;
 use test_support::board::Function;
 
 /// What is tried on a plan.
@@ -37,65 +36,64 @@ pub enum Trial {
     FirmwareIsStuck,
 }
 
-/// Tries it on a plan.
-fn try_on(rt: &(impl Abort + AllocGlobal), plan: &Plan<'_>, trial: Trial) -> Result<(), Fail> {
+/// Whether it goes as it should on a plan.
+fn try_on(alloc: Global, plan: &Plan<'_>, trial: Trial) -> bool {
     match trial {
-        Trial::Takes { compared, writes } => takes(rt, plan, compared, writes),
-        Trial::StopsAnywhere => stops_anywhere(rt, plan),
-        Trial::ThirdWriteFails => third_write_fails(rt, plan),
-        Trial::PinnedCommand => pinned_command_stops(rt, plan),
-        Trial::EachPinnedRegister => each_pinned_register_stops(rt, plan),
-        Trial::EachPinnedClosing(closing) => each_pinned_closing_stops(rt, plan, closing),
-        Trial::EachChange => each_change_is_named(rt, plan),
-        Trial::CommandChanges => command_is_compared(rt, plan),
-        Trial::OtherBytesChange => other_bytes_may_change(rt, plan),
-        Trial::GoneFunction => gone_function_is_a_failed_access(rt, plan),
-        Trial::FirmwareGoesOn => firmware_knows_what_next(rt, plan),
-        Trial::FirmwareIsStuck => firmware_learns_what_stuck(rt, plan),
+        Trial::Takes { compared, writes } => takes(alloc, plan, compared, writes),
+        Trial::StopsAnywhere => stops_anywhere(alloc, plan),
+        Trial::ThirdWriteFails => third_write_fails(alloc, plan),
+        Trial::PinnedCommand => pinned_command_stops(alloc, plan),
+        Trial::EachPinnedRegister => each_pinned_register_stops(alloc, plan),
+        Trial::EachPinnedClosing(closing) => each_pinned_closing_stops(alloc, plan, closing),
+        Trial::EachChange => each_change_is_named(alloc, plan),
+        Trial::CommandChanges => command_is_compared(alloc, plan),
+        Trial::OtherBytesChange => other_bytes_may_change(alloc, plan),
+        Trial::GoneFunction => gone_function_is_a_failed_access(alloc, plan),
+        Trial::FirmwareGoesOn => firmware_knows_what_next(alloc, plan),
+        Trial::FirmwareIsStuck => firmware_learns_what_stuck(alloc, plan),
     }
 }
 
 /// Plans from a start, and tries it on the plan.
-fn tried_from(
-    rt: &(impl Abort + AllocGlobal),
-    start: &Admitted,
-    pools: &Pools,
-    trial: Trial,
-) -> Result<(), Fail> {
-    let plan = plan(rt.alloc(), start, pools)?;
-    try_on(rt, &plan, trial)
+fn tried_from(alloc: Global, start: &Admitted, pools: &Pools, trial: Trial) -> bool {
+    match plan(alloc, start, pools) {
+        Ok(plan) => try_on(alloc, &plan, trial),
+        Err(_) => false,
+    }
 }
 
 /// Plans for a board, and tries it on the plan.
-pub fn tried(
-    rt: &(impl Abort + AllocGlobal),
-    board: &[Function],
-    pools: &Pools,
-    trial: Trial,
-) -> Result<(), Fail> {
-    let start = admitted(rt.alloc(), board)?;
-    tried_from(rt, &start, pools, trial)
+pub fn tried(alloc: Global, board: &[Function], pools: &Pools, trial: Trial) -> bool {
+    match admitted(alloc, board) {
+        Some(start) => tried_from(alloc, &start, pools, trial),
+        None => false,
+    }
 }
 
 /// The board that planning from a start leads to.
-fn next_start(
-    rt: &(impl Abort + AllocGlobal),
-    start: &Admitted,
-    pools: &Pools,
-) -> Result<Admitted, Fail> {
-    let plan = plan(rt.alloc(), start, pools)?;
-    planned(rt.alloc(), &plan)
+fn next_start(alloc: Global, start: &Admitted, pools: &Pools) -> Option<Admitted> {
+    match plan(alloc, start, pools) {
+        Ok(plan) => planned(alloc, &plan),
+        Err(_) => None,
+    }
+}
+
+/// The board that planning for a board leads to.
+fn planned_from(alloc: Global, board: &[Function], pools: &Pools) -> Option<Admitted> {
+    let start = admitted(alloc, board)?;
+    next_start(alloc, &start, pools)
 }
 
 /// Plans for a board, then for what was planned, over other pools, and tries it on the second plan.
 pub fn tried_again(
-    rt: &(impl Abort + AllocGlobal),
+    alloc: Global,
     board: &[Function],
     pools: &Pools,
     others: &Pools,
     trial: Trial,
-) -> Result<(), Fail> {
-    let start = admitted(rt.alloc(), board)?;
-    let there = next_start(rt, &start, pools)?;
-    tried_from(rt, &there, others, trial)
+) -> bool {
+    match planned_from(alloc, board, pools) {
+        Some(there) => tried_from(alloc, &there, others, trial),
+        None => false,
+    }
 }
