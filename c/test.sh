@@ -117,7 +117,7 @@ told '' "$built/put"
 compiled steps_told "$here/test/pciplan_number_told.c" "$here/test/pciplan_number_steps_test.c" \
     "$built/steps.o" "$here/test/pciplan_board.c" "$built/memory.o" "$library"
 "$built/steps_told" <"$boards/stdin" | cmp - "$boards/stdout"
-told "number by steps: $(grep -vc @ "$boards/stdout")" echo ' writes and answers as in crates/test_numbering'
+told "by steps: $(grep -vc @ "$boards/stdout")" echo ' writes and answers as in crates/test_numbering'
 compiled bring_up "$here/test/pciplan_bring_up_test.c" "$here/test/pciplan_board.c" "$built/up.o" "$built/apply.o" \
     "$built/number.o" "$built/capture.o" "$built/supported.o" "$built/memory.o" "$library"
 told '' "$built/bring_up"

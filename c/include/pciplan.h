@@ -12,8 +12,8 @@
      CMPXCHG16B). pciplan_supported says whether the processor has them. Firmware switches SSE on first (CR0.EM clear,
      CR0.MP set, CR4.OSFXSR set), or the first call is an invalid opcode.
      `rt lib --backend rattle --cpu x86-64` builds it for every x86-64 processor; then pciplan_supported needn't be asked.
-   - Stack: 32 KB for each call, but 64 KB for pciplan_faults, and 240 KB for pciplan_settle, which keeps tables of all
-     buses there. 128 bytes below the stack pointer are in use: what interrupts on the same stack leaves them alone
+   - Stack: 32 KB for each call, but 64 KB for pciplan_faults, 48 KB for pciplan_number_step (160 bytes for each bus that
+     a bridge leads to), and 240 KB for pciplan_settle, which keeps tables of all buses there. 128 bytes below the stack pointer are in use: what interrupts on the same stack leaves them alone
      (firmware is built with -mno-red-zone for that; this library isn't). In a build with `--backend rattle` nothing was
      found that does so, and pciplan_plan needs 80 KB (docs/C.md).
    - Memory: a check holds some 340 bytes a function at once, a plan some 1,860 and 17 KB more, a settling up to 200 KB
@@ -278,8 +278,8 @@ struct pciplan_number_step {
    slot. Only bytes 18h to 1Ah of bridges are written.
 
    It holds of any board whose accesses showed what log says. Where an access fails, nothing more is to be made. Each call
-   goes over the whole log, so the time grows with its square: 255 bridges in a row take some 33,000 accesses. It takes no
-   memory. c/number/pciplan_number_steps.c makes all accesses by this call. */
+   goes over the whole log, so the time grows with its square: a row of 10 bridges takes 1,538 accesses and some 20 ms in
+   all, one of 100 bridges 14,858 and some two seconds. It takes no memory. c/number/pciplan_number_steps.c makes all accesses by this call. */
 uint8_t pciplan_number_step(const struct pciplan_number_access *log, size_t log_len,
                             uint8_t root, uint8_t last, uint8_t spare, struct pciplan_number_step *step);
 
