@@ -1,0 +1,23 @@
+use Rattle.std.proofs.Common.{inl, ap, subst, cond, List, ℕ, Bool}
+use Rattle.std.specs.Prelude.{string_bytes}
+use Rattle.pci_picture.specs.Boxes.{IsPictureOf}
+use Rattle.pciplan_tasks.specs.Answers.{Answer, answer_of}
+use Rattle.pciplan_front.proofs.drawn.drawn.Goals as goal
+
+pub returns-in-Ok : goal.returns-in-Ok
+returns-in-Ok c =
+    let text = string_bytes c.in-Ok.picture in
+    let of_refused : Bool → Answer = λ b. record { status = cond b 1 0; text = text; remarks = string_bytes c.in_ok-map.map.remarks } in
+    inl record {
+      map = answer_of c.in_ok-map.map;
+      is_map = c.in_ok-map.ensures;
+      accepted = ap (λ b. cond b 1 0) c.if-map.false;
+      shown = answer_of c.in_ok-shown.shown;
+      is_shown = c.in_ok-shown.ensures;
+      faults = answer_of c.in_ok-faults.faults;
+      are_faults = c.in_ok-faults.ensures.told;
+      text = text;
+      picture = c.in-Ok.ensures.closed;
+      draws = subst (λ (m : List ℕ). IsPictureOf m text) c.in_ok-lines_of-2.ensures c.in-Ok.ensures.drawn;
+      line = ap of_refused c.if-map.false;
+    }
