@@ -14,7 +14,7 @@ use Rattle.pci_dump.specs.declared.ahead.Progress.TheVariants as stages
 use Rattle.std.specs.Io.KnownBytes.{Consumes, prepend_known}
 use Rattle.pci_dump.specs.State.{Ahead, State, state_of, IsRead, TakesBlock, TakesNone, TakesBlockOrNone, TakesFault}
 use Rattle.pci_dump.proofs.Texts.{read_all, read_all_one, read_fault, read_more_text}
-use Rattle.pci_pair.proofs.Pairs.{in_left, in_right, in_left_more, in_right_more, none_below_both, none_below_left, none_below_right}
+use Rattle.pci_tree.proofs.Pairs.{in_left, in_right, in_left_more, in_right_more, none_below_both, none_below_left, none_below_right}
 use Rattle.pci_tree.specs.Survey.{Surveyed, IsSurveyOf, IsAdded}
 use Rattle.pci_tree.proofs.Surveys.{survey_more}
 use Rattle.pci_spec.proofs.Pairing.{same_length, system_last}

@@ -6,7 +6,7 @@ use Rattle.pci_spec.specs.Decoded as decoded
 use Rattle.pci_tree.specs.Outline.{Tree}
 use Rattle.pci_tree.specs.Survey.{Surveyed, IsOutlineOf, IsRefusedBy}
 use Rattle.pci_tree.proofs.Pairings.{refused_first, admitted_pair}
-use Rattle.pci_pair.proofs.PairOrder.{slots_refusal}
+use Rattle.pci_tree.proofs.PairOrder.{slots_refusal}
 use Rattle.pci_check.specs.declared.outcome.Outcome.{Outcome}
 use Rattle.pci_check.specs.declared.outcome.Outcome.TheVariants.{Yes, No}
 use Rattle.pci_check.specs.Judgement.{IsJudgement}

@@ -7,7 +7,7 @@ use Rattle.pci_spec.specs.Fault.{SlotsDiffer, IsInOne}
 use Rattle.pci_dump.specs.declared.read_fault.ReadFault.{ReadFault}
 use Rattle.pci_dump.specs.declared.ahead.Progress.TheVariants as stages
 use Rattle.pci_dump.specs.State.{State, IsRead}
-use Rattle.pci_pair.specs.Pair.{IsNoneBelow}
+use Rattle.pci_tree.specs.Pair.{IsNoneBelow}
 use Rattle.pci_spec.specs.Order.{phase_of}
 use Rattle.pci_tree.specs.Survey.{Surveyed, IsSurveyOf, IsAdded}
 use Rattle.pci_check.specs.Audits.{IsDumpOf, IsReadFaultOf}

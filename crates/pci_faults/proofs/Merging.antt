@@ -13,7 +13,7 @@ use Rattle.pci_spec.specs.Fault.{Fault, SlotsDiffer}
 use Rattle.pci_spec.specs.Order.{precedes, slot_key, phase_of, is_before, image_at, IsFirstThere}
 use Rattle.pci_spec.specs.FaultLines.{subject, IsLine, AreAllFaults}
 use Rattle.pci_spec.proofs.Members.{IsMade, in_map_to, in_nil, in_head, in_tail, in_cons_cases, pairs_nil, pairs_cons, pairs_append, pairs_head, pairs_tail}
-use Rattle.pci_pair.proofs.Pairs.{number_same}
+use Rattle.pci_tree.proofs.Pairs.{number_same}
 use Rattle.pci_faults.specs.Lists.{AreJust}
 use Rattle.pci_faults.specs.OwnLines.{IsBeforeAt}
 use Rattle.pci_faults.specs.Slots.{IsLoneIn, IsLoneSlot, IsFront}

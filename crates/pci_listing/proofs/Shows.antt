@@ -16,9 +16,9 @@ use Rattle.pci_spec.specs.Order.{phase_of, IsFirstThere}
 use Rattle.pci_function.specs.Profile.{IsFirstOf}
 use Rattle.pci_function.proofs.Examined.{clear_2, clear_3, image_here, image_phase}
 use Rattle.pci_function.proofs.FirstIn.{here_in, here_not_clear, lower_is_taken, none_before}
-use Rattle.pci_pair.proofs.Pairs.{at_place, placed, pair_answers}
+use Rattle.pci_tree.proofs.Pairs.{at_place, placed, pair_answers}
 use Rattle.pci_spec.proofs.Pairing.{same_length, length-system_of, IsSystem-of_dumps, there-of_in, in-of_there}
-use Rattle.pci_pair.specs.Pair.{IsPair}
+use Rattle.pci_tree.specs.Pair.{IsPair}
 use Rattle.pci_listing.specs.Shows.{IsListable, IsFirstFor, IsRefusedFor, IsRefusedIn}
 
 -- two dumps of the same slots have as many blocks

@@ -13,7 +13,7 @@ use Rattle.pci_image.specs.declared.fault.ImageFault.{ImageFault}
 use Rattle.pci_function.specs.declared.fault.Fault.{Fault}
 use Rattle.pci_function.specs.Fault.{fault_of, image_fault_at}
 use Rattle.pci_function.specs.Profile.{IsFirstOf}
-use Rattle.pci_pair.specs.Pair.{IsPair}
+use Rattle.pci_tree.specs.Pair.{IsPair}
 
 -- the function's registers break no rule, and its capabilities list is one
 abbrev pub IsListable : Function → Type 0

@@ -10,7 +10,7 @@ use pci_base::memory::Refused;
 use pci_dump::block::Block;
 use pci_dump::dump::Dump;
 use pci_function::fault::Fault;
-use pci_pair::pair::pair;
+use pci_tree::pair::pair;
 use std::alloc::Allocator;
 
 /// Appends the lines of a function, with its block and that of its probe.

@@ -16,8 +16,8 @@ use Rattle.pci_spec.specs.Fault.{has_no_vendor, has_other_layout}
 use Rattle.pci_spec.specs.Decoded.{IsDecodable}
 use Rattle.pci_spec.proofs.Pairing.{same_length, length-system_of, slots-system_of, IsSystem-of_dumps}
 use Rattle.pci_spec.proofs.Sizing.{sizing_finds_probe}
-use Rattle.pci_pair.specs.Pair.{IsPair}
-use Rattle.pci_pair.proofs.Pairs.{at_place}
+use Rattle.pci_tree.specs.Pair.{IsPair}
+use Rattle.pci_tree.proofs.Pairs.{at_place}
 use Rattle.pci_spec.specs.Port.{IsTarget}
 use Rattle.pci_machine.specs.Memory.{IsMachine}
 use Rattle.pci_spec.specs.Sizing.{function_at, IsSizable, IsStuck}

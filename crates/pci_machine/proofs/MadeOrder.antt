@@ -16,10 +16,10 @@ use Rattle.pci_image.specs.declared.fault.ImageFault.{ImageFault}
 use Rattle.pci_image.specs.declared.fault.ImageFault.TheVariants as images
 use Rattle.pci_function.specs.Fault.{image_fault_at}
 use Rattle.pci_function.specs.Profile.{IsHere, IsFirstOf}
-use Rattle.pci_pair.specs.Pair.{IsPair}
+use Rattle.pci_tree.specs.Pair.{IsPair}
 use Rattle.pci_function.proofs.Examined.{clear_2, image_here, image_phase}
 use Rattle.pci_function.proofs.FirstIn.{here_in, here_not_clear, lower_is_taken, none_before}
-use Rattle.pci_pair.proofs.Pairs.{at_place, placed, pair_answers}
+use Rattle.pci_tree.proofs.Pairs.{at_place, placed, pair_answers}
 use Rattle.pci_machine.specs.Made.{is_of_list}
 
 -- ---- faults that aren't of capabilities lists

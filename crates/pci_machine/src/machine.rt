@@ -2,7 +2,7 @@
 ghost use Rattle.std.specs.Prelude.{◌≡◌, ◌<◌, ℕ, List, map, All, IsTrue, IsFalse, IfSome, IfOk, OnOk, IfErr, MatchOption, MatchResult, Some, slice_get, length};
 ghost use Rattle.pci_spec.specs.System.{system_of};
 ghost use Rattle.pci_spec.specs.Decoded.{IsDecodable};
-ghost use Rattle.pci_pair.specs.Pair.{IsPair};
+ghost use Rattle.pci_tree.specs.Pair.{IsPair};
 ghost use Rattle.pci_machine.specs.Made.{IsOfMachine, IsRefusedFor, IsFirstFor};
 ghost use Rattle.pci_spec.specs.Sizing.{function_at, IsSizable};
 ghost use Rattle.pci_spec.specs.Machine.{Target, target_of, sized, write_targets};
@@ -19,7 +19,7 @@ use pci_base::memory::Refused;
 use pci_base::slot::Slot;
 use pci_dump::dump::Dump;
 use pci_function::fault::{Fault, PairFault};
-use pci_pair::pair::pair;
+use pci_tree::pair::pair;
 use std::alloc::{Allocator, Global};
 use std::marker::Model;
 

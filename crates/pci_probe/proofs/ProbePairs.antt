@@ -16,8 +16,8 @@ use Rattle.pci_spec.specs.ProbeOf.{told_of, probe_block, probe_of, identity_faul
 use Rattle.pci_spec.specs.System.{function_of}
 use Rattle.pci_spec.proofs.Pairing.{function-at, same_length, length-system_of}
 use Rattle.pci_function.specs.Profile.{IsAnswering}
-use Rattle.pci_pair.specs.Pair.{IsPair}
-use Rattle.pci_pair.proofs.Pairs.{answering_pair}
+use Rattle.pci_tree.specs.Pair.{IsPair}
+use Rattle.pci_tree.proofs.Pairs.{answering_pair}
 use Rattle.pci_machine.proofs.Targets.{find-none}
 use Rattle.pci_probe.specs.Derivation.{told_function}
 use Rattle.pci_probe.proofs.FirstOf.{first_of-none, header_of-none}

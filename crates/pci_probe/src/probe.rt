@@ -5,7 +5,7 @@ ghost use Rattle.pci_spec.specs.NoProbe.{no_probe};
 ghost use Rattle.pci_spec.specs.ProbeOf.{assumed_in, assumed_of, first_of, identity_fault, probe_block, probe_fault};
 ghost use Rattle.pci_spec.specs.ProbeOf as spec;
 ghost use Rattle.pci_image.specs.Header.{HasHeader};
-ghost use Rattle.pci_pair.specs.Pair.{IsPair};
+ghost use Rattle.pci_tree.specs.Pair.{IsPair};
 ghost use Rattle.pci_probe.specs.Assuming.{assuming_of};
 ghost use Rattle.pci_probe.specs.ProbeFault.{IsFirstProbeFault, fault_value};
 ghost use Rattle.pci_probe.specs.Derivation.{IsFaultOfFunction, told_function};
@@ -77,7 +77,7 @@ fn add<A: Allocator>(
 }
 
 /// The probe of a dump, by what Linux tells of its functions' registers. It has the dump's slots, its titles name the
-/// registers that are assumed, and it goes with the dump as [`pci_pair::pair::pair`] asks.
+/// registers that are assumed, and it goes with the dump as [`pci_tree::pair::pair`] asks.
 ///
 /// # Errors
 ///

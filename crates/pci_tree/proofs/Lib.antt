@@ -29,3 +29,5 @@ pub mod Finishes
 pub mod Pairings
 pub mod Surveys
 pub mod EarlyFaults
+pub mod PairOrder
+pub mod Pairs

@@ -13,3 +13,4 @@ pub mod Admission
 pub mod Refusals
 pub mod Survey
 pub mod Trees
+pub mod Pair

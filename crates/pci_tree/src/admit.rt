@@ -13,11 +13,11 @@ use super::admitted::Admitted;
 use super::outline::Outline;
 use super::roots::Roots;
 use super::survey::Survey;
+use crate::pair::first_difference;
 use pci_base::memory::{OutOfMemory, Refused};
 use pci_dump::block::Block;
 use pci_dump::dump::Dump;
 use pci_function::fault::Fault;
-use pci_pair::pair::first_difference;
 use std::alloc::Allocator;
 
 /// Adds all functions of a dump and a probe that list the same slots to a survey of none.

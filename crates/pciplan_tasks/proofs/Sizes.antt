@@ -10,7 +10,7 @@ use Rattle.pci_spec.specs.System.{Function, function_of, system_of}
 use Rattle.pci_spec.specs.Machine.{Target, target_of, sized}
 use Rattle.pci_spec.specs.Decoded.{IsDecodable}
 use Rattle.pci_spec.proofs.Pairing.{length-system_of, same_length}
-use Rattle.pci_pair.proofs.Pairs.{at_place, slot_at}
+use Rattle.pci_tree.proofs.Pairs.{at_place, slot_at}
 use Rattle.pci_spec.specs.Sizing.{function_at, IsSizable}
 use Rattle.pci_machine.proofs.MadeOf.{sizable-of}
 

@@ -11,7 +11,7 @@ use Rattle.pci_spec.specs.Decoded.{IsDecodable}
 use Rattle.pci_spec.specs.Line.{field, verdict_line}
 use Rattle.pci_spec.specs.Listing.{listing}
 use Rattle.pci_dump.specs.Begun.{AppendsBeginning}
-use Rattle.pci_pair.specs.Pair.{IsPair}
+use Rattle.pci_tree.specs.Pair.{IsPair}
 use Rattle.pci_listing.specs.Shows.{AreListable}
 use Rattle.pci_machine.specs.Made.{is_of_list}
 use Rattle.pci_check.specs.Audits.{IsOutcomeOf, outcome_line}

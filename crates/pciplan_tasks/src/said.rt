@@ -20,8 +20,8 @@ use pci_given::said::Said;
 use pci_model::asleep::asleep;
 use pci_model::taking::taking;
 use pci_model::words::Words;
-use pci_pair::pair::first_difference;
 use pci_told::told_range::ToldRange;
+use pci_tree::pair::first_difference;
 use std::alloc::Allocator;
 
 /// The bridges of a dump that are given beside it, by a user's words.

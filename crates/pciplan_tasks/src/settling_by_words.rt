@@ -45,11 +45,11 @@ use pci_model_settle::claim_lines::{
 use pci_model_settle::listed::{as_listed, dump_after};
 use pci_model_settle::off_devices::{device_lines, left_out, without_registers};
 use pci_model_settle::unmoved::unmoved;
-use pci_pair::pair::first_difference;
 use pci_settle::lack::SettleFault;
 use pci_settle::settle::{Settled, settle};
 use pci_tree::admit::admit_with;
 use pci_tree::admitted::Admitted;
+use pci_tree::pair::first_difference;
 use std::alloc::Allocator;
 
 /// What is said beside the two texts of a settling, by the bridges that are given and the functions that are asleep. The host

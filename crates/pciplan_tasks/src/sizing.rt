@@ -5,7 +5,7 @@ ghost use Rattle.pci_spec.specs.Machine.{sized};
 ghost use Rattle.pci_spec.specs.Sizing.{function_at, IsSizable};
 ghost use Rattle.pci_spec.specs.System.{system_of};
 ghost use Rattle.pci_spec.specs.Decoded.{IsDecodable};
-ghost use Rattle.pci_pair.specs.Pair.{IsPair};
+ghost use Rattle.pci_tree.specs.Pair.{IsPair};
 ghost use Rattle.pci_machine.specs.Made.{IsFirstFor, IsOfMachine, IsRefusedFor};
 
 use pci_base::image::Image;

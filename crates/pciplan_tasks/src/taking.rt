@@ -6,7 +6,7 @@ use pci_base::memory::OutOfMemory;
 use pci_dump::dump::Dump;
 use pci_model::take::{TakenPair, taken_by};
 use pci_model::words::Words;
-use pci_pair::pair::first_difference;
+use pci_tree::pair::first_difference;
 use std::alloc::Allocator;
 
 /// The two as words take them; None where they are taken as they are: there are no words, or the two list other slots.

@@ -5,7 +5,7 @@ use pci_dump::block::Block;
 use pci_dump::dump::Dump;
 use pci_dump::reader::read_dump;
 use pci_function::fault::PairFault;
-use pci_pair::pair::pair;
+use pci_tree::pair::pair;
 use std::test::Fail;
 use test_support::fakes::Pieces;
 

@@ -7,7 +7,7 @@ use Rattle.pci_spec.specs.Fault.{Fault}
 use Rattle.pci_spec.proofs.Pairing.{same_length, length-system_of, IsSystem-of_dumps}
 use Rattle.pci_function.specs.Fault.{fault_of}
 use Rattle.pci_function.proofs.FirstHere.{rest_of}
-use Rattle.pci_pair.proofs.Pairs.{at_place, placed}
+use Rattle.pci_tree.proofs.Pairs.{at_place, placed}
 use Rattle.pci_faults.specs.Lists.{AreJust}
 use Rattle.pci_faults.specs.OwnLines.{IsBeforeAt, IsOwnLine, IsOwnOf}
 use Rattle.pci_faults.specs.Phases.{number_of}

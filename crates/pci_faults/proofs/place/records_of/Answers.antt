@@ -6,7 +6,7 @@ use Rattle.pci_spec.specs.System.{System, function_of, system_of}
 use Rattle.pci_spec.specs.Decoded.{IsDecodable, record_of}
 use Rattle.pci_spec.proofs.Pairing.{same_length, length-system_of}
 use Rattle.pci_function.specs.Values.{record_value}
-use Rattle.pci_pair.proofs.Pairs.{at_place, placed, holds_of_more}
+use Rattle.pci_tree.proofs.Pairs.{at_place, placed, holds_of_more}
 use Rattle.pci_faults.proofs.OfPlace.{records_more}
 use Rattle.pci_faults.proofs.place.records_of.Goals as goal
 

@@ -3,7 +3,7 @@ use Rattle.std.specs.List.{All}
 use Rattle.std.proofs.lemmas.List.{take_all}
 use Rattle.pci_spec.specs.Text.{IsDump, slots_of}
 use Rattle.pci_spec.proofs.Pairing.{same_length, length-system_of}
-use Rattle.pci_pair.proofs.Pairs.{holds_of_more}
+use Rattle.pci_tree.proofs.Pairs.{holds_of_more}
 use Rattle.pci_listing.specs.Shows.{IsListable}
 use Rattle.pci_spec.specs.System.{function_of, system_of}
 use Rattle.pci_spec.specs.Listing.{listing, function_listing}

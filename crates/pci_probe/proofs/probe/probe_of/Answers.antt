@@ -10,7 +10,7 @@ use Rattle.pci_probe.specs.Derivation.{told_function}
 use Rattle.pci_probe.specs.ProbeFault.{IsFirstProbeFault}
 use Rattle.pci_probe.proofs.FirstOf.{first_of-more, first_of-none, header_of-none}
 use Rattle.pci_probe.proofs.ToldFunctions.{same_count, length-told_of, told_at, next_above, all_told, blocks_more, assumed_more}
-use Rattle.pci_pair.specs.Pair.{IsPair}
+use Rattle.pci_tree.specs.Pair.{IsPair}
 use Rattle.pci_probe.proofs.ProbePairs.{pair_of}
 use Rattle.pci_probe.proofs.ProbeFaults.{fault_by, register_fault_by}
 use Rattle.pci_probe.specs.Assuming.{assuming_of}

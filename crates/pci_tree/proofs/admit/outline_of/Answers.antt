@@ -12,7 +12,7 @@ use Rattle.pci_tree.specs.Refusals.{IsRefusalOf, IsPairRefusal}
 use Rattle.pci_tree.specs.Roots.{buses_of}
 use Rattle.pci_tree.specs.Survey.{Surveyed, IsSurveyOf, IsOutlineOf}
 use Rattle.pci_tree.proofs.Pairings.{pair_refusal, admitted_pair}
-use Rattle.pci_pair.proofs.PairOrder.{slots_refusal}
+use Rattle.pci_tree.proofs.PairOrder.{slots_refusal}
 use Rattle.pci_tree.proofs.admit.outline_of.Goals as goal
 
 same_from : (a b c d : List Block) → a ≡ c → b ≡ d → slots_of a ≡ slots_of b → slots_of c ≡ slots_of d

@@ -9,8 +9,8 @@ use Rattle.pci_spec.specs.Decoded.{IsDecodable}
 use Rattle.pci_spec.proofs.Pairing.{same_length, length-system_of}
 use Rattle.pci_spec.specs.Order.{phase_of, is_before, image_at}
 use Rattle.pci_function.specs.Fault.{fault_of, image_fault_at}
-use Rattle.pci_pair.specs.Pair.{IsPair}
-use Rattle.pci_pair.proofs.Pairs.{holds_of_more}
+use Rattle.pci_tree.specs.Pair.{IsPair}
+use Rattle.pci_tree.proofs.Pairs.{holds_of_more}
 use Rattle.pci_machine.specs.Memory.{IsMachine}
 use Rattle.pci_spec.specs.Sizing.{function_at, IsSizable}
 use Rattle.pci_machine.specs.Made.{is_of_list}

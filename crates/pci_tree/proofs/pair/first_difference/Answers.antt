@@ -1,9 +1,9 @@
 use Rattle.std.proofs.Common.{◌≡◌, ◌<◌, ℕ, get_or, arith, sym, ap, subst, ◌∙◌}
 use Rattle.pci_spec.specs.Slot.{Slot, IsSlot, slot_number}
 use Rattle.pci_spec.specs.Fault.{IsInOne}
-use Rattle.pci_pair.proofs.Pairs.{in_left, in_right, in_left_more, in_right_more, none_below_both, none_below_left, none_below_right, same_more}
-use Rattle.pci_pair.specs.Pair.{IsNoneBelow}
-use Rattle.pci_pair.proofs.pair.first_difference.Goals as goal
+use Rattle.pci_tree.proofs.Pairs.{in_left, in_right, in_left_more, in_right_more, none_below_both, none_below_left, none_below_right, same_more}
+use Rattle.pci_tree.specs.Pair.{IsNoneBelow}
+use Rattle.pci_tree.proofs.pair.first_difference.Goals as goal
 
 pub returns-then-number-clause-some : goal.returns-then-number-clause-some
 returns-then-number-clause-some c =

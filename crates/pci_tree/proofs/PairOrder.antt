@@ -12,10 +12,10 @@ use Rattle.pci_spec.proofs.Looking.{key_cases, phase_le}
 use Rattle.pci_spec.proofs.Members.{IsMade, in_map_to}
 use Rattle.pci_spec.proofs.Pairing.{same_length, length-system_of, IsSystem-of_dumps, there-of_in, in-of_there}
 use Rattle.pci_function.specs.Profile.{IsAnswering, IsHereIn, IsFirstOf}
-use Rattle.pci_pair.specs.Pair.{IsNoneBelow}
+use Rattle.pci_tree.specs.Pair.{IsNoneBelow}
 use Rattle.pci_function.proofs.FirstIn.{here_in, here_not_clear, lower_is_taken, none_before}
 use Rattle.pci_function.proofs.Examined.{clear_1, clear_2}
-use Rattle.pci_pair.proofs.Pairs.{at_place, placed}
+use Rattle.pci_tree.proofs.Pairs.{at_place, placed}
 
 -- ---- slots that differ
 

@@ -7,10 +7,10 @@ use Rattle.pci_spec.specs.Order.{IsFirstThere}
 use Rattle.pci_spec.proofs.Pairing.{same_length, length-system_of}
 use Rattle.pci_function.specs.Fault.{fault_of}
 use Rattle.pci_function.specs.Profile.{IsAnswering}
-use Rattle.pci_pair.specs.Pair.{IsPair}
-use Rattle.pci_pair.proofs.PairOrder.{slots_refusal, pair_refusal}
-use Rattle.pci_pair.proofs.Pairs.{holds_of_more, answering_pair}
-use Rattle.pci_pair.proofs.pair.pair.Goals as goal
+use Rattle.pci_tree.specs.Pair.{IsPair}
+use Rattle.pci_tree.proofs.PairOrder.{slots_refusal, pair_refusal}
+use Rattle.pci_tree.proofs.Pairs.{holds_of_more, answering_pair}
+use Rattle.pci_tree.proofs.pair.pair.Goals as goal
 
 pub bounds-probes-i : goal.bounds-probes-i
 bounds-probes-i g c =

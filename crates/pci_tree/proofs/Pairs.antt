@@ -11,7 +11,7 @@ use Rattle.pci_spec.specs.Fault.{IsInOne}
 use Rattle.pci_spec.specs.System.{Function, function_of, system_of}
 use Rattle.pci_spec.proofs.Pairing.{function-at, same_length, length-system_of}
 use Rattle.pci_function.specs.Profile.{IsAnswering}
-use Rattle.pci_pair.specs.Pair.{IsNoneBelow, IsPair}
+use Rattle.pci_tree.specs.Pair.{IsNoneBelow, IsPair}
 
 -- ---- slots
 

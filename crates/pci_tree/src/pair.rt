@@ -6,7 +6,7 @@ ghost use Rattle.pci_spec.specs.Text.{slots_of};
 ghost use Rattle.pci_spec.specs.Fault.{IsInOne, IsThere};
 ghost use Rattle.pci_spec.specs.Order.{phase_of, IsFirstThere};
 ghost use Rattle.pci_function.specs.Fault.{fault_of};
-ghost use Rattle.pci_pair.specs.Pair.{IsNoneBelow, IsPair};
+ghost use Rattle.pci_tree.specs.Pair.{IsNoneBelow, IsPair};
 
 use pci_base::slot::Slot;
 use pci_dump::block::Block;

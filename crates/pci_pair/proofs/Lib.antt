@@ -1,2 +1,0 @@
-pub mod PairOrder
-pub mod Pairs
