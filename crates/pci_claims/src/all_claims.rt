@@ -14,7 +14,7 @@ use super::claim::{Arriving, Claim, told_claim_of};
 use super::reach::reach_to;
 use pci_base::memory::OutOfMemory;
 use pci_base::space::Space;
-use pci_told::told_range::ToldRange;
+use pci_dump::told_range::ToldRange;
 use std::alloc::Allocator;
 
 /// A part of a list, from one index to before another.

@@ -19,8 +19,8 @@ use pci_base::offset::{BRIDGE_CONTROL, COMMAND, IO_BASE, MEMORY_BASE, PREFETCHAB
 use pci_base::range::Range;
 use pci_base::slot::Slot;
 use pci_base::space::Space;
+use pci_dump::told_range::ToldRange;
 use pci_function::record::Record;
-use pci_told::told_range::ToldRange;
 use pci_tree::ranges::least_from;
 use pci_tree::region::Region;
 use std::alloc::{Allocator, Global};

@@ -9,15 +9,15 @@ ghost use Rattle.pci_base.specs.Space.{space_of};
 ghost use Rattle.pci_function.specs.Values.{record_value};
 ghost use Rattle.pci_tree.specs.Outline.{RiseBySlot};
 ghost use Rattle.judge_spec.specs.ToldClaims.{Told as ToldValue, is_on_by, is_enabled_at, is_range_on};
-ghost use Rattle.pci_told.specs.Marks.{mark_of};
+ghost use Rattle.pci_dump.specs.ToldMarks.{mark_of};
 ghost use Rattle.pci_claims.specs.Values.{told_value};
 ghost use Rattle.pci_claims.specs.ToldOn.{AreOnIn};
 
 use pci_base::memory::OutOfMemory;
 use pci_base::slot::Slot;
 use pci_base::space::Space;
+use pci_dump::told_range::{Mark, ToldRange};
 use pci_function::record::Record;
-use pci_told::told_range::{Mark, ToldRange};
 use pci_tree::bus::record_at;
 use pci_tree::outline::Outline;
 use std::alloc::Allocator;

@@ -15,3 +15,7 @@ pub mod TitleRuns
 pub mod Tails
 mod Marks
 mod NamedBlocks
+pub mod ToldAddresses
+pub mod ToldDigits
+pub mod ToldTaken
+pub mod ToldParted

@@ -11,3 +11,7 @@ pub mod Fill
 pub mod Front
 pub mod Begun
 pub mod Marks
+pub mod ToldMarks
+pub mod ToldPlaces
+pub mod ToldSteps
+pub mod ToldFaults

@@ -21,8 +21,8 @@ use pci_base::memory::OutOfMemory;
 use pci_base::range::Range;
 use pci_base::slot::Slot;
 use pci_base::space::Space;
+use pci_dump::told_range::ToldRange;
 use pci_function::record::Bridge;
-use pci_told::told_range::ToldRange;
 use pci_tree::roots::Roots;
 use std::alloc::Allocator;
 

@@ -3,8 +3,8 @@ ghost use Rattle.std.specs.Prelude.{◌≡◌, []};
 ghost use Rattle.judge_spec.specs.Told.{IsTold};
 ghost use Rattle.pci_first_fit.specs.ToldProp.{IsTold-prop};
 
-use pci_told::told_list::ToldList;
-use pci_told::told_range::ToldRange;
+use pci_dump::told_list::ToldList;
+use pci_dump::told_range::ToldRange;
 use std::alloc::Allocator;
 
 /// Ranges in the order of their slots, each of which a line of a text can tell of. They are answered whatever is settled, so

@@ -15,9 +15,9 @@ use pci_base::memory::OutOfMemory;
 use pci_base::offset::SECONDARY_BUS;
 use pci_base::slot::{BUSES, Slot};
 use pci_dump::block::Block;
+use pci_dump::told_range::ToldRange;
 use pci_function::fault::Fault;
 use pci_image::layout::Layout;
-use pci_told::told_range::ToldRange;
 use pci_tree::roots::Roots;
 use std::alloc::Allocator;
 

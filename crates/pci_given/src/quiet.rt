@@ -22,7 +22,7 @@ use pci_claims::board::Board;
 use pci_claims::claim::may_share;
 use pci_claims::given::LegacyBridge;
 use pci_claims::legacy::pieces;
-use pci_told::told_range::ToldRange;
+use pci_dump::told_range::ToldRange;
 use pci_tree::ranges::least_from;
 use pci_tree::region::Region;
 use pci_tree::roots::Roots;

@@ -11,7 +11,7 @@ use pci_base::memory::OutOfMemory;
 use pci_base::slot::{BUSES, Slot};
 use pci_base::space::Space;
 use pci_claims::all_claims::ranges_of;
-use pci_told::told_range::ToldRange;
+use pci_dump::told_range::ToldRange;
 use pci_tree::region::Region;
 use pci_tree::roots::Roots;
 use std::alloc::Allocator;

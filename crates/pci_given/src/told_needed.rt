@@ -12,7 +12,7 @@ use super::needed::Needed;
 use pci_base::memory::OutOfMemory;
 use pci_base::range::Range;
 use pci_claims::told::Told;
-use pci_told::told_range::ToldRange;
+use pci_dump::told_range::ToldRange;
 use std::alloc::Allocator;
 
 /// The register of the told range of line 1.

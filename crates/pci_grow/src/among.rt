@@ -17,9 +17,9 @@ use crate::beside::{before, behind};
 use pci_base::range::Range;
 use pci_base::slot::Slot;
 use pci_base::space::Space;
+use pci_dump::told_range::ToldRange;
 use pci_first_fit::lines::Line;
 use pci_kept::region::Region;
-use pci_told::told_range::ToldRange;
 
 /// The one of two ranges that ends later.
 fn ending_later(one: Option<Range>, other: Option<Range>) -> Option<Range>

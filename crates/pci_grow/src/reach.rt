@@ -28,6 +28,7 @@ use crate::room::{between, no_higher, room_on_root};
 use pci_base::range::Range;
 use pci_base::slot::BUSES;
 use pci_base::window_kind::WindowKind;
+use pci_dump::told_range::ToldRange;
 use pci_first_fit::kept::Part;
 use pci_first_fit::lines::Line;
 use pci_first_fit::list::Lists;
@@ -35,7 +36,6 @@ use pci_first_fit::new_window::highest_in;
 use pci_first_fit::table::{WindowRanges, tell, told_of};
 use pci_function::record::Record;
 use pci_kept::region::Region;
-use pci_told::told_range::ToldRange;
 
 /// The whole pages of what is free around a window, up to which it can grow.
 fn pages_around(class: WindowKind, window: Range, free: Range) -> Range

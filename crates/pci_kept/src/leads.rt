@@ -14,10 +14,10 @@ ghost use Rattle.pci_kept.specs.Leads.{leads_to_lines, noted, AreReachable, AreK
 use crate::region::Region;
 use crate::told_line::{ToldLine, extent, first_above, first_from};
 use pci_base::memory::OutOfMemory;
+use pci_dump::told_range::{Mark, ToldRange};
 use pci_first_fit::kept::Part;
 use pci_first_fit::over::is_within;
 use pci_function::record::Record;
-use pci_told::told_range::{Mark, ToldRange};
 use std::alloc::Allocator;
 
 /// The ranges of a text, with what is known of each.

@@ -23,7 +23,7 @@ use crate::told_line::{ToldLine, extent};
 use pci_base::memory::OutOfMemory;
 use pci_base::slot::Slot;
 use pci_base::space::Space;
-use pci_told::told_range::ToldRange;
+use pci_dump::told_range::ToldRange;
 use std::alloc::Allocator;
 
 /// No slot has this number.

@@ -32,9 +32,9 @@ use crate::rows::{Row, Rows, keep_off};
 use crate::told_line::{ToldLine, extent};
 use pci_base::memory::OutOfMemory;
 use pci_base::slot::BUSES;
+use pci_dump::told_range::{Mark, ToldRange};
 use pci_first_fit::kept::Kept;
 use pci_function::record::Record;
-use pci_told::told_range::{Mark, ToldRange};
 use std::alloc::Allocator;
 
 /// No row has this owner.

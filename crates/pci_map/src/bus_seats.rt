@@ -16,7 +16,7 @@ use super::seat::{Seat, ToldRegion, add_seat};
 use pci_base::memory::OutOfMemory;
 use pci_base::space::Space;
 use pci_claims::all_claims::{Stretch, ranges_of};
-use pci_told::told_range::ToldRange;
+use pci_dump::told_range::ToldRange;
 use pci_tree::region::Region;
 use std::alloc::Allocator;
 

@@ -18,10 +18,10 @@ use super::mapped::Mapped;
 use super::seat::ToldRegion;
 use pci_base::memory::OutOfMemory;
 use pci_base::slot::Slot;
+use pci_dump::told_list::first_of_slot;
+use pci_dump::told_range::ToldRange;
 use pci_function::record::Record;
 use pci_image::bar::Bar;
-use pci_told::told_list::first_of_slot;
-use pci_told::told_range::ToldRange;
 use pci_tree::region::{Part, Region};
 use std::alloc::{AllocError, Allocator};
 

@@ -6,7 +6,7 @@ use pci_base::range::Range;
 use pci_base::slot::Slot;
 use pci_base::space::Space;
 use pci_claims::claim::number_of;
-use pci_told::told_range::ToldRange;
+use pci_dump::told_range::ToldRange;
 use pci_tree::region::Region;
 use std::alloc::Allocator;
 use std::slice;

@@ -4,7 +4,7 @@ use Rattle.pci_spec.specs.Slot.{slot_number}
 use Rattle.std.specs.List.{All}
 use Rattle.judge_spec.specs.Told.{AreInSlotOrder, IsToldRange, ToldRange}
 use Rattle.pci_base.specs.Space.{space_of}
-use Rattle.pci_told.specs.Marks.{mark_of}
+use Rattle.pci_dump.specs.ToldMarks.{mark_of}
 use Rattle.pci_model_settle.specs.declared.claim_lines.Line.{Line as CodeLine}
 use Rattle.pci_model_settle.specs.declared.claim_lines.Origin.TheVariants.{Bridge}
 use Rattle.pci_model_settle.specs.declared.off_devices.Shown.{Shown}

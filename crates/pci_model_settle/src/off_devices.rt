@@ -23,13 +23,13 @@ use pci_base::space::Space;
 use pci_dump::block::Block;
 use pci_dump::dump::Dump;
 use pci_dump::mark::marked;
+use pci_dump::told_range::Mark;
 use pci_function::record::Record;
 use pci_image::bar::Bar;
 use pci_image::layout::Layout;
 use pci_image::rom::Rom;
 use pci_model::bytes::clear_registers;
 use pci_model::take::TakenPair;
-use pci_told::told_range::Mark;
 use pci_tree::admitted::Admitted;
 use std::alloc::Allocator;
 

@@ -26,6 +26,7 @@ use pci_base::offset::COMMAND;
 use pci_base::slot::{BUSES, Slot};
 use pci_base::space::Space;
 use pci_dump::block::Block;
+use pci_dump::told_range::{Mark, ToldRange};
 use pci_first_fit::kept::Kept;
 use pci_first_fit::list::Lists;
 use pci_first_fit::told::ToldRanges;
@@ -34,7 +35,6 @@ use pci_kept::place::bridges_over;
 use pci_kept::rules::Rules;
 use pci_kept::standing_ranges::standing_ranges;
 use pci_kept::told_line::{ToldLine, told_lines};
-use pci_told::told_range::{Mark, ToldRange};
 use pci_tree::admitted::Admitted;
 use std::alloc::{Allocator, Global};
 

@@ -6,10 +6,10 @@ ghost use Rattle.pci_settle_places.specs.Answers.{is_answering};
 
 use pci_base::slot::Slot;
 use pci_base::space::Space;
+use pci_dump::told_list::first_of_slot;
+use pci_dump::told_range::{Mark, ToldRange};
 use pci_first_fit::own::Terms;
 use pci_first_fit::told::ToldRanges;
-use pci_told::told_list::first_of_slot;
-use pci_told::told_range::{Mark, ToldRange};
 
 /// What tells which functions have something to answer: which of their I/O BARs are left, and the told ranges that stand.
 #[derive(Clone, Copy)]

@@ -21,7 +21,7 @@ use pci_base::space::Space;
 use pci_claims::claim::{legacy_of, own, palette_of};
 use pci_claims::find::region_at;
 use pci_claims::given::Given;
-use pci_told::told_range::ToldRange;
+use pci_dump::told_range::ToldRange;
 use pci_tree::bus::record_at;
 use pci_tree::region::Region;
 use std::alloc::{AllocError, Allocator, Global};

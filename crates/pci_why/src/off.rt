@@ -21,10 +21,10 @@ use pci_base::memory::OutOfMemory;
 use pci_base::range::Range;
 use pci_base::slot::Slot;
 use pci_claims::told::Told;
+use pci_dump::told_list::first_of_slot;
+use pci_dump::told_range::ToldRange;
 use pci_function::record::Record;
 use pci_image::bar::Bar;
-use pci_told::told_list::first_of_slot;
-use pci_told::told_range::ToldRange;
 use pci_tree::outline::Outline;
 use std::alloc::{AllocError, Allocator};
 

@@ -9,7 +9,7 @@ ghost use Rattle.pci_claims.specs.Values.{told_value};
 use super::judged::{RegionName, TOLD_FROM};
 use pci_base::slot::Slot;
 use pci_claims::told::Told;
-use pci_told::told_range::ToldRange;
+use pci_dump::told_range::ToldRange;
 
 /// Whether a told range is of the function at a slot.
 fn is_at(range: &ToldRange, slot: Slot) -> bool

@@ -8,15 +8,15 @@ ghost use Rattle.judge_spec.specs.Told.{IsToldRange, is_name_byte};
 ghost use Rattle.judge_spec.specs.ToldLine.{register_text};
 ghost use Rattle.judge_spec.specs.ToldRegion.{mark_word, name_words, told_words};
 ghost use Rattle.pci_base.specs.Space.{space_of};
-ghost use Rattle.pci_told.specs.Marks.{mark_of};
+ghost use Rattle.pci_dump.specs.ToldMarks.{mark_of};
 ghost use Rattle.pci_why.specs.Lines.{spaced};
 
 use super::judged::TOLD_FROM;
 use super::region_line::push_extent;
 use pci_base::range::Range;
 use pci_base::space::Space;
+use pci_dump::told_range::{Mark, ToldRange};
 use pci_listing::hex_text::{end_line, push_byte, push_slot};
-use pci_told::told_range::{Mark, ToldRange};
 use std::alloc::{AllocError, Allocator};
 use std::fmt::Write;
 

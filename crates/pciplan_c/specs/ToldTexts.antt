@@ -16,7 +16,7 @@ use Rattle.pci_dump.specs.declared.read_fault.ReadFault.{ReadFault}
 use Rattle.pci_function.specs.Fault.{fault_of}
 use Rattle.pci_given.specs.AllLines.{plain_fault}
 use Rattle.pci_given.specs.Every.{AreBefore, AreReady}
-use Rattle.pci_told.specs.Faults.{IsToldTextFault}
+use Rattle.pci_dump.specs.ToldFaults.{IsToldTextFault}
 use Rattle.pci_tree.specs.Roots.{IsRootList}
 use Rattle.pciplan_held.specs.Refusals.{IsHeldRefusal}
 use Rattle.pciplan_held.specs.declared.unread.Unread.TheVariants as unread

@@ -8,7 +8,7 @@ use pci_base::memory::Refused;
 use pci_base::range::RootRange;
 use pci_base::slot::Slot;
 use pci_base::window_kind::ByKind;
-use pci_told::told_list::ToldList;
+use pci_dump::told_list::ToldList;
 use pciplan_lists::list_word::list_of_word;
 use pciplan_lists::slot_list::slots_of_word;
 use pciplan_lists::spare_word::spares_of_word;

@@ -3,7 +3,7 @@ ghost use Rattle.std.specs.Prelude.{◌≡◌, ℕ, List, map, IfOk, IfErr, Matc
 ghost use Rattle.judge_spec.specs.ToldText.{IsToldTextOf};
 ghost use Rattle.pci_given.specs.AllLines.{fault_of};
 ghost use Rattle.pci_given.specs.Every.{AreReady};
-ghost use Rattle.pci_told.specs.Faults.{IsToldTextFault};
+ghost use Rattle.pci_dump.specs.ToldFaults.{IsToldTextFault};
 ghost use Rattle.pci_tree.specs.Roots.{IsRootList, buses_of};
 ghost use Rattle.pciplan_c.specs.ToldTexts.{AreTold, IsEarlyFirst, IsFirst, IsNotTold, IsUnready, told_ranges};
 
@@ -13,10 +13,10 @@ use pci_base::memory::{OutOfMemory, Refused};
 use pci_claims::told::Told;
 use pci_dump::dump::Dump;
 use pci_dump::read_fault::ReadFault;
+use pci_dump::told_list::ToldList;
+use pci_dump::told_reader::read_told;
 use pci_given::any_fault::AnyFault;
 use pci_given::every::{BeforeJudging, before_judging};
-use pci_told::reader::read_told;
-use pci_told::told_list::ToldList;
 use pci_tree::roots::Roots;
 use pciplan_held::admitting::read;
 use pciplan_held::held::Bytes;

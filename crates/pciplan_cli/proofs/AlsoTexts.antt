@@ -5,7 +5,7 @@ use Rattle.judge_spec.specs.Told.{ToldRange}
 use Rattle.judge_spec.specs.ToldText.{IsToldTextOf}
 use Rattle.pci_dump.specs.declared.read_fault.ReadFault.{ReadFault}
 use Rattle.pci_dump.specs.declared.read_fault.ReadFault.TheVariants as faults
-use Rattle.pci_told.specs.Faults.{IsToldTextFault}
+use Rattle.pci_dump.specs.ToldFaults.{IsToldTextFault}
 use Rattle.pciplan_tasks.specs.Tasks.{IsFaultOfLeft}
 use Rattle.pciplan_cli.specs.AlsoTexts.{AreToldBy}
 

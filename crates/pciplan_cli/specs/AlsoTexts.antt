@@ -2,7 +2,7 @@
 use Rattle.std.specs.Prelude.{◌≡◌, ℕ, List, [], Option, None, Some, option_map}
 use Rattle.judge_spec.specs.Told.{ToldRange}
 use Rattle.judge_spec.specs.ToldText.{IsToldTextOf}
-use Rattle.pci_told.specs.Faults.{IsToldTextFault}
+use Rattle.pci_dump.specs.ToldFaults.{IsToldTextFault}
 use Rattle.pciplan_words.specs.declared.asked.Asked.{Asked}
 use Rattle.pciplan_words.specs.declared.asked.Asked.TheVariants as asked
 use Rattle.pciplan_tasks.specs.Tasks.{IsFaultOfLeft}

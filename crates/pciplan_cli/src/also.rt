@@ -7,7 +7,7 @@ ghost use Rattle.pciplan_cli.specs.CarriedOut.{texts};
 
 use crate::opened::Opening;
 use pci_dump::read_fault::ReadFault;
-use pci_told::reader::read_told;
+use pci_dump::told_reader::read_told;
 use pciplan_tasks::task::{Also, Beside, SettleRequest, Task};
 use pciplan_words::asked::Asked;
 use std::alloc::Global;

@@ -8,13 +8,13 @@ use pci_base::range::RootRange;
 use pci_base::slot::Slot;
 use pci_base::window_kind::ByKind;
 use pci_dump::read_fault::ReadFault;
+use pci_dump::told_list::ToldList;
+use pci_dump::told_range::ToldRange;
 use pci_first_fit::told::ToldRanges;
 use pci_model::words::Words;
 use pci_place::pools::Pools;
 use pci_probe::assuming::Assuming;
 use pci_script::form::Form;
-use pci_told::told_list::ToldList;
-use pci_told::told_range::ToldRange;
 use pci_tree::roots::Roots;
 use std::alloc::Global;
 

@@ -1,4 +1,4 @@
-//! Tests of single calls: what one function's registers decode to, texts that are read and written, a machine in
+//! Tests of single calls: what one function's registers decode to, texts that are read and written, told ranges, a machine in
 //! memory, admission and what it keeps, and what an outline lists.
 #![tactic(auto)]
 
@@ -34,6 +34,8 @@ mod setting;
 mod slots;
 #[cfg(test)]
 mod texts;
+#[cfg(test)]
+mod told_texts;
 #[cfg(test)]
 mod windows;
 #[cfg(test)]

@@ -3,7 +3,7 @@ use Rattle.pci_base.specs.declared.range.Range.{Range}
 use Rattle.pci_base.specs.Space.{space_of}
 use Rattle.judge_spec.specs.Told.{ToldRange}
 use Rattle.judge_spec.specs.ToldClaims.{is_marked_held}
-use Rattle.pci_told.specs.Marks.{mark_of}
+use Rattle.pci_dump.specs.ToldMarks.{mark_of}
 use Rattle.pci_claims.specs.Gathered.{IsCommon}
 use Rattle.pci_claims.specs.AllClaims.{IsClaimOfRange}
 use Rattle.pci_claims.proofs.AllClaiming.{claim_of_range}

@@ -2,7 +2,7 @@ use Rattle.std.proofs.Common.{◌≡◌, ◌∙◌, subst, sym}
 use Rattle.pci_base.specs.Space.{space_of}
 use Rattle.judge_spec.specs.Told.{ToldRange}
 use Rattle.judge_spec.specs.ToldClaims.{is_range_on}
-use Rattle.pci_told.specs.Marks.{mark_of}
+use Rattle.pci_dump.specs.ToldMarks.{mark_of}
 use Rattle.pci_claims.proofs.Awake.{asleep_among, on_by}
 use Rattle.pci_claims.proofs.told.is_on.Goals as goal
 

@@ -10,7 +10,7 @@ use Rattle.judge_spec.specs.Told.{ToldRange, is_name_byte}
 use Rattle.judge_spec.specs.ToldLine.{register_text}
 use Rattle.judge_spec.specs.ToldRegion.{mark_word, told_extent, told_words}
 use Rattle.pci_base.specs.Space.{space_of}
-use Rattle.pci_told.specs.Marks.{mark_of}
+use Rattle.pci_dump.specs.ToldMarks.{mark_of}
 use Rattle.pci_why.proofs.ToldTexts.{told_pushed}
 use Rattle.pci_why.proofs.told_line.push_told.Goals as goal
 

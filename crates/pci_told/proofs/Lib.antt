@@ -1,4 +1,0 @@
-pub mod Addresses
-pub mod Digits
-pub mod Taken
-pub mod Parted

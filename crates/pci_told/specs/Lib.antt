@@ -1,4 +1,0 @@
-pub mod Marks
-pub mod Places
-pub mod Steps
-pub mod Faults
