@@ -16,7 +16,7 @@ use crate::trouble::{Trouble, TroubleAt};
 use pci_base::memory::OutOfMemory;
 use pci_base::range::RootRange;
 use pci_dump::dump::Dump;
-use pci_probe::sizes::Sizes;
+use pci_machine::sizes::Sizes;
 use pci_tree::roots::Roots;
 use std::alloc::{AllocError, Global};
 

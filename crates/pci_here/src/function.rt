@@ -9,7 +9,7 @@ use crate::place::Place;
 use crate::resource::lines_of;
 use crate::trouble::Trouble;
 use pci_dump::block::Block;
-use pci_probe::sizes::SizesBlock;
+use pci_machine::sizes::SizesBlock;
 use std::alloc::Global;
 
 /// A function as it was read: its registers, what is told of their sizes, and the host bus that it is below.

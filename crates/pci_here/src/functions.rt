@@ -14,7 +14,7 @@ use crate::trouble::Trouble;
 use arrayvec::ArrayVec;
 use pci_base::slot::BUSES;
 use pci_dump::dump::Dump;
-use pci_probe::sizes::Sizes;
+use pci_machine::sizes::Sizes;
 use pci_tree::roots::Roots;
 use std::alloc::Global;
 

@@ -9,7 +9,7 @@ use crate::log_line::{LogLine, Told, log_line_of};
 use crate::part::first_part;
 use crate::place::Place;
 use pci_base::memory::OutOfMemory;
-use pci_probe::line::ResourceLine;
+use pci_machine::resource_line::ResourceLine;
 use std::alloc::Global;
 use std::collections::BTreeMap;
 

@@ -3,8 +3,8 @@ ghost use Rattle.std.specs.Prelude.{List, MatchOption};
 ghost use Rattle.pci_spec.specs.Resource.{ResourceLine as LineValue};
 ghost use Rattle.pci_here.specs.Resource.{AreFirstLines};
 
-use pci_probe::line::ResourceLine;
-use pci_probe::sizes_line::lines_into;
+use pci_machine::resource_line::ResourceLine;
+use pci_machine::sizes_line::lines_into;
 
 /// How many bytes seven lines have.
 const SEVEN_LINES: usize = 399;

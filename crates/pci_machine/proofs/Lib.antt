@@ -12,3 +12,14 @@ pub mod MaskBits
 pub mod TargetOf
 pub mod MadeOf
 pub mod MadeOrder
+pub mod DerivedRegisters
+pub mod Powers
+pub mod SizesLines
+pub mod SizesBlocks
+pub mod SizesPlaces
+pub mod SizesTaken
+pub mod FirstOf
+pub mod LoneSlots
+pub mod ToldFunctions
+pub mod ProbeFaults
+pub mod ProbePairs

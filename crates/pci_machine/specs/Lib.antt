@@ -4,3 +4,10 @@ pub mod Memory
 pub mod SizeOutcome
 pub mod Masks
 pub mod Made
+pub mod Assuming
+pub mod Derived
+pub mod DeriveFault
+pub mod SizesFault
+pub mod ProbeFault
+pub mod Derivation
+pub mod Sizes

@@ -2,8 +2,8 @@
 use Rattle.std.specs.Prelude.{◌≡◌, Bool, true, false, Option, None, Some}
 use Rattle.pci_base.specs.declared.range.Range.{Range}
 use Rattle.pci_place.specs.declared.pools.Pools.{Pools}
-use Rattle.pci_probe.specs.declared.assuming.Assuming.{Assuming}
-use Rattle.pci_probe.specs.declared.assuming.Assuming.TheVariants.{Nothing, Disabled, Any}
+use Rattle.pci_machine.specs.declared.assuming.Assuming.{Assuming}
+use Rattle.pci_machine.specs.declared.assuming.Assuming.TheVariants.{Nothing, Disabled, Any}
 use Rattle.pci_tree.specs.declared.roots.Roots.{Roots}
 use Rattle.pciplan_cli.specs.FaultsAsked.{IsFaultsOf, AreFaultsRefused}
 use Rattle.pciplan_cli.specs.MapAsked.{IsMapOf, IsMapRefused}

@@ -6,8 +6,8 @@ use Rattle.pci_dump.specs.Begun.{AppendsBeginning}
 use Rattle.pci_dump.specs.ReadFault.{IsTextFault}
 use Rattle.pci_dump.specs.declared.read_fault.ReadFault.{ReadFault}
 use Rattle.pci_dump.specs.declared.read_fault.ReadFault.TheVariants as faults
-use Rattle.pci_probe.specs.Assuming.{assuming_of}
-use Rattle.pci_probe.specs.SizesFault.{IsSizesTextFault}
+use Rattle.pci_machine.specs.Assuming.{assuming_of}
+use Rattle.pci_machine.specs.SizesFault.{IsSizesTextFault}
 use Rattle.pci_tree.specs.Roots.{buses_of}
 use Rattle.pci_place.specs.Pools.{pools_value}
 use Rattle.pci_check.specs.Audits.{IsDumpOf}

@@ -2,7 +2,7 @@
 ghost use Rattle.std.specs.Prelude.{◌≡◌, ◌++◌, IfOk, OnOk};
 ghost use Rattle.std.specs.List.{flat_map};
 ghost use Rattle.std.specs.String.{string_bytes};
-ghost use Rattle.pci_probe.specs.Assuming.{assuming_of};
+ghost use Rattle.pci_machine.specs.Assuming.{assuming_of};
 ghost use Rattle.pciplan_tasks.specs.Answers.{answer_of};
 ghost use Rattle.pciplan_tasks.specs.ProbeAnswers.{probe_answer, remark, remarks_named};
 
@@ -11,9 +11,9 @@ use pci_base::memory::{OutOfMemory, Refused};
 use pci_dump::block::Block;
 use pci_dump::dump::Dump;
 use pci_dump::mark::{AssumedRegister, all_named};
-use pci_probe::assuming::Assuming;
-use pci_probe::probe::probe_of;
-use pci_probe::sizes::Sizes;
+use pci_machine::assuming::Assuming;
+use pci_machine::probe::probe_of;
+use pci_machine::sizes::Sizes;
 use std::alloc::{AllocError, Allocator};
 use std::fmt::Write;
 

@@ -24,8 +24,8 @@ use pci_dump::read_fault::ReadFault;
 use pci_dump::reader::read_dump;
 use pci_dump::streams::{Failed, Sink, Source};
 use pci_listing::show::show;
-use pci_probe::assuming::Assuming;
-use pci_probe::sizes_reader::read_sizes;
+use pci_machine::assuming::Assuming;
+use pci_machine::sizes_reader::read_sizes;
 use pci_tree::roots::Roots;
 use std::alloc::Allocator;
 

@@ -1,5 +1,5 @@
-use pci_probe::derived::Derived;
-use pci_probe::line::ResourceLine;
+use pci_machine::derived::Derived;
+use pci_machine::resource_line::ResourceLine;
 
 #[test]
 fn a_line_tells_its_space_and_how_many_addresses_it_has(rt: HostRuntime) {

@@ -2,12 +2,12 @@ use crate::rows::{Line, Registers, Row, rows};
 use pci_base::image::Image;
 use pci_image::fault::ImageFault;
 use pci_image::layout::Layout;
-use pci_probe::assuming::Assuming;
-use pci_probe::derive::derive;
-use pci_probe::derived::Derived;
-use pci_probe::fault::DeriveFault;
-use pci_probe::line::ResourceLine;
-use pci_probe::register::register;
+use pci_machine::assuming::Assuming;
+use pci_machine::derive::derive;
+use pci_machine::derive_fault::DeriveFault;
+use pci_machine::derive_register::register;
+use pci_machine::derived::Derived;
+use pci_machine::resource_line::ResourceLine;
 
 /// Puts bytes in, from an offset on.
 fn put(image: &mut [u8; 256], offset: u8, bytes: &[u8]) {

@@ -1,5 +1,5 @@
 use pci_image::fault::ImageFault;
-use pci_probe::fault::DeriveFault;
+use pci_machine::derive_fault::DeriveFault;
 
 /// Registers of four bytes, by their offsets; all else is 0.
 pub type Registers = &'static [(u8, u32)];

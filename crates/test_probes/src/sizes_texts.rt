@@ -5,9 +5,9 @@ use pci_base::slot::Slot;
 use pci_dump::read_fault::ReadFault;
 use pci_dump::std_streams::Incoming;
 use pci_dump::streams::{Failed, Source};
-use pci_probe::line::ResourceLine;
-use pci_probe::sizes::SizesBlock;
-use pci_probe::sizes_reader::read_sizes;
+use pci_machine::resource_line::ResourceLine;
+use pci_machine::sizes::SizesBlock;
+use pci_machine::sizes_reader::read_sizes;
 use std::alloc::AllocError;
 use std::test::Fail;
 

@@ -5,10 +5,10 @@ use pci_base::slot::Slot;
 use pci_dump::block::{Block, Title};
 use pci_dump::dump::{Dump, PushFault};
 use pci_dump::mark::AssumedRegister;
-use pci_probe::assuming::Assuming;
-use pci_probe::probe::probe_of;
-use pci_probe::probe_fault::ProbeFault;
-use pci_probe::sizes::{Sizes, SizesBlock};
+use pci_machine::assuming::Assuming;
+use pci_machine::probe::probe_of;
+use pci_machine::probe_fault::ProbeFault;
+use pci_machine::sizes::{Sizes, SizesBlock};
 
 /// Functions of bus 00 by their device numbers: what they show, what is told of them, of
 /// which registers a size may be assumed, and their read backs with the remarks, or the fault.

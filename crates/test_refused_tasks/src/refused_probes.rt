@@ -2,7 +2,7 @@
 use crate::failing::{leaves_beginnings, with_failing_read};
 use crate::program::Answer;
 use crate::refused_tasks::is_refused_in_turn;
-use pci_probe::assuming::Assuming;
+use pci_machine::assuming::Assuming;
 use pciplan_tasks::task::Task;
 use std::alloc::{AllocError, Global};
 use std::fmt::Write;

@@ -1,7 +1,7 @@
 use Rattle.std.proofs.Common.{◌≡◌, None, refl, subst}
 use Rattle.pci_spec.specs.ProbeOf.{probe_of}
-use Rattle.pci_probe.specs.ProbeFault.{IsFirstProbeFault, fault_value}
-use Rattle.pci_probe.specs.declared.assuming.Assuming.TheVariants.{Any}
+use Rattle.pci_machine.specs.ProbeFault.{IsFirstProbeFault, fault_value}
+use Rattle.pci_machine.specs.declared.assuming.Assuming.TheVariants.{Any}
 use Rattle.pciplan_tasks.specs.Answers.{answer_of}
 use Rattle.pciplan_front.specs.DomainAnswers.{probe_fault_in}
 use Rattle.pciplan_front.proofs.DomainReplies.{fault_told, judged_by_probe}

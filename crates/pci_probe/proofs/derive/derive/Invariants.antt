@@ -1,6 +1,0 @@
-use Rattle.pci_probe.proofs.Registers.{HasDerived}
-use Rattle.pci_probe.specs.Assuming.{assuming_of}
-use Rattle.pci_probe.proofs.derive.derive.Given as goal
-
-abbrev pub invariant-loop-place : goal.invariant-loop-place
-invariant-loop-place l = HasDerived (assuming_of l.assuming) l.image.0 l.lines l.layout l.place-index l.probe.0 l.assumed.items

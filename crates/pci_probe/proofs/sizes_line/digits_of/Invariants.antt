@@ -1,5 +1,0 @@
-use Rattle.pci_probe.proofs.SizesLines.{IsSpelled}
-use Rattle.pci_probe.proofs.sizes_line.digits_of.Given as goal
-
-abbrev pub invariant-loop-place : goal.invariant-loop-place
-invariant-loop-place l = IsSpelled l.digits l.place l.number
