@@ -18,10 +18,10 @@ use Rattle.judge_spec.specs.Fault as untold
 use Rattle.judge_spec.specs.ToldClaims.{Told}
 use Rattle.judge_spec.specs.ToldFault.{Fault, Known, NotListed}
 use Rattle.judge_spec.specs.Why.{AnyRegion, IsNamed, IsRegionIn, IsAdviceFor, AreNamedTwo, is_said, to_move}
-use Rattle.pci_given.specs.declared.any_fault.AnyFault.{AnyFault}
-use Rattle.pci_given.specs.declared.any_fault.AnyFault.TheVariants as any
-use Rattle.pci_given.specs.AllLines.{plain_fault}
-use Rattle.pci_given.specs.AllLines as all_lines
+use Rattle.pci_faults.specs.declared.any_fault.AnyFault.{AnyFault}
+use Rattle.pci_faults.specs.declared.any_fault.AnyFault.TheVariants as any
+use Rattle.pci_faults.specs.AllLines.{plain_fault}
+use Rattle.pci_faults.specs.AllLines as all_lines
 use Rattle.pci_why.specs.Hosts.{IsOutsideTold}
 use Rattle.pci_why.specs.Bridges.{IsUnreachedTold}
 use Rattle.pci_why.specs.Two.{AreTwoTold}

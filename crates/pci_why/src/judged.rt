@@ -8,7 +8,7 @@ use pci_base::space::Space;
 use pci_claims::given::Given;
 use pci_claims::told::Told;
 use pci_dump::block::Block;
-use pci_given::named::Name;
+use pci_faults::named::Name;
 use pci_tree::outline::Outline;
 use std::alloc::{Allocator, Global};
 

@@ -7,7 +7,7 @@ ghost use Rattle.judge_spec.specs.Told.{IsTold};
 ghost use Rattle.judge_spec.specs.FaultsText.{yes_line};
 ghost use Rattle.pci_claims.specs.Values.{given_value, told_value};
 ghost use Rattle.pci_claims.specs.ToldOn.{AreOnIn};
-ghost use Rattle.pci_given.specs.AllLines.{fault_of};
+ghost use Rattle.pci_faults.specs.AllLines.{fault_of};
 ghost use Rattle.pci_why.specs.Lists.{AreReasonedTold, IsReasonedTextOf};
 
 use super::judged::Judged;
@@ -16,8 +16,8 @@ use super::room::no_rooms;
 use super::why::push_why;
 use pci_base::memory::OutOfMemory;
 use pci_claims::told::ranges_on;
-use pci_given::any_fault::AnyFault;
-use pci_given::text::push_fault;
+use pci_faults::any_fault::AnyFault;
+use pci_faults::text::push_fault;
 use std::alloc::{AllocError, Allocator};
 
 /// Appends the line of each of an outline's faults of judging, and behind it what [`push_why`] tells of it.

@@ -7,7 +7,7 @@ ghost use Rattle.pci_spec.specs.Fault.{named_region};
 ghost use Rattle.judge_spec.specs.Told.{IsTold};
 ghost use Rattle.pci_base.specs.Space.{space_of};
 ghost use Rattle.pci_claims.specs.Values.{given_value, told_value};
-ghost use Rattle.pci_given.specs.AllLines.{fault_of, IsResolved};
+ghost use Rattle.pci_faults.specs.AllLines.{fault_of, IsResolved};
 ghost use Rattle.pci_why.specs.Rooms.{AreRoomsKept};
 ghost use Rattle.pci_why.specs.Whys.{IsEvidenceTold, IsAdvisedBy, NoneAdvised, IsAdviceTold, IsWhyTold};
 
@@ -20,7 +20,7 @@ use super::two::push_two;
 use pci_base::memory::OutOfMemory;
 use pci_claims::given::Given;
 use pci_claims::sent::ranges_said;
-use pci_given::any_fault::{AnyFault, resolved};
+use pci_faults::any_fault::{AnyFault, resolved};
 use std::alloc::Allocator;
 
 /// Appends the lines that tell with what ranges a fault is there, each with two spaces before it: after a 63 the region that

@@ -5,7 +5,7 @@ use Rattle.pci_spec.specs.Machine as spec
 use Rattle.pci_spec.specs.Sound.{IsSound}
 use Rattle.settle_spec.specs.Sparing.{without_slots}
 use Rattle.pci_base.specs.declared.memory.Refused.TheVariants as refused
-use Rattle.pci_given.specs.Every.{AreReady}
+use Rattle.pci_faults.specs.Every.{AreReady}
 use Rattle.pci_tree.specs.Admission.{Admission, IsAdmitted}
 use Rattle.pci_place.specs.Above.{system_in}
 use Rattle.pci_plan.specs.Writes.{write_value}

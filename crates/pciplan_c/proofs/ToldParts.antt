@@ -18,7 +18,7 @@ use Rattle.judge_spec.specs.ToldText.{told_text}
 use Rattle.judge_spec.proofs.DeterminedTexts.{same_slots}
 use Rattle.pci_function.specs.declared.fault.Fault as code
 use Rattle.pci_function.specs.Fault.{fault_of}
-use Rattle.pci_given.specs.Every.{AreBefore, AreReady}
+use Rattle.pci_faults.specs.Every.{AreBefore, AreReady}
 use Rattle.pciplan_held.specs.Texts.{IsNotAdmitted}
 use Rattle.pciplan_held.specs.declared.refusal.Refusal.TheVariants.{Root, Dump, Probe}
 use Rattle.pciplan_held.specs.declared.unread.Unread.TheVariants as unread

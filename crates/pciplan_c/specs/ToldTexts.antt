@@ -14,8 +14,8 @@ use Rattle.pci_base.specs.declared.memory.Refused.{Refused}
 use Rattle.pci_base.specs.declared.memory.Refused.TheVariants as refused
 use Rattle.pci_dump.specs.declared.read_fault.ReadFault.{ReadFault}
 use Rattle.pci_function.specs.Fault.{fault_of}
-use Rattle.pci_given.specs.AllLines.{plain_fault}
-use Rattle.pci_given.specs.Every.{AreBefore, AreReady}
+use Rattle.pci_faults.specs.AllLines.{plain_fault}
+use Rattle.pci_faults.specs.Every.{AreBefore, AreReady}
 use Rattle.pci_dump.specs.ToldFaults.{IsToldTextFault}
 use Rattle.pci_tree.specs.Roots.{IsRootList}
 use Rattle.pciplan_held.specs.Refusals.{IsHeldRefusal}

@@ -1,8 +1,8 @@
 //! The ranges that a third text tells of, beside a dump and its probe.
 ghost use Rattle.std.specs.Prelude.{◌≡◌, ℕ, List, map, IfOk, IfErr, MatchOption};
 ghost use Rattle.judge_spec.specs.ToldText.{IsToldTextOf};
-ghost use Rattle.pci_given.specs.AllLines.{fault_of};
-ghost use Rattle.pci_given.specs.Every.{AreReady};
+ghost use Rattle.pci_faults.specs.AllLines.{fault_of};
+ghost use Rattle.pci_faults.specs.Every.{AreReady};
 ghost use Rattle.pci_dump.specs.ToldFaults.{IsToldTextFault};
 ghost use Rattle.pci_tree.specs.Roots.{IsRootList, buses_of};
 ghost use Rattle.pciplan_c.specs.ToldTexts.{AreTold, IsEarlyFirst, IsFirst, IsNotTold, IsUnready, told_ranges};
@@ -15,8 +15,8 @@ use pci_dump::dump::Dump;
 use pci_dump::read_fault::ReadFault;
 use pci_dump::told_list::ToldList;
 use pci_dump::told_reader::read_told;
-use pci_given::any_fault::AnyFault;
-use pci_given::every::{BeforeJudging, before_judging};
+use pci_faults::any_fault::AnyFault;
+use pci_faults::every::{BeforeJudging, before_judging};
 use pci_tree::roots::Roots;
 use pciplan_held::admitting::read;
 use pciplan_held::held::Bytes;

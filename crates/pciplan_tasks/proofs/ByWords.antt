@@ -21,7 +21,7 @@ use Rattle.judge_spec.specs.ToldFaultLines.{AreAllFaults}
 use Rattle.judge_spec.specs.UnclaimedLaws.{with_taking}
 use Rattle.settle_spec.specs.Sparing.{without_slots}
 use Rattle.pci_base.specs.declared.memory.Refused.TheVariants as refusal
-use Rattle.pci_given.specs.Every.{AreBefore, AreSound}
+use Rattle.pci_faults.specs.Every.{AreBefore, AreSound}
 use Rattle.pci_model.specs.declared.words.Words.{Words}
 use Rattle.pci_model_settle.specs.ClaimLines.{AreBySlot, Kept, Line, kept_lines}
 use Rattle.pci_model_settle.specs.Listed.{blocks_after, command_at, listed_write}

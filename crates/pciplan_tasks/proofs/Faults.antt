@@ -22,7 +22,7 @@ use Rattle.judge_spec.specs.ToldLine.{fault_line, list_text}
 use Rattle.judge_spec.specs.Why.{IsWhy, all_off_lines}
 use Rattle.judge_spec.specs.FaultsText.{IsBehind, AreReasoned, is_of_judging, is_judged, IsReasonedText, IsFaultsText}
 use Rattle.judge_spec.proofs.DeterminedTexts.{same_slots}
-use Rattle.pci_given.specs.Every.{AreBefore, AreSound}
+use Rattle.pci_faults.specs.Every.{AreBefore, AreSound}
 use Rattle.pciplan_tasks.specs.Answers.{Answer}
 use Rattle.pciplan_tasks.specs.FaultsAnswers.{IsListText, list_answer, AreTold}
 

@@ -14,7 +14,7 @@ use Rattle.judge_spec.specs.ToldNumbered.{AreListedIn}
 use Rattle.judge_spec.specs.Unclaimed.{AreTaking}
 use Rattle.judge_spec.specs.UnclaimedLaws.{with_taking}
 use Rattle.judge_spec.specs.MapText.{IsMapText}
-use Rattle.pci_given.specs.Every.{AreFound, AreReady}
+use Rattle.pci_faults.specs.Every.{AreFound, AreReady}
 use Rattle.pciplan_tasks.specs.Answers.{Answer, done}
 use Rattle.pciplan_tasks.specs.MapAnswers.{IsFirstLine, IsMapped}
 

@@ -19,7 +19,7 @@ use Rattle.judge_spec.specs.Laws.{plain_known}
 use Rattle.judge_spec.proofs.DeterminedTexts.{same_slots}
 use Rattle.judge_spec.proofs.NothingToldLists.{same_told_list}
 use Rattle.judge_spec.proofs.PlainLists.{first_of_list_is_first}
-use Rattle.pci_given.specs.Every.{AreBefore}
+use Rattle.pci_faults.specs.Every.{AreBefore}
 use Rattle.pciplan_tasks.specs.Answers.{Answer, fault_answer_line, refused}
 use Rattle.pciplan_tasks.specs.FaultsLaws.{NoMapNamesTheFirst}
 use Rattle.pciplan_tasks.specs.MapAnswers.{IsFirstLine}

@@ -12,7 +12,7 @@ use Rattle.judge_spec.specs.Told.{ToldRange}
 use Rattle.judge_spec.specs.ToldFault.{Fault}
 use Rattle.settle_spec.specs.Sparing.{without_slots}
 use Rattle.pci_base.specs.declared.memory.Refused.TheVariants as refusal
-use Rattle.pci_given.specs.Every.{AreBefore}
+use Rattle.pci_faults.specs.Every.{AreBefore}
 use Rattle.pci_first_fit.specs.Slots.{Demand}
 use Rattle.pci_settle.specs.Requests.{request}
 use Rattle.pci_settle.specs.Denied.{IsSpared}

@@ -17,7 +17,7 @@ use Rattle.judge_spec.specs.UnclaimedLaws.{with_taking}
 use Rattle.judge_spec.proofs.DeterminedTexts.{same_slots}
 use Rattle.judge_spec.specs.Taken.{takes_by}
 use Rattle.judge_spec.specs.ModelWords as model
-use Rattle.pci_given.specs.Every.{AreBefore, AreReady}
+use Rattle.pci_faults.specs.Every.{AreBefore, AreReady}
 use Rattle.pci_model.specs.WordsValue.{words_value}
 use Rattle.pciplan_tasks.specs.FaultsAnswers.{AreTold}
 use Rattle.pciplan_tasks.specs.FaultsLaws.{NothingSaidTakesNothing, NothingTakenTellsTheSame}

@@ -23,7 +23,7 @@ use Rattle.judge_spec.proofs.PlainLists.{same_list, first_of_list_is_first}
 use Rattle.judge_spec.proofs.PlainTexts.{same_text_of_all}
 use Rattle.judge_spec.proofs.ToldDetermined.{told_list_is_determined}
 use Rattle.judge_spec.proofs.ToldSounding.{told_sound_without_faults}
-use Rattle.pci_given.specs.Every.{AreSound}
+use Rattle.pci_faults.specs.Every.{AreSound}
 use Rattle.pci_claims.specs.Values.{host_value}
 use Rattle.pciplan_tasks.specs.FaultsAnswers.{isa_by, legacy_by, list_answer, palette_by, vga_of}
 use Rattle.pciplan_tasks.specs.FaultsLaws.{FirstLineIsVerdict, PlainWithNothingGiven, NothingSaidGivesNothing, NothingSaidTellsNothing}

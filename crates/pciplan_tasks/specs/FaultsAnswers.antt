@@ -14,7 +14,7 @@ use Rattle.judge_spec.specs.UnclaimedLaws.{with_taking}
 use Rattle.judge_spec.specs.Words.{VgaWord, isa_bridges, legacy_bridges, palette_bridges}
 use Rattle.judge_spec.specs.Taken.{taking_by}
 use Rattle.pci_claims.specs.Values.{host_value}
-use Rattle.pci_given.specs.Every.{AreReady, AreSound, AreTakenFor}
+use Rattle.pci_faults.specs.Every.{AreReady, AreSound, AreTakenFor}
 use Rattle.pci_tree.specs.Outline.{Tree}
 use Rattle.pci_tree.specs.Roots.{buses_of}
 use Rattle.pci_why.specs.Lists.{IsReasonedTextOf}

@@ -11,7 +11,7 @@ use Rattle.judge_spec.specs.ToldLine.{fault_text}
 use Rattle.judge_spec.specs.Unclaimed.{AreTaking}
 use Rattle.judge_spec.specs.UnclaimedLaws.{with_taking}
 use Rattle.judge_spec.specs.MapText.{IsMapText}
-use Rattle.pci_given.specs.Every.{AreBefore}
+use Rattle.pci_faults.specs.Every.{AreBefore}
 use Rattle.pci_tree.specs.Admission.{IsAdmitted}
 use Rattle.pciplan_tasks.specs.Answers.{Answer, done, fault_answer_line, refused}
 use Rattle.pciplan_tasks.specs.FaultsAnswers.{given_of, taking_of}

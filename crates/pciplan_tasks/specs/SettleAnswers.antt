@@ -16,7 +16,7 @@ use Rattle.settle_spec.specs.Sparing.{without_slots}
 use Rattle.pci_first_fit.specs.Lists.{root_range_value}
 use Rattle.pci_first_fit.specs.Slots.{Demand}
 use Rattle.pci_base.specs.declared.memory.Refused.TheVariants as refused
-use Rattle.pci_given.specs.Every.{AreBefore, AreReady}
+use Rattle.pci_faults.specs.Every.{AreBefore, AreReady}
 use Rattle.pci_script.specs.Scripts.{script}
 use Rattle.pci_settle.specs.Requests.{request}
 use Rattle.pci_settle.specs.Denied.{IsSpared}

@@ -14,7 +14,7 @@ use Rattle.judge_spec.specs.UnclaimedLaws.{with_taking}
 use Rattle.judge_spec.specs.TakenDumps.{AreTakenAs}
 use Rattle.settle_spec.specs.Sparing.{without_slots}
 use Rattle.pci_base.specs.declared.memory.Refused.TheVariants as refusal
-use Rattle.pci_given.specs.Every.{AreBefore, AreSound}
+use Rattle.pci_faults.specs.Every.{AreBefore, AreSound}
 use Rattle.pci_model.specs.declared.words.Words.{Words}
 use Rattle.pci_model.specs.WordsValue.{words_value}
 use Rattle.pci_model_settle.specs.ClaimLines.{Kept, Line, claim_lines, kept_lines, origin_of, own_lines}

@@ -3,7 +3,7 @@ ghost use Rattle.std.specs.Prelude.{◌≡◌, [], map, IfOk};
 ghost use Rattle.judge_spec.specs.Told.{IsTold};
 ghost use Rattle.pci_tree.specs.Roots.{buses_of};
 ghost use Rattle.pci_claims.specs.Values.{given_value, told_value};
-ghost use Rattle.pci_given.specs.AllLines.{fault_of};
+ghost use Rattle.pci_faults.specs.AllLines.{fault_of};
 ghost use Rattle.pciplan_tasks.specs.Answers.{answer_of};
 ghost use Rattle.pciplan_tasks.specs.MapAnswers.{IsFirstLine, IsMapped, IsMapAnswerBy};
 
@@ -15,10 +15,10 @@ use pci_base::memory::OutOfMemory;
 use pci_claims::given::Given;
 use pci_claims::taking::all_lent;
 use pci_dump::dump::Dump;
-use pci_given::any_fault::AnyFault;
-use pci_given::every::{BeforeJudging, before_judging};
-use pci_given::said::Said;
-use pci_given::taken::taken as taken_by_bridges;
+use pci_faults::any_fault::AnyFault;
+use pci_faults::every::{BeforeJudging, before_judging};
+use pci_faults::said::Said;
+use pci_faults::taken::taken as taken_by_bridges;
 use pci_map::text::map_text;
 use std::alloc::Allocator;
 

@@ -17,7 +17,7 @@ use pci_claims::told::Told;
 use pci_claims::vga::{isa_bridges, legacy_bridges, palette_bridges};
 use pci_dump::dump::Dump;
 use pci_dump::told_range::ToldRange;
-use pci_given::said::Said;
+use pci_faults::said::Said;
 use pci_model::asleep::asleep;
 use pci_model::taking::taking;
 use pci_model::words::Words;

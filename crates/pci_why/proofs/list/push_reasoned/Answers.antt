@@ -4,7 +4,7 @@ use Rattle.std.specs.String.{string_bytes}
 use Rattle.pci_spec.specs.Mark.{all_named}
 use Rattle.judge_spec.specs.ToldFault as spec
 use Rattle.pci_claims.specs.Values.{given_value, told_value}
-use Rattle.pci_given.specs.AllLines.{fault_of}
+use Rattle.pci_faults.specs.AllLines.{fault_of}
 use Rattle.pci_why.specs.Lists.{AreReasonedTold}
 use Rattle.pci_why.proofs.Reasoned.{none_reasoned, one_more_reasoned}
 use Rattle.pci_why.proofs.list.push_reasoned.Goals as goal

@@ -2,7 +2,7 @@ use Rattle.std.proofs.Common.{map, take}
 use Rattle.std.specs.String.{string_bytes}
 use Rattle.pci_spec.specs.Mark.{all_named}
 use Rattle.pci_claims.specs.Values.{given_value, told_value}
-use Rattle.pci_given.specs.AllLines.{fault_of}
+use Rattle.pci_faults.specs.AllLines.{fault_of}
 use Rattle.pci_why.specs.Rooms.{AreRoomsKept}
 use Rattle.pci_why.specs.Lists.{AreReasonedTold}
 use Rattle.pci_why.proofs.list.push_reasoned.Given as goal

@@ -4,7 +4,7 @@ use Rattle.std.proofs.lemmas.Result.{on_ok_weaker}
 use Rattle.pci_spec.specs.Mark.{all_named}
 use Rattle.judge_spec.specs.ToldFault.{Fault}
 use Rattle.pci_claims.specs.Values.{given_value, told_value}
-use Rattle.pci_given.specs.AllLines.{fault_of}
+use Rattle.pci_faults.specs.AllLines.{fault_of}
 use Rattle.pci_why.specs.Whys.{IsWhyTold}
 use Rattle.pci_why.proofs.AllTold.{why_told}
 use Rattle.pci_why.proofs.why.push_why.Goals as goal

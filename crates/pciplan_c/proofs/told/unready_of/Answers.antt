@@ -1,9 +1,9 @@
 use Rattle.std.proofs.Common.{List, map, sym, subst}
 use Rattle.judge_spec.specs.Given.{nothing_given}
 use Rattle.judge_spec.specs.Told.{ToldRange}
-use Rattle.pci_given.specs.AllLines.{fault_of}
-use Rattle.pci_given.specs.Every.{AreBefore}
-use Rattle.pci_given.specs.declared.any_fault.AnyFault.{AnyFault}
+use Rattle.pci_faults.specs.AllLines.{fault_of}
+use Rattle.pci_faults.specs.Every.{AreBefore}
+use Rattle.pci_faults.specs.declared.any_fault.AnyFault.{AnyFault}
 use Rattle.pci_tree.specs.Roots.{buses_of}
 use Rattle.pciplan_c.specs.ToldTexts.{IsEarlyFirst, IsFirst, told_ranges}
 use Rattle.pciplan_c.proofs.ToldParts.{early_first}

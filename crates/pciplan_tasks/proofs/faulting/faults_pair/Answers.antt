@@ -6,8 +6,8 @@ use Rattle.pci_spec.specs.Mark.{all_named}
 use Rattle.judge_spec.specs.Given.{TakingBridge}
 use Rattle.judge_spec.specs.UnclaimedLaws.{with_taking}
 use Rattle.pci_tree.specs.Roots.{buses_of}
-use Rattle.pci_given.specs.AllLines.{fault_of}
-use Rattle.pci_given.specs.Every.{AreSound}
+use Rattle.pci_faults.specs.AllLines.{fault_of}
+use Rattle.pci_faults.specs.Every.{AreSound}
 use Rattle.pci_claims.specs.Values.{given_value, taking_value, told_value}
 use Rattle.pciplan_tasks.specs.FaultsAnswers.{IsListText}
 use Rattle.pciplan_tasks.proofs.Faults.{all_told, line_is, none_of_items}

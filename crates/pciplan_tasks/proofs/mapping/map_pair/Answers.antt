@@ -10,8 +10,8 @@ use Rattle.judge_spec.specs.Given.{TakingBridge, nothing_given}
 use Rattle.judge_spec.specs.ToldNumbered.{AreListedIn}
 use Rattle.judge_spec.specs.UnclaimedLaws.{with_taking}
 use Rattle.judge_spec.specs.MapText.{IsMapText}
-use Rattle.pci_given.specs.AllLines.{fault_of}
-use Rattle.pci_given.specs.declared.any_fault.AnyFault.{AnyFault}
+use Rattle.pci_faults.specs.AllLines.{fault_of}
+use Rattle.pci_faults.specs.declared.any_fault.AnyFault.{AnyFault}
 use Rattle.pciplan_tasks.specs.MapAnswers.{IsFirstLine, IsMapped}
 use Rattle.pciplan_tasks.specs.Answers.{answer_of}
 use Rattle.pciplan_tasks.proofs.Maps.{mapped, not_mapped}

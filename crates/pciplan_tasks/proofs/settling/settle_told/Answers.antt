@@ -2,9 +2,9 @@ use Rattle.std.proofs.Common.{List, [], ap, map, sym, ◌∙◌, subst, inr}
 use Rattle.std.specs.Prelude.{IfOk}
 use Rattle.judge_spec.specs.Given.{nothing_given}
 use Rattle.judge_spec.specs.Told.{ToldRange}
-use Rattle.pci_given.specs.AllLines.{fault_of}
-use Rattle.pci_given.specs.Every.{AreBefore, AreReady}
-use Rattle.pci_given.specs.declared.any_fault.AnyFault.{AnyFault}
+use Rattle.pci_faults.specs.AllLines.{fault_of}
+use Rattle.pci_faults.specs.Every.{AreBefore, AreReady}
+use Rattle.pci_faults.specs.declared.any_fault.AnyFault.{AnyFault}
 use Rattle.pciplan_tasks.specs.Answers.{answer_of}
 use Rattle.pciplan_tasks.specs.MapAnswers.{IsFirstLine}
 use Rattle.pciplan_tasks.specs.SettleAnswers.{SettleAsked, request_said}

@@ -1,7 +1,7 @@
 use Rattle.std.proofs.Common.{List, map, subst, sym, ◌∙◌, ap, eqb-true, arith}
 use Rattle.std.specs.Prelude.{IfOk}
-use Rattle.pci_given.specs.AllLines.{fault_of}
-use Rattle.pci_given.specs.declared.any_fault.AnyFault.{AnyFault}
+use Rattle.pci_faults.specs.AllLines.{fault_of}
+use Rattle.pci_faults.specs.declared.any_fault.AnyFault.{AnyFault}
 use Rattle.pci_model_settle.specs.Listed.{blocks_after, listed_write}
 use Rattle.pci_plan.specs.Writes.{write_value}
 use Rattle.pci_settle.specs.Denied.{denied_value}

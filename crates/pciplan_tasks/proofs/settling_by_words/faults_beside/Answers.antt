@@ -3,8 +3,8 @@ use Rattle.judge_spec.specs.Told.{ToldRange}
 use Rattle.judge_spec.specs.UnclaimedLaws.{with_taking}
 use Rattle.pci_tree.specs.Roots.{buses_of}
 use Rattle.pci_claims.specs.Values.{given_value, told_value}
-use Rattle.pci_given.specs.AllLines.{fault_of}
-use Rattle.pci_given.specs.Every.{AreSound}
+use Rattle.pci_faults.specs.AllLines.{fault_of}
+use Rattle.pci_faults.specs.Every.{AreSound}
 use Rattle.pciplan_tasks.specs.ToldAnswers.{AreAsleepFor}
 use Rattle.pciplan_tasks.specs.WordsSettling.{beside_said}
 use Rattle.pciplan_tasks.proofs.ByWords.{faults_are}

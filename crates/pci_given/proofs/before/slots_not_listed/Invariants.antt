@@ -1,6 +1,0 @@
-use Rattle.std.proofs.Common.{take}
-use Rattle.pci_given.specs.Before.{AreSlotsOf, IsOfNoFunction}
-use Rattle.pci_given.proofs.before.slots_not_listed.Given as goal
-
-abbrev pub invariant-loop-range : goal.invariant-loop-range
-invariant-loop-range g l = AreSlotsOf (IsOfNoFunction l.dump) (take l.range-index l.ranges) l.slots.items

@@ -1,6 +1,0 @@
-use Rattle.std.proofs.Common.{false}
-use Rattle.pci_given.specs.Owned.{AreClaimsOwned}
-use Rattle.pci_given.proofs.meetings.add_before.Given as goal
-
-abbrev pub invariant-loop-k : goal.invariant-loop-k
-invariant-loop-k g l = AreClaimsOwned false l.k l.claims l.owners

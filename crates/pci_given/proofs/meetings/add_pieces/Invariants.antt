@@ -1,6 +1,0 @@
-use Rattle.std.proofs.Common.{take}
-use Rattle.pci_given.specs.Owned.{AreGiven}
-use Rattle.pci_given.proofs.meetings.add_pieces.Given as goal
-
-abbrev pub invariant-loop-piece : goal.invariant-loop-piece
-invariant-loop-piece g l = AreGiven (take l.piece-index l.pieces) l.owner l.fn.owners l.owners

@@ -1,5 +1,0 @@
-use Rattle.pci_given.proofs.Owning.{AreRisen}
-use Rattle.pci_given.proofs.meetings.do_groups_rise.Given as goal
-
-abbrev pub invariant-loop-k : goal.invariant-loop-k
-invariant-loop-k g l = AreRisen l.among l.claims l.k l.last

@@ -1,6 +1,0 @@
-use Rattle.std.proofs.Common.{take}
-use Rattle.pci_given.proofs.Owning.{NoneOwned}
-use Rattle.pci_given.proofs.meetings.first_owned.Given as goal
-
-abbrev pub invariant-loop-piece : goal.invariant-loop-piece
-invariant-loop-piece g l = NoneOwned l.owners (take l.piece-index l.pieces)

@@ -1,6 +1,0 @@
-use Rattle.std.proofs.Common.{take}
-use Rattle.pci_given.proofs.Missing.{AllPassed}
-use Rattle.pci_given.proofs.missed.least_missed.Given as goal
-
-abbrev pub invariant-loop-s : goal.invariant-loop-s
-invariant-loop-s l = AllPassed l.range (take l.s-index l.sent) l.passed

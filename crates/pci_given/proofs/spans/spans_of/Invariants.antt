@@ -1,6 +1,0 @@
-use Rattle.std.proofs.Common.{◌≡◌, map, take}
-use Rattle.pci_given.specs.Spans.{span_of}
-use Rattle.pci_given.proofs.spans.spans_of.Given as goal
-
-abbrev pub invariant-loop-region : goal.invariant-loop-region
-invariant-loop-region g l = l.out.items ≡ map span_of (take l.region-index l.regions)
