@@ -12,3 +12,9 @@ pub mod Putting
 pub mod OffLines
 pub mod Widest
 pub mod Grounds
+pub mod Lists
+pub mod RoomRows
+pub mod Board
+pub mod Endings
+pub mod Granting
+pub mod Located

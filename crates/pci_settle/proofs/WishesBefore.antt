@@ -61,13 +61,13 @@ use Rattle.pci_settle_places.specs.Live.{HasAllPlaces}
 use Rattle.pci_settle_places.proofs.PlacedParts.{placed_is_part}
 use Rattle.pci_settle_places.proofs.PlacedImages.{register_place}
 use Rattle.pci_settle_places.proofs.Registers.{registers_at}
-use Rattle.pci_spare.specs.declared.board.BridgeWindow.{BridgeWindow}
-use Rattle.pci_spare.specs.declared.fill.Located.{Located}
-use Rattle.pci_spare.specs.Rows.{level, row_number}
-use Rattle.pci_spare.specs.Located.{told_weight, AreWindowsThen, AreOwn}
-use Rattle.pci_spare.proofs.Facts.{item_at}
-use Rattle.pci_spare.proofs.Located.{same_sums, sum_filter}
-use Rattle.pci_spare.proofs.OwnParts.{IsToldThen, own_weight, told_own, function_own, all_own}
+use Rattle.pci_grow.specs.declared.board.BridgeWindow.{BridgeWindow}
+use Rattle.pci_grow.specs.declared.fill.Located.{Located}
+use Rattle.pci_grow.specs.RoomRows.{level, row_number}
+use Rattle.pci_grow.specs.Located.{told_weight, AreWindowsThen, AreOwn}
+use Rattle.pci_grow.proofs.Facts.{item_at}
+use Rattle.pci_grow.proofs.Located.{same_sums, sum_filter}
+use Rattle.pci_grow.proofs.OwnParts.{IsToldThen, own_weight, told_own, function_own, all_own}
 use Rattle.pci_settle.specs.declared.tables.Tables.{Tables}
 use Rattle.pci_settle.specs.Told.{TellsKeeping}
 use Rattle.pci_settle.specs.Before.{windows_before, IsToldAt, AreWindowsBefore, bar_before, rom_before, bar_weight, rom_weight, bars_weight, record_weight, AreOwnBefore, HaveRegisters}

@@ -11,7 +11,7 @@ use Rattle.pci_first_fit.specs.declared.extent.Extent.{Extent}
 use Rattle.pci_first_fit.specs.declared.slots.Slots.{Slots}
 use Rattle.pci_first_fit.specs.Slots.{most_wanted, wanted_of, spare_by}
 use Rattle.pci_first_fit.specs.Windows.{IsAround}
-use Rattle.pci_spare.specs.Granting.{spare_up_to}
+use Rattle.pci_grow.specs.Granting.{spare_up_to}
 
 -- whole pages of what can be wanted are fewer than 2^64
 pages_fit : (c : WindowKind) (wanted : ℕ) → wanted ≤ most_wanted → raised_to (page_size c) wanted ≤ most_wanted

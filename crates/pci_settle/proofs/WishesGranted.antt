@@ -38,11 +38,11 @@ use Rattle.pci_first_fit.specs.Lists.{lists_value}
 use Rattle.pci_first_fit.specs.Keeping.{told_of_kind}
 use Rattle.pci_first_fit.specs.Tables.{untold, told}
 use Rattle.pci_first_fit.specs.Slots.{wanted_of, spare_by, spares_value}
-use Rattle.pci_spare.specs.declared.board.Board.{Board}
-use Rattle.pci_spare.specs.declared.board.BridgeWindow.{BridgeWindow}
-use Rattle.pci_spare.specs.Board.{IsAsked, Room}
-use Rattle.pci_spare.specs.Granting.{spare_up_to, part_of, AreGranted, TellsSpares}
-use Rattle.pci_spare.proofs.Facts.{item_at}
+use Rattle.pci_grow.specs.declared.board.Board.{Board}
+use Rattle.pci_grow.specs.declared.board.BridgeWindow.{BridgeWindow}
+use Rattle.pci_grow.specs.Board.{IsAsked, Room}
+use Rattle.pci_grow.specs.Granting.{spare_up_to, part_of, AreGranted, TellsSpares}
+use Rattle.pci_grow.proofs.Facts.{item_at}
 use Rattle.pci_settle.specs.declared.settle.Denied.{Denied}
 use Rattle.pci_settle.specs.Before.{AreFlagsOf}
 use Rattle.pci_settle.specs.Denied.{register_at, denied_value}

@@ -25,10 +25,10 @@ use Rattle.pci_tree.specs.Regions.{space_in}
 use Rattle.pci_first_fit.specs.declared.kept.Kept.{Kept}
 use Rattle.pci_first_fit.specs.Tables.{untold, told}
 use Rattle.pci_settle_places.specs.declared.places.Places.{Places}
-use Rattle.pci_spare.specs.declared.fill.Located.{Located}
-use Rattle.pci_spare.proofs.Filled.{sum_more}
-use Rattle.pci_spare.specs.Rows.{level, row_number}
-use Rattle.pci_spare.specs.Located.{told_weight, located_total}
+use Rattle.pci_grow.specs.declared.fill.Located.{Located}
+use Rattle.pci_grow.proofs.Filled.{sum_more}
+use Rattle.pci_grow.specs.RoomRows.{level, row_number}
+use Rattle.pci_grow.specs.Located.{told_weight, located_total}
 use Rattle.pci_settle.specs.declared.tables.Tables.{Tables}
 use Rattle.pci_settle.specs.Before.{windows_before, IsToldAt, AreWindowsBefore, bar_before, bar_weight, record_weight, AreOwnBefore, AreFlagsOf}
 

@@ -26,9 +26,9 @@ use Rattle.pci_first_fit.specs.Tables.{untold, told}
 use Rattle.pci_settle_places.specs.declared.places.Places.{Places}
 use Rattle.pci_settle_places.specs.Places.{place_range_in}
 use Rattle.pci_settle_places.specs.Shown.{HasRegister}
-use Rattle.pci_spare.specs.declared.fill.Located.{Located}
-use Rattle.pci_spare.specs.Rows.{level, row_number}
-use Rattle.pci_spare.specs.Located.{told_weight, located_total}
+use Rattle.pci_grow.specs.declared.fill.Located.{Located}
+use Rattle.pci_grow.specs.RoomRows.{level, row_number}
+use Rattle.pci_grow.specs.Located.{told_weight, located_total}
 use Rattle.pci_settle.specs.declared.tables.Tables.{Tables}
 
 -- ---- windows

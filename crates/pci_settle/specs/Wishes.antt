@@ -28,13 +28,13 @@ use Rattle.pci_first_fit.specs.Keeping.{told_of_kind}
 use Rattle.pci_first_fit.specs.Lists.{lists_value}
 use Rattle.pci_first_fit.specs.Slots.{wanted_of, spare_by}
 use Rattle.pci_first_fit.specs.Tables.{untold}
-use Rattle.pci_spare.specs.declared.board.Board.{Board}
-use Rattle.pci_spare.specs.declared.board.BridgeWindow.{BridgeWindow}
-use Rattle.pci_spare.specs.declared.fill.Located.{Located}
-use Rattle.pci_spare.specs.declared.granting.Wanted.{Wanted}
-use Rattle.pci_spare.specs.Board.{IsAsked}
-use Rattle.pci_spare.specs.Located.{AreWindowsThen, AreOwn}
-use Rattle.pci_spare.specs.Granting.{spare_up_to, AreExtents, part_of, AreSpares}
+use Rattle.pci_grow.specs.declared.board.Board.{Board}
+use Rattle.pci_grow.specs.declared.board.BridgeWindow.{BridgeWindow}
+use Rattle.pci_grow.specs.declared.fill.Located.{Located}
+use Rattle.pci_grow.specs.declared.granting.Wanted.{Wanted}
+use Rattle.pci_grow.specs.Board.{IsAsked}
+use Rattle.pci_grow.specs.Located.{AreWindowsThen, AreOwn}
+use Rattle.pci_grow.specs.Granting.{spare_up_to, AreExtents, part_of, AreSpares}
 use Rattle.pci_settle.specs.declared.settle.Denied.{Denied}
 use Rattle.pci_settle.specs.declared.tables.Tables.{Tables}
 use Rattle.pci_settle.specs.declared.wishes.Basis.{Basis}

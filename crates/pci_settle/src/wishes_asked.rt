@@ -7,7 +7,7 @@ ghost use Rattle.pci_base.specs.WindowKinds.{kind_value, by_kind};
 ghost use Rattle.pci_first_fit.specs.Slots.{wanted_of, spare_by};
 ghost use Rattle.pci_first_fit.specs.Spots.{IsExtent};
 ghost use Rattle.pci_kept.specs.Flags.{AreFlags};
-ghost use Rattle.pci_spare.specs.Granting.{spare_up_to, AreExtents};
+ghost use Rattle.pci_grow.specs.Granting.{spare_up_to, AreExtents};
 ghost use Rattle.pci_settle.specs.Before.{AreFlagsOf};
 
 use pci_base::memory::OutOfMemory;

@@ -10,8 +10,8 @@ ghost use Rattle.pci_base.specs.WindowKinds.{kind_value, by_kind};
 ghost use Rattle.pci_image.specs.Windows.{window_of};
 ghost use Rattle.pci_tree.specs.Passes.{range_in};
 ghost use Rattle.pci_settle_places.specs.Shown.{HasRegister};
-ghost use Rattle.pci_spare.specs.Rows.{level, row_number};
-ghost use Rattle.pci_spare.specs.Located.{told_weight, located_total};
+ghost use Rattle.pci_grow.specs.RoomRows.{level, row_number};
+ghost use Rattle.pci_grow.specs.Located.{told_weight, located_total};
 ghost use Rattle.pci_settle.specs.Before.{window_before, windows_before, AreWindowsBefore, bar_before, rom_before, bar_weight, record_weight, AreOwnBefore, HaveRegisters};
 
 use crate::tables::Tables;
@@ -24,11 +24,11 @@ use pci_first_fit::kept::Kept;
 use pci_first_fit::over::open_range;
 use pci_first_fit::table::{UNTOLD, WindowRanges, ranges_told};
 use pci_function::record::Record;
+use pci_grow::fill::Located;
 use pci_image::bar::Bar;
 use pci_image::rom::Rom;
 use pci_image::window::Windows;
 use pci_settle_places::places::Places;
-use pci_spare::fill::Located;
 use std::alloc::Allocator;
 
 /// Where a window is before any wish: one that stays is where it grows to, or else where it is; another is at its place.

@@ -1,7 +1,7 @@
 use Rattle.std.proofs.Common.{map, ap, sym, ◌∙◌}
 use Rattle.std.proofs.lemmas.List.{take_all}
 use Rattle.pci_function.specs.declared.record.Record.{Record}
-use Rattle.pci_spare.specs.Granting.{part_of}
+use Rattle.pci_grow.specs.Granting.{part_of}
 use Rattle.pci_settle.specs.Denied.{register_at, denied_value}
 use Rattle.pci_settle.proofs.WishesGranted.{denied_next}
 use Rattle.pci_settle.proofs.wishes.denied_at.Goals as goal

@@ -2,7 +2,7 @@ use Rattle.std.proofs.Common.{◌≡◌, map, take}
 use Rattle.pci_spec.specs.Decoded.{HasRecords}
 use Rattle.pci_spec.specs.System.{System}
 use Rattle.pci_function.specs.Values.{record_value}
-use Rattle.pci_spare.specs.Granting.{part_of}
+use Rattle.pci_grow.specs.Granting.{part_of}
 use Rattle.pci_settle.specs.Denied.{register_at, denied_value}
 use Rattle.pci_settle.proofs.wishes.denied_at.Given as goal
 

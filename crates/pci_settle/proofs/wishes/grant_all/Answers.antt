@@ -1,6 +1,6 @@
 use Rattle.std.proofs.Common.{map, ◌∙◌, ap}
-use Rattle.pci_spare.specs.Granting.{part_of}
-use Rattle.pci_spare.specs.Board.{room_value}
+use Rattle.pci_grow.specs.Granting.{part_of}
+use Rattle.pci_grow.specs.Board.{room_value}
 use Rattle.pci_settle.specs.Denied.{register_at}
 use Rattle.pci_settle.proofs.WishesGranted.{of_granted}
 use Rattle.pci_settle.proofs.wishes.grant_all.Goals as goal

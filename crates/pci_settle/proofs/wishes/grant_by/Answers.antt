@@ -1,7 +1,7 @@
 use Rattle.std.proofs.Common.{refl, sym, subst}
 use Rattle.std.proofs.lemmas.Result.{IfOk-weaker}
-use Rattle.pci_spare.specs.Located.{AreWindowsThen, AreOwn}
-use Rattle.pci_spare.specs.Granting.{AreSpares}
+use Rattle.pci_grow.specs.Located.{AreWindowsThen, AreOwn}
+use Rattle.pci_grow.specs.Granting.{AreSpares}
 use Rattle.pci_settle.proofs.WishesGranted.{board_asked}
 use Rattle.pci_settle.proofs.wishes.grant_by.Goals as goal
 

@@ -12,7 +12,7 @@ use Rattle.pci_place.proofs.Records.{same_count}
 use Rattle.pci_tree.specs.Roots.{buses_of}
 use Rattle.pci_first_fit.specs.Lines.{AreLineRows, AreLines}
 use Rattle.pci_first_fit.specs.Slots.{Demand}
-use Rattle.pci_spare.proofs.ToldSpares.{spares_are_told}
+use Rattle.pci_grow.proofs.ToldSpares.{spares_are_told}
 use Rattle.pci_settle.specs.Wishes.{behind_slots}
 use Rattle.pci_settle.proofs.WishesBefore.{all_registers, windows_then_are, own_then_are}
 use Rattle.pci_settle.proofs.WishesGranted.{spares_told, all_wishes}

@@ -1,6 +1,6 @@
 use Rattle.std.proofs.Common.{refl, sym}
 use Rattle.pci_base.specs.Space.{space_of}
-use Rattle.pci_spare.proofs.Filled.{window_added}
+use Rattle.pci_grow.proofs.Filled.{window_added}
 use Rattle.pci_settle.proofs.wishes_before.add.Goals as goal
 
 pub returns-in_ok-push : goal.returns-in_ok-push

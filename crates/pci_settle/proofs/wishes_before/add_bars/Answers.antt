@@ -1,7 +1,7 @@
 use Rattle.std.proofs.Common.{false, get_or, arith}
 use Rattle.pci_image.specs.declared.bar.Bar.{Bar}
 use Rattle.pci_image.specs.declared.bar.BarKind.TheVariants.{Io}
-use Rattle.pci_spare.specs.Located.{located_total}
+use Rattle.pci_grow.specs.Located.{located_total}
 use Rattle.pci_settle.specs.Before.{bar_weight}
 use Rattle.pci_settle.proofs.WishesLists.{bar_added, bars_next, bars_all}
 use Rattle.pci_settle.proofs.wishes_before.add_bars.Goals as goal

@@ -1,7 +1,7 @@
 use Rattle.std.proofs.Common.{◌≡◌, ◌+◌, ℕ, List, drop}
 use Rattle.std.specs.List.{sum_by}
 use Rattle.pci_spec.specs.Decoded.{Range}
-use Rattle.pci_spare.specs.Located.{located_total}
+use Rattle.pci_grow.specs.Located.{located_total}
 use Rattle.pci_settle.specs.Before.{bar_weight}
 use Rattle.pci_settle.proofs.wishes_before.add_bars.Given as goal
 

@@ -1,8 +1,8 @@
 use Rattle.std.proofs.Common.{arith, ap, ◌∙◌}
 use Rattle.std.specs.List.{sum_by}
 use Rattle.pci_spec.specs.System.{Memory}
-use Rattle.pci_spare.specs.Rows.{level, row_number}
-use Rattle.pci_spare.specs.Located.{told_weight}
+use Rattle.pci_grow.specs.RoomRows.{level, row_number}
+use Rattle.pci_grow.specs.Located.{told_weight}
 use Rattle.pci_settle.specs.Before.{bar_weight}
 use Rattle.pci_settle.proofs.wishes_before.add_own.Goals as goal
 

@@ -1,4 +1,0 @@
-use Rattle.pci_spare.proofs.ending.+end_by.Given as goal
-
-abbrev pub decreases-end_by : goal.decreases-end_by
-decreases-end_by g l = l.depth

@@ -1,6 +1,0 @@
-use Rattle.std.proofs.Common.{map}
-use Rattle.pci_spare.proofs.Flags.{AreFlagsTo}
-use Rattle.pci_spare.proofs.fill.rising_rows.Given as goal
-
-abbrev pub invariant-loop-row : goal.invariant-loop-row
-invariant-loop-row g l = AreFlagsTo (map (λ v. v.items) l.rows) l.flags.items l.row-index

@@ -1,5 +1,0 @@
-use Rattle.pci_spare.proofs.Ended.{IsPast}
-use Rattle.pci_spare.proofs.row.end_later.Given as goal
-
-abbrev pub invariant-loop-index : goal.invariant-loop-index
-invariant-loop-index l = IsPast l.row l.initial.row l.window l.index

@@ -1,5 +1,0 @@
-use Rattle.pci_spare.proofs.Rising.{LastsRiseTo}
-use Rattle.pci_spare.proofs.row.lasts_rise.Given as goal
-
-abbrev pub invariant-loop-index : goal.invariant-loop-index
-invariant-loop-index l = LastsRiseTo l.row l.index
