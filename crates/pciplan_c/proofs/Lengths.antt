@@ -19,8 +19,8 @@ use Rattle.pci_plan.specs.Plans.{plan_fault_of}
 use Rattle.pci_settle.specs.FaultText.{hex_text, sizes_text, class_part_text, settle_fault_text}
 use Rattle.pci_settle.specs.declared.lack.SettleFault.{SettleFault}
 use Rattle.pci_settle.specs.declared.lack.SettleFault.TheVariants as settle
-pub use Rattle.pciplan_held.proofs.Lengths.{refusal_short}
-use Rattle.pciplan_held.proofs.Lengths.{ended, fault_short, line_length, unread_short}
+pub use Rattle.pciplan_c.proofs.HeldLengths.{refusal_short}
+use Rattle.pciplan_c.proofs.HeldLengths.{ended, fault_short, line_length, unread_short}
 use Rattle.pciplan_c.specs.FaultsWords.{faults_word_text}
 use Rattle.pciplan_c.specs.NoLists.{no_list_line, no_list_text}
 use Rattle.pciplan_c.specs.NoWrites.{no_writes_numbers, no_writes_text, settle_fault_numbers, settle_word_text}
@@ -32,7 +32,7 @@ use Rattle.pciplan_c.specs.declared.no_writes.NoWrites.{NoWrites}
 use Rattle.pciplan_c.specs.declared.no_writes.NoWrites.TheVariants.{BadWord, Unread, Also, NotReady, NotPlanned, NotSettled}
 use Rattle.pciplan_c.specs.declared.settle_words.SettleWord.{SettleWord}
 use Rattle.pciplan_c.specs.declared.settle_words.SettleWord.TheVariants as word
-use Rattle.pciplan_held.specs.declared.refusal.Refusal.TheVariants.{Dump}
+use Rattle.pciplan_c.specs.declared.refusal.Refusal.TheVariants.{Dump}
 use Rattle.pciplan_c.specs.ToldTexts.{unready_text}
 use Rattle.pciplan_c.specs.declared.unready.Unready.{Unready}
 use Rattle.pciplan_c.specs.declared.unready.Unready.TheVariants as unready

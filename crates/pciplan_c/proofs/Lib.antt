@@ -4,3 +4,6 @@ pub mod WordBytes
 pub mod Settlings
 pub mod Wants
 pub mod Listings
+pub mod NotAdmitted
+pub mod HeldLengths
+pub mod PlanWrites

@@ -9,10 +9,10 @@ use Rattle.pciplan_tasks.specs.Answers.{Answer, answer_of, text_bytes}
 use Rattle.pciplan_tasks.specs.FaultsAnswers.{IsFaultsAnswer, list_answer}
 use Rattle.pciplan_tasks.specs.declared.reply.Reply.{Reply}
 use Rattle.pciplan_tasks.specs.declared.task.Beside.{Beside}
-use Rattle.pciplan_held.specs.Puts.{IsPutInto}
-use Rattle.pciplan_held.specs.declared.put.Withheld.{Withheld}
-use Rattle.pciplan_held.specs.declared.put.Withheld.TheVariants.{Memory, NoRoom}
-use Rattle.pciplan_held.specs.declared.refusal.Refusal.TheVariants.{Root, Dump, Probe}
+use Rattle.pciplan_c.specs.Puts.{IsPutInto}
+use Rattle.pciplan_c.specs.declared.put.Withheld.{Withheld}
+use Rattle.pciplan_c.specs.declared.put.Withheld.TheVariants.{Memory, NoRoom}
+use Rattle.pciplan_c.specs.declared.refusal.Refusal.TheVariants.{Root, Dump, Probe}
 use Rattle.pciplan_c.specs.FaultsWords.{HaveMeaning, IsBadWord, IsNotSaid, IsSaidBy, IsWordWant}
 use Rattle.pciplan_c.specs.Listings.{AreListed, IsListing, IsListingTooLong, IsNoListOf, IsNotListed, IsTextPut, MayWantToList, is_why, listing_of}
 use Rattle.pciplan_c.specs.NoLists.{IsListMade, no_list_text}

@@ -19,9 +19,9 @@ use Rattle.judge_spec.proofs.DeterminedTexts.{same_slots}
 use Rattle.pci_function.specs.declared.fault.Fault as code
 use Rattle.pci_function.specs.Fault.{fault_of}
 use Rattle.pci_faults.specs.Every.{AreBefore, AreReady}
-use Rattle.pciplan_held.specs.Texts.{IsNotAdmitted}
-use Rattle.pciplan_held.specs.declared.refusal.Refusal.TheVariants.{Root, Dump, Probe}
-use Rattle.pciplan_held.specs.declared.unread.Unread.TheVariants as unread
+use Rattle.pciplan_c.specs.Texts.{IsNotAdmitted}
+use Rattle.pciplan_c.specs.declared.refusal.Refusal.TheVariants.{Root, Dump, Probe}
+use Rattle.pciplan_c.specs.declared.unread.Unread.TheVariants as unread
 use Rattle.pciplan_c.specs.SettleAnswers.{IsAskedWith, IsNoSettlingOf}
 use Rattle.pciplan_c.specs.SettleWords.{HaveMeaning, IsAskedBy, asked_with_told}
 use Rattle.pciplan_c.specs.ToldTexts.{AreReadyTexts, AreTold, IsEarlyFirst, IsUntold, told_ranges}

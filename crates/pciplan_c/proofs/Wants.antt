@@ -2,10 +2,10 @@
 use Rattle.std.proofs.Common.{◌≡◌, ◌<◌, ℕ, List, length, codes, inr, ap, sym, subst, ◌∙◌}
 use Rattle.plan_spec.specs.Plan as plan
 use Rattle.pci_tree.specs.Roots.{IsRootList}
-use Rattle.pciplan_held.specs.declared.put.Withheld.{Withheld}
-use Rattle.pciplan_held.specs.declared.put.Withheld.TheVariants.{Memory, NoRoom}
-use Rattle.pciplan_held.specs.declared.refusal.Refusal.TheVariants.{Root, Dump, Probe}
-use Rattle.pciplan_held.specs.declared.unread.Unread.TheVariants as unread
+use Rattle.pciplan_c.specs.declared.put.Withheld.{Withheld}
+use Rattle.pciplan_c.specs.declared.put.Withheld.TheVariants.{Memory, NoRoom}
+use Rattle.pciplan_c.specs.declared.refusal.Refusal.TheVariants.{Root, Dump, Probe}
+use Rattle.pciplan_c.specs.declared.unread.Unread.TheVariants as unread
 use Rattle.pciplan_c.specs.Answers.{IsTooLong}
 use Rattle.pciplan_c.specs.NoWrites.{IsMade}
 use Rattle.pciplan_c.specs.PlanAnswers.{IsNoPlanOf}

@@ -2,8 +2,8 @@
 use Rattle.std.specs.Prelude.{◌≡◌, ◌<◌, ℕ, List, length, Some}
 use Rattle.pci_tree.specs.Roots.{IsRootList}
 use Rattle.pci_check.specs.Audits.{IsAudited, outcome_line}
-use Rattle.pciplan_held.specs.Puts.{IsPutInto}
-use Rattle.pciplan_held.specs.Refusals.{IsHeldRefusal, refusal_text}
+use Rattle.pciplan_c.specs.Puts.{IsPutInto}
+use Rattle.pciplan_c.specs.Refusals.{IsHeldRefusal, refusal_text}
 use Rattle.pciplan_c.specs.declared.answer.Answer.{Answer}
 use Rattle.pciplan_c.specs.declared.answer.Answer.TheVariants.{Verdict, Refused}
 

@@ -3,7 +3,7 @@ use Rattle.std.specs.Prelude.{◌≡◌, ℕ, List, length, map}
 use Rattle.pci_spec.specs.Slot.{Slot}
 use Rattle.pci_settle.specs.Denied.{denied_value}
 use Rattle.pci_settle.specs.declared.settle.Denied.{Denied}
-use Rattle.pciplan_held.specs.Puts.{IsPutInto}
+use Rattle.pciplan_c.specs.Puts.{IsPutInto}
 use Rattle.pciplan_c.specs.declared.denied_spare.DeniedSpare.{DeniedSpare}
 
 -- a window as C has it

@@ -11,3 +11,7 @@ pub mod Numbering
 pub mod FaultsWords
 pub mod NoLists
 pub mod Listings
+pub mod Refusals
+pub mod Puts
+pub mod RegisterWrites
+pub mod Texts

@@ -5,10 +5,10 @@ use Rattle.pci_tree.specs.Roots.{IsRootList}
 use Rattle.pciplan_tasks.specs.Answers.{Answer, done, refused}
 use Rattle.pciplan_tasks.specs.FaultsAnswers.{IsFaultsAnswer}
 use Rattle.pciplan_tasks.specs.declared.task.Beside.{Beside}
-use Rattle.pciplan_held.specs.Puts.{IsPutInto}
-use Rattle.pciplan_held.specs.Refusals.{IsHeldRefusal}
-use Rattle.pciplan_held.specs.declared.refusal.Refusal.{Refusal}
-use Rattle.pciplan_held.specs.declared.refusal.Refusal.TheVariants.{Root}
+use Rattle.pciplan_c.specs.Puts.{IsPutInto}
+use Rattle.pciplan_c.specs.Refusals.{IsHeldRefusal}
+use Rattle.pciplan_c.specs.declared.refusal.Refusal.{Refusal}
+use Rattle.pciplan_c.specs.declared.refusal.Refusal.TheVariants.{Root}
 use Rattle.pci_base.specs.declared.memory.Refused.{Refused as RefusedOf}
 use Rattle.pci_base.specs.declared.memory.Refused.TheVariants as refusals
 use Rattle.pciplan_c.specs.FaultsWords.{HaveMeaning, IsBadWord, IsSaidBy, IsWordWant}

@@ -1,7 +1,7 @@
 -- How it is said that there is no list of faults.
 use Rattle.std.specs.Prelude.{ℕ, List}
-use Rattle.pciplan_held.specs.Refusals.{refusal_line, refusal_text}
-use Rattle.pciplan_held.specs.declared.refusal.Refusal.TheVariants.{Root, Dump, Probe}
+use Rattle.pciplan_c.specs.Refusals.{refusal_line, refusal_text}
+use Rattle.pciplan_c.specs.declared.refusal.Refusal.TheVariants.{Root, Dump, Probe}
 use Rattle.pciplan_c.specs.FaultsWords.{faults_word_text}
 use Rattle.pciplan_c.specs.declared.no_list.NoList.{NoList}
 use Rattle.pciplan_c.specs.declared.no_list.NoList.TheVariants.{BadWord, Unread}

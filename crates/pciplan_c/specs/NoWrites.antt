@@ -7,10 +7,10 @@ use Rattle.pci_settle.specs.FaultText.{settle_fault_text}
 use Rattle.pci_settle.specs.declared.lack.SettleFault.{SettleFault}
 use Rattle.pci_settle.specs.declared.lack.SettleFault.TheVariants as settle
 use Rattle.pci_dump.specs.ReadFault.{read_fault_text}
-use Rattle.pciplan_held.specs.Refusals.{read_fault_line}
-use Rattle.pciplan_held.specs.Texts.{unread_line, unread_status, unread_text}
-use Rattle.pciplan_held.specs.declared.refusal.Refusal.TheVariants.{Root, Dump, Probe}
-use Rattle.pciplan_held.specs.declared.unread.Unread.TheVariants as unread
+use Rattle.pciplan_c.specs.Refusals.{read_fault_line}
+use Rattle.pciplan_c.specs.Texts.{unread_line, unread_status, unread_text}
+use Rattle.pciplan_c.specs.declared.refusal.Refusal.TheVariants.{Root, Dump, Probe}
+use Rattle.pciplan_c.specs.declared.unread.Unread.TheVariants as unread
 use Rattle.pciplan_c.specs.declared.no_writes.NoWrites.{NoWrites}
 use Rattle.pciplan_c.specs.declared.no_writes.NoWrites.TheVariants.{BadWord, Unread, Also, NotReady, NotPlanned, NotSettled}
 use Rattle.pciplan_c.specs.declared.settle_words.SettleWord.{SettleWord}

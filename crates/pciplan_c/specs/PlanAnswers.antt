@@ -6,9 +6,9 @@ use Rattle.pci_tree.specs.Admission.{Admission, IsAdmitted}
 use Rattle.pci_place.specs.Above.{system_in}
 use Rattle.pci_plan.specs.Plans.{PlanValue, IsPlanIn, plan_fault_of}
 use Rattle.pci_plan.specs.declared.plan_fault.PlanFault.{PlanFault}
-use Rattle.pciplan_held.specs.RegisterWrites.{write_value_of}
-use Rattle.pciplan_held.specs.Texts.{AreTexts, IsUnreadOf}
-use Rattle.pciplan_held.specs.declared.register_write.RegisterWrite.{RegisterWrite}
+use Rattle.pciplan_c.specs.RegisterWrites.{write_value_of}
+use Rattle.pciplan_c.specs.Texts.{AreTexts, IsUnreadOf}
+use Rattle.pciplan_c.specs.declared.register_write.RegisterWrite.{RegisterWrite}
 use Rattle.pciplan_c.specs.declared.no_writes.NoWrites.{NoWrites}
 use Rattle.pciplan_c.specs.declared.no_writes.NoWrites.TheVariants.{BadWord, Unread, Also, NotReady, NotPlanned, NotSettled}
 use Rattle.pciplan_c.specs.declared.pools.PoolsOfC.{PoolsOfC}

@@ -16,13 +16,13 @@ use Rattle.pci_settle.specs.Requests.{request}
 use Rattle.pci_settle.specs.declared.settle.Settled.{Settled as SettledOfCode}
 use Rattle.pci_settle.specs.Endings.{IsRefusal, HasNoAssumed}
 use Rattle.pci_settle.specs.declared.lack.SettleFault.{SettleFault}
-use Rattle.pciplan_held.specs.RegisterWrites.{write_value_of}
-use Rattle.pciplan_held.specs.Texts.{AreTexts, IsUnreadOf}
-use Rattle.pciplan_held.specs.declared.refusal.Refusal.TheVariants.{Root}
-use Rattle.pciplan_held.specs.declared.register_write.RegisterWrite.{RegisterWrite}
-use Rattle.pciplan_held.specs.declared.unread.Unread.{Unread as UnreadOfCode}
-use Rattle.pciplan_held.specs.declared.unread.Unread.TheVariants as unread
-use Rattle.pciplan_held.specs.Puts.{IsPutInto}
+use Rattle.pciplan_c.specs.RegisterWrites.{write_value_of}
+use Rattle.pciplan_c.specs.Texts.{AreTexts, IsUnreadOf}
+use Rattle.pciplan_c.specs.declared.refusal.Refusal.TheVariants.{Root}
+use Rattle.pciplan_c.specs.declared.register_write.RegisterWrite.{RegisterWrite}
+use Rattle.pciplan_c.specs.declared.unread.Unread.{Unread as UnreadOfCode}
+use Rattle.pciplan_c.specs.declared.unread.Unread.TheVariants as unread
+use Rattle.pciplan_c.specs.Puts.{IsPutInto}
 use Rattle.pciplan_tasks.specs.SettleAnswers.{IsReadyAsTold}
 use Rattle.pciplan_c.specs.DeniedSpares.{denied_value_of}
 use Rattle.pciplan_c.specs.Endings.{ArePut, IsHeldBack, IsNotPut}

@@ -8,9 +8,9 @@ use Rattle.pci_plan.specs.declared.apply_fault.ApplyFault.TheVariants.{Changed, 
 use Rattle.pci_plan.specs.Steps.{Step, all_shown}
 use Rattle.pci_plan.specs.declared.step.Kind.{Kind}
 use Rattle.pci_plan.specs.declared.step.Kind.TheVariants.{Compare, Make, ReadBack}
-use Rattle.pciplan_held.specs.Puts.{IsPutInto}
-use Rattle.pciplan_held.specs.RegisterWrites.{write_value_of}
-use Rattle.pciplan_held.specs.declared.register_write.RegisterWrite.{RegisterWrite}
+use Rattle.pciplan_c.specs.Puts.{IsPutInto}
+use Rattle.pciplan_c.specs.RegisterWrites.{write_value_of}
+use Rattle.pciplan_c.specs.declared.register_write.RegisterWrite.{RegisterWrite}
 use Rattle.pciplan_c.specs.declared.stepping.RegisterStep.{RegisterStep}
 use Rattle.pciplan_c.specs.declared.starting.NoStart.{NoStart}
 use Rattle.pciplan_c.specs.declared.starting.NoStart.TheVariants.{Memory, Dump, Registers}

@@ -18,8 +18,8 @@ use Rattle.pci_faults.specs.AllLines.{plain_fault}
 use Rattle.pci_faults.specs.Every.{AreBefore, AreReady}
 use Rattle.pci_dump.specs.ToldFaults.{IsToldTextFault}
 use Rattle.pci_tree.specs.Roots.{IsRootList}
-use Rattle.pciplan_held.specs.Refusals.{IsHeldRefusal}
-use Rattle.pciplan_held.specs.declared.unread.Unread.TheVariants as unread
+use Rattle.pciplan_c.specs.Refusals.{IsHeldRefusal}
+use Rattle.pciplan_c.specs.declared.unread.Unread.TheVariants as unread
 use Rattle.pciplan_c.specs.declared.no_writes.NoWrites.{NoWrites}
 use Rattle.pciplan_c.specs.declared.no_writes.NoWrites.TheVariants.{BadWord, Unread, Also, NotReady, NotPlanned, NotSettled}
 use Rattle.pciplan_c.specs.declared.unready.Unready.{Unready}

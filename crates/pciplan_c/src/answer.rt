@@ -1,6 +1,6 @@
 //! What is answered to two texts and a list of root buses.
+use crate::refusal::Refusal;
 use pci_check::outcome::Outcome;
-use pciplan_held::refusal::Refusal;
 
 /// The message where the list of root buses is none.
 pub const ROOT_MESSAGE: &str = "root";

@@ -11,7 +11,7 @@ ghost use Rattle.pci_number.specs.Numberings.{IsSteppedTo};
 ghost use Rattle.pci_check.specs.declared.outcome.Outcome.TheVariants.{Yes, No};
 ghost use Rattle.pciplan_c.specs.Answers.{IsVerdictText, IsAnswerTold, IsTooLong};
 ghost use Rattle.pciplan_c.specs.Listings.{IsListing, IsListingTooLong, IsTextPut, MayWantToList};
-ghost use Rattle.pciplan_held.specs.RegisterWrites.{write_value_of};
+ghost use Rattle.pciplan_c.specs.RegisterWrites.{write_value_of};
 ghost use Rattle.pciplan_c.specs.Endings.{ArePut, AreTooMany, IsNoneTold, IsNoneTooLong};
 ghost use Rattle.pciplan_c.specs.PlanAnswers.{ArePlanned, IsNoPlanOf, pools_of};
 ghost use Rattle.pciplan_c.specs.SettleAnswers.{AreAllPut, AreSettledSome, AreTooManyDenied, IsNoSettlingOf, MayWant, arrays};
@@ -20,7 +20,7 @@ ghost use Rattle.pciplan_c.specs.Stepping.{IsStartPut, IsStartTooLong, answer_nu
 ghost use Rattle.pciplan_c.specs.declared.answer.Answer.TheVariants.{Verdict, Refused};
 ghost use Rattle.pciplan_c.specs.declared.listing.Listing.{Listing};
 ghost use Rattle.pciplan_c.specs.declared.no_list.NoList.{NoList};
-ghost use Rattle.pciplan_held.specs.declared.refusal.Refusal.{Refusal};
+ghost use Rattle.pciplan_c.specs.declared.refusal.Refusal.{Refusal};
 
 use crate::answer::Answer;
 use crate::denied_spare::DeniedSpare;
@@ -30,6 +30,8 @@ use crate::listing::{Listing, faults_into};
 use crate::numbering::{NumberStep, put_step};
 use crate::planning::plan_into;
 use crate::pools::PoolsOfC;
+use crate::put::Withheld;
+use crate::register_write::RegisterWrite;
 use crate::settle_words::SettleWords;
 use crate::settling::{SettleEnding, SettleHeldBack, settle_into};
 use crate::starting::{NoStart, start_into};
@@ -38,8 +40,6 @@ use crate::verdict::check_into;
 use pci_check::outcome::Outcome;
 use pci_number::access::Access;
 use pci_number::replay::next_access;
-use pciplan_held::put::Withheld;
-use pciplan_held::register_write::RegisterWrite;
 use std::alloc::Global;
 
 /// Judges the texts of a dump and of its probe, with the root buses that `roots` lists.

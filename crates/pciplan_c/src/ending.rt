@@ -4,7 +4,7 @@ ghost use Rattle.pciplan_c.specs.Endings.{IsToldOf, IsTooLongFor};
 ghost use Rattle.pciplan_c.specs.NoWrites.{IsMade, no_writes_text};
 
 use crate::no_writes::NoWrites;
-use pciplan_held::put::{Withheld, put};
+use crate::put::{Withheld, put};
 use std::alloc::Allocator;
 
 /// How many writes were put, and from how many on a stop leaves a sound system.

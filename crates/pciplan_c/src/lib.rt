@@ -9,8 +9,15 @@
 //! `no_writes` why there are no writes. As no hook of C can be called from here, a plan is put onto a machine by
 //! accesses that C makes one after another: `starting` and `stepping` say which, and what follows from each. So are the buses of
 //! a board numbered: `numbering` has the answers.
+//!
+//! # Texts in the caller's memory
+//!
+//! `held` reads a text where it lies, and `admitting` admits two of them. `refusal` and `unread` say why they aren't, each
+//! with its line of text. `put` and `register_write` put a line, or the writes of a plan, at the front of an array only
+//! where all of it has room.
 #![tactic(auto)]
 
+pub mod admitting;
 pub mod answer;
 pub mod calls;
 pub mod denied_spare;
@@ -18,6 +25,7 @@ pub mod ending;
 #[cfg(test)]
 mod faults_tests;
 pub mod faults_words;
+pub mod held;
 pub mod listing;
 pub mod no_list;
 pub mod no_writes;
@@ -26,6 +34,9 @@ pub mod numbering;
 mod plan_tests;
 pub mod planning;
 pub mod pools;
+pub mod put;
+pub mod refusal;
+pub mod register_write;
 #[cfg(test)]
 mod settle_tests;
 pub mod settle_words;
@@ -39,5 +50,6 @@ mod tests;
 #[cfg(test)]
 mod texts;
 pub mod told;
+pub mod unread;
 pub mod unready;
 pub mod verdict;

@@ -1,19 +1,19 @@
 //! The list of all faults of two texts that lie in memory.
 ghost use Rattle.std.specs.Prelude.{◌≡◌, ◌<◌, ◌≤◌, ℕ, length, IfOk, IfErr};
-ghost use Rattle.pciplan_held.specs.Puts.{IsPutInto};
+ghost use Rattle.pciplan_c.specs.Puts.{IsPutInto};
 ghost use Rattle.pciplan_tasks.specs.Answers.{AreLines, answer_of};
 ghost use Rattle.pciplan_c.specs.Listings.{AreListed, IsListing, IsListingTooLong, IsNotListed, IsTextPut, MayWantToList, listing_of};
 ghost use Rattle.pciplan_c.specs.NoLists.{IsListMade, no_list_text};
 
+use crate::admitting::read;
 use crate::faults_words::{FaultsWords, beside_of};
 use crate::no_list::NoList;
+use crate::put::{Withheld, put};
+use crate::refusal::Refusal;
 use pci_base::memory::{OutOfMemory, Refused};
 use pci_dump::dump::Dump;
 use pci_dump::read_fault::ReadFault;
 use pci_tree::roots::Roots;
-use pciplan_held::admitting::read;
-use pciplan_held::put::{Withheld, put};
-use pciplan_held::refusal::Refusal;
 use pciplan_tasks::faulting::faults_by;
 use pciplan_tasks::reply::{Reply, Text};
 use std::alloc::Global;

@@ -3,7 +3,7 @@ ghost use Rattle.std.specs.Prelude.{◌≡◌, Some};
 
 use crate::answer::ROOT_MESSAGE;
 use crate::faults_words::FaultsWord;
-use pciplan_held::refusal::Refusal;
+use crate::refusal::Refusal;
 use std::fmt;
 
 /// Why there is no list of faults.

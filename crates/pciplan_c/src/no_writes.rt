@@ -3,13 +3,13 @@ ghost use Rattle.std.specs.Prelude.{◌≡◌, Some};
 ghost use Rattle.pciplan_c.specs.NoWrites.{settle_fault_numbers};
 
 use crate::answer::ROOT_MESSAGE;
+use crate::refusal::Refusal;
 use crate::settle_words::SettleWord;
+use crate::unread::Unread;
 use crate::unready::Unready;
 use pci_dump::read_fault::ReadFault;
 use pci_plan::plan_fault::PlanFault;
 use pci_settle::lack::SettleFault;
-use pciplan_held::refusal::Refusal;
-use pciplan_held::unread::Unread;
 use std::fmt;
 
 /// Why there are no writes, of a plan or of settling.

@@ -1,21 +1,21 @@
 //! The plan of two texts that lie in memory.
 ghost use Rattle.std.specs.Prelude.{◌≡◌, ◌≤◌, ℕ, List, IfOk, IfErr};
 ghost use Rattle.pci_tree.specs.Roots.{IsRootList};
-ghost use Rattle.pciplan_held.specs.Texts.{AreTexts};
+ghost use Rattle.pciplan_c.specs.Texts.{AreTexts};
 ghost use Rattle.pciplan_c.specs.PlanAnswers.{ArePlanned, IsNoPlanOf, pools_of};
 ghost use Rattle.pciplan_c.specs.Endings.{ArePut, IsEnding, IsHeldBack, IsNotPut, lent};
 
+use crate::admitting::{admit_texts, empty_place};
 use crate::ending::{Ending, HeldBack, NotPut, Steps, tell};
 use crate::no_writes::NoWrites;
 use crate::pools::PoolsOfC;
+use crate::refusal::Refusal;
+use crate::register_write::{RegisterWrite, put_writes};
+use crate::unread::Unread;
 use pci_base::memory::Refused;
 use pci_plan::planning::plan;
 use pci_tree::admitted::Admitted;
 use pci_tree::roots::Roots;
-use pciplan_held::admitting::{admit_texts, empty_place};
-use pciplan_held::refusal::Refusal;
-use pciplan_held::register_write::{RegisterWrite, put_writes};
-use pciplan_held::unread::Unread;
 use std::alloc::Allocator;
 
 /// Puts the writes of a plan of what is admitted at the front of `writes`. No list of them is made beside the plan's own.

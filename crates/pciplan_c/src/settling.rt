@@ -1,7 +1,7 @@
 //! The settling of two texts that lie in memory.
 ghost use Rattle.std.specs.Prelude.{◌≡◌, ◌≤◌, ℕ, List, IfOk, IfErr};
 ghost use Rattle.pci_tree.specs.Roots.{IsRootList, buses_of};
-ghost use Rattle.pciplan_held.specs.Texts.{AreTexts};
+ghost use Rattle.pciplan_c.specs.Texts.{AreTexts};
 ghost use Rattle.pciplan_c.specs.SettleWords.{said_demand, said_of};
 ghost use Rattle.pciplan_c.specs.SettleAnswers.{AreAllPut, AreSettledSome, IsAskedWith, IsNoSettlingOf, IsNotAskedWith, IsSettleEnding, IsSettleHeldBack, IsSettleSafeFrom, IsSettledBy, IsUnput, MayWant, arrays, asked_request};
 ghost use Rattle.pciplan_c.specs.Endings.{IsEnding, lent};
@@ -11,11 +11,15 @@ ghost use Rattle.settle_spec.specs.Sparing.{without_slots};
 ghost use Rattle.pci_settle.specs.Endings.{IsRefusal};
 ghost use Rattle.pciplan_c.specs.declared.settle_words.SettleWords.{SettleWords as WordsValue};
 
+use crate::admitting::{admit_texts, empty_place};
 use crate::denied_spare::{DeniedSpare, put_denied};
 use crate::ending::{Ending, HeldBack, NotPut, Steps, tell};
 use crate::no_writes::NoWrites;
+use crate::refusal::Refusal;
+use crate::register_write::{RegisterWrite, put_writes};
 use crate::settle_words::{Asked, SettleWords, asked_of};
 use crate::told::told_of;
+use crate::unread::Unread;
 use pci_base::memory::{OutOfMemory, Refused};
 use pci_base::slot::Slot;
 use pci_check::check::check;
@@ -27,10 +31,6 @@ use pci_settle::settle::{Settled, settle};
 use pci_settle::writes::Writes;
 use pci_tree::admitted::Admitted;
 use pci_tree::roots::Roots;
-use pciplan_held::admitting::{admit_texts, empty_place};
-use pciplan_held::refusal::Refusal;
-use pciplan_held::register_write::{RegisterWrite, put_writes};
-use pciplan_held::unread::Unread;
 use pciplan_tasks::slots::{slots_for, slots_of};
 use std::alloc::Allocator;
 

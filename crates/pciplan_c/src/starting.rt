@@ -1,16 +1,16 @@
 //! What a plan starts from, register by register, as C compares it.
 ghost use Rattle.std.specs.Prelude.{◌≡◌, map, IfOk, IfErr};
 ghost use Rattle.pci_plan.specs.Steps.{all_shown};
-ghost use Rattle.pciplan_held.specs.RegisterWrites.{write_value_of};
+ghost use Rattle.pciplan_c.specs.RegisterWrites.{write_value_of};
 ghost use Rattle.pciplan_c.specs.Stepping.{IsStartPut, IsNoStart, IsNoDump, AreShown};
 
+use crate::admitting::read;
+use crate::put::{Withheld, put};
+use crate::register_write::{RegisterWrite, writes_of};
 use pci_base::memory::{OutOfMemory, Refused};
 use pci_dump::block::Block;
 use pci_dump::read_fault::ReadFault;
 use pci_plan::start::start_of;
-use pciplan_held::admitting::read;
-use pciplan_held::put::{Withheld, put};
-use pciplan_held::register_write::{RegisterWrite, writes_of};
 use std::alloc::Allocator;
 
 /// Why no registers are put anywhere.

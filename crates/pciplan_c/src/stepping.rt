@@ -3,11 +3,11 @@ ghost use Rattle.std.specs.Prelude.{◌≡◌, map};
 ghost use Rattle.std.specs.List.{slice_get};
 ghost use Rattle.std.specs.Option.{option_map};
 ghost use Rattle.pci_plan.specs.Steps.{judged, steps_of};
-ghost use Rattle.pciplan_held.specs.RegisterWrites.{write_value_of};
+ghost use Rattle.pciplan_c.specs.RegisterWrites.{write_value_of};
 ghost use Rattle.pciplan_c.specs.Stepping.{answer_number, said_of, c_step_value};
 
+use crate::register_write::RegisterWrite;
 use pci_plan::step::{Place, place_at};
-use pciplan_held::register_write::RegisterWrite;
 
 /// A register is read, and is to show its value.
 pub const COMPARE: u8 = 0;

@@ -7,7 +7,11 @@ ghost use Rattle.pci_dump.specs.ToldFaults.{IsToldTextFault};
 ghost use Rattle.pci_tree.specs.Roots.{IsRootList, buses_of};
 ghost use Rattle.pciplan_c.specs.ToldTexts.{AreTold, IsEarlyFirst, IsFirst, IsNotTold, IsUnready, told_ranges};
 
+use crate::admitting::read;
+use crate::held::Bytes;
 use crate::no_writes::NoWrites;
+use crate::refusal::Refusal;
+use crate::unread::Unread;
 use crate::unready::Unready;
 use pci_base::memory::{OutOfMemory, Refused};
 use pci_claims::told::Told;
@@ -18,10 +22,6 @@ use pci_dump::told_reader::read_told;
 use pci_faults::any_fault::AnyFault;
 use pci_faults::every::{BeforeJudging, before_judging};
 use pci_tree::roots::Roots;
-use pciplan_held::admitting::read;
-use pciplan_held::held::Bytes;
-use pciplan_held::refusal::Refusal;
-use pciplan_held::unread::Unread;
 use std::alloc::Allocator;
 
 /// The ranges of a text.

@@ -4,13 +4,13 @@ ghost use Rattle.pci_tree.specs.Roots.{IsRootList, buses_of};
 ghost use Rattle.pciplan_c.specs.Answers.{IsVerdictText, IsAnswerTold, IsTooLong, answer_text};
 
 use crate::answer::{Answer, ROOT_MESSAGE};
+use crate::held::{Bytes, Written};
+use crate::put::{Withheld, put};
+use crate::refusal::Refusal;
 use pci_base::memory::OutOfMemory;
 use pci_check::audit::audit_with;
 use pci_check::outcome::AuditFault;
 use pci_tree::roots::Roots;
-use pciplan_held::held::{Bytes, Written};
-use pciplan_held::put::{Withheld, put};
-use pciplan_held::refusal::Refusal;
 use std::alloc::Allocator;
 
 /// An answer with its text.

@@ -1,7 +1,7 @@
 use Rattle.std.proofs.Common.{map, refl, sym, subst, ◌∙◌}
 use Rattle.std.proofs.lemmas.List.{length-map}
 use Rattle.pci_plan.specs.Plans.{IsPlanIn}
-use Rattle.pciplan_held.proofs.PlanWrites.{write_of_c, writes_as_planned}
+use Rattle.pciplan_c.proofs.PlanWrites.{write_of_c, writes_as_planned}
 use Rattle.pciplan_c.proofs.planning.put_plan.Goals as goal
 
 pub returns-clause-why : goal.returns-clause-why

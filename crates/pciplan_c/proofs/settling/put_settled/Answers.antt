@@ -4,7 +4,7 @@ use Rattle.settle_spec.specs.Sparing.{without_slots}
 use Rattle.pci_plan.specs.Writes.{write_value}
 use Rattle.pci_settle.specs.Denied.{denied_value}
 use Rattle.pci_settle.specs.Endings.{IsRefusal}
-use Rattle.pciplan_held.proofs.PlanWrites.{write_of_c, writes_as_planned}
+use Rattle.pciplan_c.proofs.PlanWrites.{write_of_c, writes_as_planned}
 use Rattle.pciplan_c.specs.SettleAnswers.{asked_request, IsNotSettled}
 use Rattle.pciplan_c.proofs.Settlings.{are_settled, denied_of_c, denied_as_settled, not_settled}
 use Rattle.pciplan_c.proofs.settling.put_settled.Goals as goal

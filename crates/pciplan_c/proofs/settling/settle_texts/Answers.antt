@@ -1,6 +1,6 @@
 use Rattle.std.proofs.Common.{rules, inr, sym, subst}
 use Rattle.pci_tree.specs.Roots.{IsRootList}
-use Rattle.pciplan_held.specs.Texts.{AreNotAdmitted}
+use Rattle.pciplan_c.specs.Texts.{AreNotAdmitted}
 use Rattle.pciplan_c.specs.SettleAnswers.{IsUnreadBehind}
 use Rattle.pciplan_c.proofs.Settlings.{have_meaning, unread_behind}
 use Rattle.pciplan_c.proofs.settling.settle_texts.Goals as goal

@@ -6,8 +6,8 @@ use Rattle.std.proofs.lemmas.Option.{slice_get-map, slice_get-get_or}
 use Rattle.pci_plan.specs.Places.{IsPlaceOfStep}
 use Rattle.pci_plan.specs.declared.step.Kind.TheVariants.{ReadBack}
 use Rattle.pci_plan.proofs.Places.{step_compare, step_make, step_read_back, step_none}
-use Rattle.pciplan_held.specs.RegisterWrites.{write_value_of}
-use Rattle.pciplan_held.specs.declared.register_write.RegisterWrite.{RegisterWrite}
+use Rattle.pciplan_c.specs.RegisterWrites.{write_value_of}
+use Rattle.pciplan_c.specs.declared.register_write.RegisterWrite.{RegisterWrite}
 use Rattle.pciplan_c.proofs.stepping.step_at.Goals as goal
 
 -- an item that is none

@@ -10,12 +10,12 @@ use Rattle.pci_dump.specs.declared.read_fault.ReadFault.{ReadFault}
 use Rattle.pci_dump.specs.declared.read_fault.ReadFault.TheVariants as faults
 use Rattle.pci_dump.specs.ReadFault.{read_fault_text}
 use Rattle.pci_function.specs.Fault.{fault_of}
-use Rattle.pciplan_held.specs.Refusals.{read_fault_line, refusal_line, refusal_text}
-use Rattle.pciplan_held.specs.Texts.{unread_line, unread_text}
-use Rattle.pciplan_held.specs.declared.refusal.Refusal.{Refusal}
-use Rattle.pciplan_held.specs.declared.refusal.Refusal.TheVariants.{Root, Dump, Probe}
-use Rattle.pciplan_held.specs.declared.unread.Unread.{Unread}
-use Rattle.pciplan_held.specs.declared.unread.Unread.TheVariants.{Refused, NotAdmitted}
+use Rattle.pciplan_c.specs.Refusals.{read_fault_line, refusal_line, refusal_text}
+use Rattle.pciplan_c.specs.Texts.{unread_line, unread_text}
+use Rattle.pciplan_c.specs.declared.refusal.Refusal.{Refusal}
+use Rattle.pciplan_c.specs.declared.refusal.Refusal.TheVariants.{Root, Dump, Probe}
+use Rattle.pciplan_c.specs.declared.unread.Unread.{Unread}
+use Rattle.pciplan_c.specs.declared.unread.Unread.TheVariants.{Refused, NotAdmitted}
 
 -- the text of a fault has so many bytes
 abbrev IsShort : Fault → ℕ → Type 0

@@ -5,7 +5,7 @@ use Rattle.pci_base.specs.declared.memory.Refused.TheVariants as refusals
 use Rattle.pci_tree.specs.Roots.{IsRootList}
 use Rattle.pci_tree.specs.Refusals.{IsPairRefusal}
 use Rattle.pci_function.specs.declared.fault.Fault.{Fault}
-use Rattle.pciplan_held.specs.Texts.{IsNotAdmitted}
+use Rattle.pciplan_c.specs.Texts.{IsNotAdmitted}
 
 pub not_admitted : (buses roots dump probe : List ℕ) (listed read_back : List Block) (fault : Fault)
     → IsPairRefusal buses listed read_back (refusals.Fault fault) → buses ≡ roots → IsRootList roots

@@ -5,8 +5,8 @@ use Rattle.pci_dump.specs.ReadFault.{IsTextFault, read_fault_text}
 use Rattle.pci_dump.specs.declared.read_fault.ReadFault.{ReadFault}
 use Rattle.pci_dump.specs.declared.read_fault.ReadFault.TheVariants as faults
 use Rattle.pci_tree.specs.Roots.{IsRootList}
-use Rattle.pciplan_held.specs.declared.refusal.Refusal.{Refusal}
-use Rattle.pciplan_held.specs.declared.refusal.Refusal.TheVariants.{Root, Dump, Probe}
+use Rattle.pciplan_c.specs.declared.refusal.Refusal.{Refusal}
+use Rattle.pciplan_c.specs.declared.refusal.Refusal.TheVariants.{Root, Dump, Probe}
 
 -- the line that a fault of a text names, or 0 where it names none
 abbrev pub read_fault_line : ReadFault → ℕ

@@ -1,6 +1,6 @@
 //! Why two texts are refused.
 ghost use Rattle.std.specs.Prelude.{◌≡◌, Some};
-ghost use Rattle.pciplan_held.specs.Refusals.{read_fault_line};
+ghost use Rattle.pciplan_c.specs.Refusals.{read_fault_line};
 
 use pci_dump::read_fault::ReadFault;
 use std::fmt;
@@ -34,7 +34,7 @@ fn line_of(fault: ReadFault) -> u64
 }
 
 impl Refusal {
-    ghost use Rattle.pciplan_held.specs.Refusals.{refusal_line};
+    ghost use Rattle.pciplan_c.specs.Refusals.{refusal_line};
 
     /// The line of a text that it names, or 0 where it names none.
     pub fn line(self) -> u64
@@ -50,7 +50,7 @@ impl Refusal {
 
 /// The message, as `dump: 5 BadLine 17`.
 impl fmt::Display for Refusal {
-    ghost use Rattle.pciplan_held.specs.Refusals.{refusal_text};
+    ghost use Rattle.pciplan_c.specs.Refusals.{refusal_text};
 
     ghost output = { λ r. Some (refusal_text r) };
 

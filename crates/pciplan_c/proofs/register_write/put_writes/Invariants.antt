@@ -1,7 +1,7 @@
 use Rattle.std.proofs.Common.{◌≡◌, length, map, take, drop}
 use Rattle.pci_plan.specs.Writes.{write_value}
-use Rattle.pciplan_held.specs.RegisterWrites.{write_value_of}
-use Rattle.pciplan_held.proofs.register_write.put_writes.Given as goal
+use Rattle.pciplan_c.specs.RegisterWrites.{write_value_of}
+use Rattle.pciplan_c.proofs.register_write.put_writes.Given as goal
 
 -- the first writes are there, and the rest is as it was
 abbrev pub invariant-loop-i : goal.invariant-loop-i

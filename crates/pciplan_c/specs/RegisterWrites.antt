@@ -3,8 +3,8 @@ use Rattle.std.specs.Prelude.{◌≡◌, ℕ, List, length, map}
 use Rattle.pci_spec.specs.Machine as spec
 use Rattle.pci_plan.specs.Writes.{write_value}
 use Rattle.pci_plan.specs.declared.write.Write.{Write}
-use Rattle.pciplan_held.specs.Puts.{IsPutInto}
-use Rattle.pciplan_held.specs.declared.register_write.RegisterWrite.{RegisterWrite}
+use Rattle.pciplan_c.specs.Puts.{IsPutInto}
+use Rattle.pciplan_c.specs.declared.register_write.RegisterWrite.{RegisterWrite}
 
 -- a write as C has it
 abbrev pub write_value_of : RegisterWrite → spec.Write

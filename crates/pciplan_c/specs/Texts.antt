@@ -10,9 +10,9 @@ use Rattle.pci_function.specs.Fault.{fault_of}
 use Rattle.pci_function.specs.declared.fault.Fault.{Fault}
 use Rattle.pci_tree.specs.Admission.{Admission}
 use Rattle.pci_tree.specs.Roots.{IsRootList}
-use Rattle.pciplan_held.specs.Refusals.{IsHeldRefusal, refusal_text, refusal_line}
-use Rattle.pciplan_held.specs.declared.unread.Unread.{Unread}
-use Rattle.pciplan_held.specs.declared.unread.Unread.TheVariants.{Refused as IsRefused, NotAdmitted}
+use Rattle.pciplan_c.specs.Refusals.{IsHeldRefusal, refusal_text, refusal_line}
+use Rattle.pciplan_c.specs.declared.unread.Unread.{Unread}
+use Rattle.pciplan_c.specs.declared.unread.Unread.TheVariants.{Refused as IsRefused, NotAdmitted}
 
 -- the message, or the line
 abbrev pub unread_text : Unread → List ℕ

@@ -1,7 +1,7 @@
 //! Writes as C has them.
 ghost use Rattle.std.specs.Prelude.{◌≡◌, ◌<◌, map, length, IfOk, IfErr};
 ghost use Rattle.pci_plan.specs.Writes.{write_value};
-ghost use Rattle.pciplan_held.specs.RegisterWrites.{AreWritesPut, write_value_of};
+ghost use Rattle.pciplan_c.specs.RegisterWrites.{AreWritesPut, write_value_of};
 
 use pci_base::memory::OutOfMemory;
 use pci_plan::write::Write;

@@ -1,6 +1,6 @@
 //! Puts bytes of a text, or registers, into memory of the caller's.
 ghost use Rattle.std.specs.Prelude.{◌≡◌, ◌<◌, length, IfOk, IfErr};
-ghost use Rattle.pciplan_held.specs.Puts.{IsPutInto};
+ghost use Rattle.pciplan_c.specs.Puts.{IsPutInto};
 
 /// Why nothing is answered.
 #[derive(Clone, Copy, Debug, PartialEq, Eq)]

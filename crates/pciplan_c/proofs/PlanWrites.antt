@@ -2,8 +2,8 @@
 use Rattle.std.proofs.Common.{◌≡◌, List, [], ◌∷◌, map, refl, ap}
 use Rattle.pci_plan.specs.Writes.{write_value}
 use Rattle.pci_plan.specs.declared.write.Write.{Write}
-use Rattle.pciplan_held.specs.RegisterWrites.{write_value_of}
-use Rattle.pciplan_held.specs.declared.register_write.RegisterWrite.{RegisterWrite}
+use Rattle.pciplan_c.specs.RegisterWrites.{write_value_of}
+use Rattle.pciplan_c.specs.declared.register_write.RegisterWrite.{RegisterWrite}
 
 abbrev pub write_of_c : Write → RegisterWrite
 write_of_c w = record {

@@ -15,7 +15,7 @@ pub enum Unread {
 }
 
 impl Unread {
-    ghost use Rattle.pciplan_held.specs.Texts.{unread_line, unread_status};
+    ghost use Rattle.pciplan_c.specs.Texts.{unread_line, unread_status};
 
     /// 1 where the texts have a fault, 2 where they are refused.
     pub fn status(self) -> u8
@@ -40,7 +40,7 @@ impl Unread {
 
 /// The line `no ..` of a fault, or the message of a refusal.
 impl fmt::Display for Unread {
-    ghost use Rattle.pciplan_held.specs.Texts.{unread_text};
+    ghost use Rattle.pciplan_c.specs.Texts.{unread_text};
 
     ghost output = { λ u. Some (unread_text u) };
 

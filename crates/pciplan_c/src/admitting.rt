@@ -4,7 +4,7 @@ ghost use Rattle.pci_spec.specs.Text.{IsTextOf};
 ghost use Rattle.pci_dump.specs.ReadFault.{IsTextFault};
 ghost use Rattle.pci_tree.specs.Refusals.{IsPairRefusal};
 ghost use Rattle.pci_tree.specs.Roots.{IsRootList, buses_of};
-ghost use Rattle.pciplan_held.specs.Texts.{AreTexts, AreNotAdmitted};
+ghost use Rattle.pciplan_c.specs.Texts.{AreTexts, AreNotAdmitted};
 
 use crate::held::Bytes;
 use crate::refusal::Refusal;

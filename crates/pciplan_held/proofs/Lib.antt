@@ -1,3 +1,0 @@
-pub mod NotAdmitted
-pub mod Lengths
-pub mod PlanWrites

@@ -1,4 +1,0 @@
-pub mod Refusals
-pub mod Puts
-pub mod RegisterWrites
-pub mod Texts
