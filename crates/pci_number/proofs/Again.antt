@@ -4,18 +4,18 @@ use Rattle.std.specs.Bool.{nat_le, nat_lt, ◌==◌}
 use Rattle.std.specs.List.{filter, list_all}
 use Rattle.std.proofs.lemmas.Bool.{eq-eqb, cases_Bool}
 use Rattle.pci_spec.specs.Header.{secondary_bus}
-use Rattle.number_spec.specs.Board.{Nodes, NoMore, Node, Board}
-use Rattle.number_spec.specs.Access.{nodes_behind, with_nodes}
-use Rattle.number_spec.specs.Walk.{has_bus}
-use Rattle.number_spec.specs.Numbered.{without_numbers}
-use Rattle.number_spec.specs.Room.{last_behind}
-use Rattle.number_spec.specs.Spare.{spare_room}
-use Rattle.number_spec.specs.NoBus.{first_without}
-use Rattle.number_spec.specs.Ready.{IsReady}
-use Rattle.number_spec.specs.Reached.{reached}
-use Rattle.number_spec.proofs.Kept.{same_walk}
-use Rattle.number_spec.proofs.SameRoom.{last_reached, roomy_numbers_are_one, all_roomy_numbers_are_one}
-use Rattle.number_spec.proofs.Spare.{spare_stays}
+use Rattle.pci_number.specs.Board.{Nodes, NoMore, Node, Board}
+use Rattle.pci_number.specs.Access.{nodes_behind, with_nodes}
+use Rattle.pci_number.specs.Walk.{has_bus}
+use Rattle.pci_number.specs.Numbered.{without_numbers}
+use Rattle.pci_number.specs.Room.{last_behind}
+use Rattle.pci_number.specs.SpareBuses.{spare_room}
+use Rattle.pci_number.specs.NoBus.{first_without}
+use Rattle.pci_number.specs.Ready.{IsReady}
+use Rattle.pci_number.specs.Reached.{reached}
+use Rattle.pci_number.proofs.Kept.{same_walk}
+use Rattle.pci_number.proofs.SameRoom.{last_reached, roomy_numbers_are_one, all_roomy_numbers_are_one}
+use Rattle.pci_number.proofs.SpareKept.{spare_stays}
 use Rattle.pci_number.specs.Answer.{named_by, highest_bus_of, IsAnswer}
 use Rattle.pci_number.specs.Again.{IsSameNumbering, NumbersStand}
 use Rattle.pci_number.specs.declared.number.Numbering.{Numbering}

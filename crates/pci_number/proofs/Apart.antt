@@ -1,12 +1,12 @@
 -- Bridges that are spread, and the board that is single with them.
 use Rattle.std.proofs.Common.{◌≡◌, ℕ, ◌<◌, ◌≤◌, ◌⊎◌, inl, inr, true, arith, refl, sym, ◌∙◌, subst, List, max}
 use Rattle.pci_spec.specs.Header.{secondary_bus, subordinate_bus}
-use Rattle.number_spec.specs.Board.{Nodes, NoMore, Node, Board, is_type_1, HasOneAnswer}
-use Rattle.number_spec.specs.Numbered.{without_numbers}
-use Rattle.number_spec.specs.Room.{shows, last_behind, have_numbers}
-use Rattle.number_spec.specs.Spread.{IsShut, IsSpread}
-use Rattle.number_spec.proofs.Roomy.{shown, roomy}
-use Rattle.number_spec.proofs.Spread.{ranged_is_spread}
+use Rattle.pci_number.specs.Board.{Nodes, NoMore, Node, Board, is_type_1, HasOneAnswer}
+use Rattle.pci_number.specs.Numbered.{without_numbers}
+use Rattle.pci_number.specs.Room.{shows, last_behind, have_numbers}
+use Rattle.pci_number.specs.Spread.{IsShut, IsSpread}
+use Rattle.pci_number.proofs.Roomy.{shown, roomy}
+use Rattle.pci_number.proofs.Spread.{ranged_is_spread}
 use Rattle.pci_number.specs.Seen.{View, IsClosed}
 use Rattle.pci_number.specs.Steps.{IsAlike}
 use Rattle.pci_number.specs.Less.{AreShut}

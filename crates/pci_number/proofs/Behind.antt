@@ -1,7 +1,7 @@
 -- A bridge behind which all have their numbers, whether there are bridges behind it or not.
 use Rattle.std.proofs.Common.{◌≡◌, ℕ, ◌+◌, ◌<◌, ◌≤◌, Bool, true, false, arith, subst, List}
 use Rattle.pci_spec.specs.Slot.{Slot}
-use Rattle.number_spec.specs.Board.{Board, HasOneAnswer}
+use Rattle.pci_number.specs.Board.{Board, HasOneAnswer}
 use Rattle.pci_number.specs.Steps.{IsBusOpened}
 use Rattle.pci_number.specs.Few.{IsOpenFew, IsBusFew}
 use Rattle.pci_number.specs.Walked.{IsBusNumbered, outset}

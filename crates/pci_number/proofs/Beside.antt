@@ -5,16 +5,16 @@ use Rattle.std.specs.List.{filter, flat_map, list_all}
 use Rattle.std.proofs.lemmas.Bool.{and_parts, leb-true, cases_Bool, eqb-false}
 use Rattle.std.proofs.lemmas.List.{append-nil, length-map}
 use Rattle.pci_spec.specs.Slot.{Slot}
-use Rattle.number_spec.specs.Board.{Nodes, NoMore, Node, RootBus, Board, on_bus, at_root, goes_to, behind_bridges, answers, HasOneAnswer}
-use Rattle.number_spec.specs.Access.{nodes_behind, with_nodes}
-use Rattle.number_spec.specs.Walk.{is_rising, is_all_found}
-use Rattle.number_spec.specs.Numbered.{without_numbers}
-use Rattle.number_spec.specs.Ready.{IsReady}
-use Rattle.number_spec.specs.Spread.{IsSpread}
-use Rattle.number_spec.proofs.Kept.{same_walk}
-use Rattle.number_spec.proofs.Roots.{with_root}
-use Rattle.number_spec.proofs.Single.{once_on_bus}
-use Rattle.number_spec.proofs.Spread.{once_at_root}
+use Rattle.pci_number.specs.Board.{Nodes, NoMore, Node, RootBus, Board, on_bus, at_root, goes_to, behind_bridges, answers, HasOneAnswer}
+use Rattle.pci_number.specs.Access.{nodes_behind, with_nodes}
+use Rattle.pci_number.specs.Walk.{is_rising, is_all_found}
+use Rattle.pci_number.specs.Numbered.{without_numbers}
+use Rattle.pci_number.specs.Ready.{IsReady}
+use Rattle.pci_number.specs.Spread.{IsSpread}
+use Rattle.pci_number.proofs.Kept.{same_walk}
+use Rattle.pci_number.proofs.ListedRoots.{with_root}
+use Rattle.pci_number.proofs.Single.{once_on_bus}
+use Rattle.pci_number.proofs.Spread.{once_at_root}
 use Rattle.pci_number.specs.Less.{without_own_numbers, IsLessOf}
 use Rattle.pci_number.specs.Single.{IsApart, IsSingleBeside}
 use Rattle.pci_number.proofs.RootView.{root_of, same_nodes, all_same, only_there}

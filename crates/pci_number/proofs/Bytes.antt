@@ -5,9 +5,9 @@ use Rattle.std.proofs.lemmas.Bool.{and_from, eq-eqb}
 use Rattle.std.proofs.lemmas.List.{set-set, set_comm}
 use Rattle.pci_spec.specs.Number.{byte_at}
 use Rattle.pci_spec.specs.Header.{primary_bus, secondary_bus, subordinate_bus}
-use Rattle.number_spec.specs.Board.{is_type_1}
-use Rattle.number_spec.specs.Numbered.{with_numbers}
-use Rattle.number_spec.specs.Room.{shows}
+use Rattle.pci_number.specs.Board.{is_type_1}
+use Rattle.pci_number.specs.Numbered.{with_numbers}
+use Rattle.pci_number.specs.Room.{shows}
 use Rattle.pci_number.specs.Seen.{IsKeptBut}
 use Rattle.pci_number.specs.Steps.{IsAlike}
 

@@ -9,19 +9,19 @@ use Rattle.pci_spec.specs.Slot.{Slot}
 use Rattle.pci_spec.proofs.BusRanges.{all_from}
 use Rattle.pci_spec.proofs.Members.{in_nil, in_cons_cases, in_head, in_tail, in_map_to, in_map_from, pairs_head, pairs_tail}
 use Rattle.pci_spec.specs.NestingLaws.{HasNoBusFault}
-use Rattle.number_spec.specs.Board.{Nodes, RootBus, Board, NodePlace, answers, access_of, HasOneAnswer}
-use Rattle.number_spec.specs.Access.{nodes_behind}
-use Rattle.number_spec.specs.Walk.{is_rising, is_all_found, is_walkable, walk}
-use Rattle.number_spec.specs.Room.{last_behind, IsNumberedWithRoom}
-use Rattle.number_spec.specs.Spare.{spare_room}
-use Rattle.number_spec.specs.Ready.{IsReady}
-use Rattle.number_spec.specs.Listed.{HasRoomyNumbers}
-use Rattle.number_spec.proofs.Among.{among_roots_answers_once}
-use Rattle.number_spec.proofs.Kept.{same_walk}
-use Rattle.number_spec.proofs.Listed.{roomy_has_no_bus_fault}
-use Rattle.number_spec.proofs.Roots.{roots_single}
-use Rattle.number_spec.proofs.Roomy.{roomy}
-use Rattle.number_spec.proofs.Single.{single}
+use Rattle.pci_number.specs.Board.{Nodes, RootBus, Board, NodePlace, answers, access_of, HasOneAnswer}
+use Rattle.pci_number.specs.Access.{nodes_behind}
+use Rattle.pci_number.specs.Walk.{is_rising, is_all_found, is_walkable, walk}
+use Rattle.pci_number.specs.Room.{last_behind, IsNumberedWithRoom}
+use Rattle.pci_number.specs.SpareBuses.{spare_room}
+use Rattle.pci_number.specs.Ready.{IsReady}
+use Rattle.pci_number.specs.Listed.{HasRoomyNumbers}
+use Rattle.pci_number.proofs.Among.{among_roots_answers_once}
+use Rattle.pci_number.proofs.Kept.{same_walk}
+use Rattle.pci_number.proofs.Listed.{roomy_has_no_bus_fault}
+use Rattle.pci_number.proofs.ListedRoots.{roots_single}
+use Rattle.pci_number.proofs.Roomy.{roomy}
+use Rattle.pci_number.proofs.Single.{single}
 use Rattle.pci_number.specs.Answer.{IsAnswer}
 use Rattle.pci_number.specs.Left.{IsRootNumbered}
 use Rattle.pci_number.specs.Calls.{AreReady, AreNumbered, AreItsRoots, RootsGetNumbers, RootsHaveNoBusFault, RootsGetSingle, RootsAnswerOnce}

@@ -2,9 +2,9 @@
 use Rattle.std.proofs.Common.{◌≡◌, ◌≢◌, ℕ, ◌+◌, inl, inr, Bool, true, false, arith, refl, ◌∙◌, List, Result}
 use Rattle.std.specs.Result.{IsErr}
 use Rattle.pci_spec.specs.Slot.{Slot}
-use Rattle.number_spec.specs.Board.{Nodes, Node, Board, is_type_1}
-use Rattle.number_spec.specs.Walk.{all_after}
-use Rattle.number_spec.proofs.Roomy.{shown}
+use Rattle.pci_number.specs.Board.{Nodes, Node, Board, is_type_1}
+use Rattle.pci_number.specs.Walk.{all_after}
+use Rattle.pci_number.proofs.Roomy.{shown}
 use Rattle.pci_number.specs.Seen.{View, code, IsSeen}
 use Rattle.pci_number.specs.Steps.{IsNumberPut, IsAlike, IsLooked, IsShownAt}
 use Rattle.pci_number.specs.Hushing.{Rest}

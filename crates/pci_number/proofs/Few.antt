@@ -2,12 +2,12 @@
 use Rattle.std.proofs.Common.{◌≡◌, ℕ, ◌+◌, ◌*◌, ◌<◌, ◌≤◌, inl, inr, Bool, true, false, arith, refl, sym, ◌∙◌, ap, List}
 use Rattle.std.proofs.lemmas.Bool.{cases_Bool}
 use Rattle.pci_spec.specs.Slot.{Slot}
-use Rattle.number_spec.specs.Board.{Nodes, NoMore, Node, Board, is_type_1}
-use Rattle.number_spec.specs.Access.{nodes_behind}
-use Rattle.number_spec.specs.Walk.{is_walkable, all_after}
-use Rattle.number_spec.specs.Numbered.{without_numbers}
-use Rattle.number_spec.specs.NoBus.{bridges}
-use Rattle.number_spec.proofs.Kept.{kind_stays}
+use Rattle.pci_number.specs.Board.{Nodes, NoMore, Node, Board, is_type_1}
+use Rattle.pci_number.specs.Access.{nodes_behind}
+use Rattle.pci_number.specs.Walk.{is_walkable, all_after}
+use Rattle.pci_number.specs.Numbered.{without_numbers}
+use Rattle.pci_number.specs.NoBus.{bridges}
+use Rattle.pci_number.proofs.Kept.{kind_stays}
 use Rattle.pci_number.specs.Seen.{View, code, IsSeen, IsClosed}
 use Rattle.pci_number.specs.Steps.{IsNumberPut, IsLooked, IsShownAt, IsHushed, IsBusOpened}
 use Rattle.pci_number.specs.Few.{bridges_on, IsFew, IsHushFew, IsOpenFew, IsBusFew}

@@ -4,10 +4,10 @@ use Rattle.std.specs.Bool.{◌==◌}
 use Rattle.std.proofs.lemmas.Bool.{and_parts, eqb-true, eq-eqb, false_from_ne_true}
 use Rattle.pci_spec.specs.Slot.{Slot}
 use Rattle.pci_spec.specs.Number.{byte_at}
-use Rattle.number_spec.specs.Board.{Nodes, NoMore, Node, Board, Here, on_bus, answers}
-use Rattle.number_spec.specs.Access.{IsByteRead, IsByteWritten, image_of, with_byte_of}
-use Rattle.number_spec.specs.Walk.{all_after}
-use Rattle.number_spec.proofs.Single.{none_before}
+use Rattle.pci_number.specs.Board.{Nodes, NoMore, Node, Board, Here, on_bus, answers}
+use Rattle.pci_number.specs.Access.{IsByteRead, IsByteWritten, image_of, with_byte_of}
+use Rattle.pci_number.specs.Walk.{all_after}
+use Rattle.pci_number.proofs.Single.{none_before}
 use Rattle.pci_number.specs.Seen.{View, code, IsSeen, AreLastNodes}
 
 -- on a bus

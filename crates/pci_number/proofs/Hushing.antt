@@ -3,8 +3,8 @@ use Rattle.std.proofs.Common.{◌≡◌, ℕ, ◌+◌, Bool, true, false, ◌||�
 use Rattle.std.proofs.lemmas.Bool.{both_ways}
 use Rattle.std.proofs.Math.Bool.{or-true, or-false}
 use Rattle.pci_spec.specs.Slot.{Slot}
-use Rattle.number_spec.specs.Board.{Nodes, NoMore, Node, Board, is_type_1}
-use Rattle.number_spec.specs.Numbered.{without_numbers}
+use Rattle.pci_number.specs.Board.{Nodes, NoMore, Node, Board, is_type_1}
+use Rattle.pci_number.specs.Numbered.{without_numbers}
 use Rattle.pci_number.specs.Seen.{View, AreLastNodes, has_bridges}
 use Rattle.pci_number.specs.Steps.{IsLooked, IsShownAt, IsLeftAt, IsHushed, IsHushLeft}
 use Rattle.pci_number.specs.Hushing.{ClosedUpTo, KeptUpTo, IsHushing}

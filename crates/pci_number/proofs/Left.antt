@@ -5,12 +5,12 @@ use Rattle.std.specs.List.{Contains}
 use Rattle.std.specs.List.Sorted.{IsStrictlyIncreasing}
 use Rattle.std.proofs.lemmas.Bool.{eqb-false, eq-eqb, cases_Bool}
 use Rattle.pci_spec.proofs.Members.{in_nil, in_cons_cases, in_map_to}
-use Rattle.number_spec.specs.Board.{Nodes, RootBus, Board}
-use Rattle.number_spec.specs.Access.{nodes_behind, with_nodes}
-use Rattle.number_spec.specs.Spare.{spare_room}
-use Rattle.number_spec.specs.Listed.{IsBoardListing, HasRoomyNumbers}
-use Rattle.number_spec.proofs.Listed.{roomy_has_no_bus_fault}
-use Rattle.number_spec.proofs.Spare.{no_spare_is_in_order}
+use Rattle.pci_number.specs.Board.{Nodes, RootBus, Board}
+use Rattle.pci_number.specs.Access.{nodes_behind, with_nodes}
+use Rattle.pci_number.specs.SpareBuses.{spare_room}
+use Rattle.pci_number.specs.Listed.{IsBoardListing, HasRoomyNumbers}
+use Rattle.pci_number.proofs.Listed.{roomy_has_no_bus_fault}
+use Rattle.pci_number.proofs.SpareKept.{no_spare_is_in_order}
 use Rattle.pci_number.specs.Answer.{named_by, IsAnswer}
 use Rattle.pci_number.specs.Left.{IsRootNumbered, OneRootIsNumbered, AloneHasNoBusFault, NoneFreeInOrder}
 use Rattle.pci_number.specs.declared.number.Numbering.{Numbering}

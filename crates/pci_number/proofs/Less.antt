@@ -5,7 +5,7 @@ use Rattle.std.proofs.lemmas.Bool.{and_parts, cases_Bool, eqb-true, leb-true, fa
 use Rattle.std.proofs.lemmas.List.{length-append, length-map}
 use Rattle.pci_spec.specs.Slot.{Slot}
 use Rattle.pci_spec.specs.Header.{secondary_bus, subordinate_bus}
-use Rattle.number_spec.specs.Board.{Nodes, Node, NodePlace, Behind, Next, is_type_1, on_bus, passes_on, behind_bridges}
+use Rattle.pci_number.specs.Board.{Nodes, Node, NodePlace, Behind, Next, is_type_1, on_bus, passes_on, behind_bridges}
 use Rattle.pci_number.specs.Steps.{IsAlike}
 use Rattle.pci_number.specs.Less.{IsLess, IsLessOf}
 use Rattle.pci_number.proofs.Views.{same_node, same_others}

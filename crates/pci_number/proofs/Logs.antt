@@ -1,8 +1,8 @@
 -- What an access of a true log shows, and what one access more makes of what was written.
 use Rattle.std.proofs.Common.{◌≡◌, ℕ, zero, suc, ◌+◌, List, [], ◌∷◌, true, false, cond, Option, Some, refl, sym, ap, subst, ◌∙◌, arith}
 use Rattle.std.specs.List.{slice_get}
-use Rattle.number_spec.specs.Access.{IsByteRead, IsByteWritten}
-use Rattle.number_spec.specs.Board.{Board}
+use Rattle.pci_number.specs.Access.{IsByteRead, IsByteWritten}
+use Rattle.pci_number.specs.Board.{Board}
 use Rattle.pci_spec.specs.Slot.{Slot}
 use Rattle.pci_number.specs.Logs.{TrueLog, AreTrueFrom, IsTrueOf, boards_stood, is_a_write, is_write, last_made, slot_of, write_of, writes_made}
 use Rattle.pci_number.specs.Stops.{number_write}

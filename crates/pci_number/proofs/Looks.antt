@@ -5,9 +5,9 @@ use Rattle.std.proofs.lemmas.Bool.{cases_lt, cases_eq, both_ways, eqb-true, eqb-
 use Rattle.pci_spec.specs.Slot.{Slot}
 use Rattle.pci_spec.specs.Number.{byte_at, has_bit}
 use Rattle.pci_spec.specs.Header.{vendor_id}
-use Rattle.number_spec.specs.Board.{Nodes, NoMore, Node, Board}
-use Rattle.number_spec.specs.Access.{IsByteRead}
-use Rattle.number_spec.specs.Walk.{all_after, is_walkable}
+use Rattle.pci_number.specs.Board.{Nodes, NoMore, Node, Board}
+use Rattle.pci_number.specs.Access.{IsByteRead}
+use Rattle.pci_number.specs.Walk.{all_after, is_walkable}
 use Rattle.pci_number.specs.Seen.{View, code, IsSeen, AreLastNodes}
 use Rattle.pci_number.specs.Steps.{IsLook, Absent, There}
 use Rattle.pci_number.proofs.Here.{read_here, read_nothing}

@@ -1,10 +1,10 @@
 -- What a node answers once numbering has answered, and where numbers run out.
 use Rattle.std.proofs.Common.{◌≡◌, ◌+◌, ◌≤◌, refl, sym, ◌∙◌, subst}
-use Rattle.number_spec.specs.Access.{nodes_behind}
-use Rattle.number_spec.specs.NoBus.{bridges}
-use Rattle.number_spec.specs.Spare.{spare_room}
-use Rattle.number_spec.proofs.Among.{among_roots_answers_once}
-use Rattle.number_spec.proofs.Enough.{enough_for_all}
+use Rattle.pci_number.specs.Access.{nodes_behind}
+use Rattle.pci_number.specs.NoBus.{bridges}
+use Rattle.pci_number.specs.SpareBuses.{spare_room}
+use Rattle.pci_number.proofs.Among.{among_roots_answers_once}
+use Rattle.pci_number.proofs.Enough.{enough_for_all}
 use Rattle.pci_number.specs.Left.{NoneFreeRunOut, FoundAnswersOnceOnBoard}
 use Rattle.pci_number.proofs.Again.{ready_stays}
 use Rattle.pci_number.proofs.Few.{same_bridges}

@@ -1,12 +1,12 @@
 -- A bridge gets a bus.
 use Rattle.std.proofs.Common.{◌≡◌, ℕ, ◌+◌, ◌≤◌, Bool, true, false, arith, refl, ◌∙◌, List}
 use Rattle.pci_spec.specs.Slot.{Slot}
-use Rattle.number_spec.specs.Board.{Nodes, Node, Board, is_type_1}
-use Rattle.number_spec.specs.Walk.{is_walkable}
-use Rattle.number_spec.specs.Numbered.{without_numbers}
-use Rattle.number_spec.specs.Room.{shows}
-use Rattle.number_spec.proofs.Kept.{same_walk}
-use Rattle.number_spec.proofs.Roomy.{shown}
+use Rattle.pci_number.specs.Board.{Nodes, Node, Board, is_type_1}
+use Rattle.pci_number.specs.Walk.{is_walkable}
+use Rattle.pci_number.specs.Numbered.{without_numbers}
+use Rattle.pci_number.specs.Room.{shows}
+use Rattle.pci_number.proofs.Kept.{same_walk}
+use Rattle.pci_number.proofs.Roomy.{shown}
 use Rattle.pci_number.specs.Seen.{View, code, IsSeen, IsClosed, IsKeptBut}
 use Rattle.pci_number.specs.Steps.{IsNumberPut, IsTouched, IsAlike, IsShownAt, IsLeftAt, IsHushed, IsHushLeft, OfOpening, IsBusOpened, IsOpenLeft}
 use Rattle.pci_number.proofs.Bytes.{other_byte, alike_subordinate, alike_then, shows_from}

@@ -2,10 +2,10 @@
 use Rattle.std.proofs.Common.{◌≡◌, ℕ, ◌+◌, ◌*◌, ◌≤◌, Bool, true, false, arith, ◌∙◌, ap, subst, List}
 use Rattle.std.proofs.lemmas.Bool.{both_ways}
 use Rattle.pci_spec.specs.Slot.{Slot}
-use Rattle.number_spec.specs.Board.{Nodes, Node, Board, is_type_1}
-use Rattle.number_spec.specs.Walk.{is_walkable, all_after}
-use Rattle.number_spec.specs.Room.{shows}
-use Rattle.number_spec.proofs.Single.{device_is_idle}
+use Rattle.pci_number.specs.Board.{Nodes, Node, Board, is_type_1}
+use Rattle.pci_number.specs.Walk.{is_walkable, all_after}
+use Rattle.pci_number.specs.Room.{shows}
+use Rattle.pci_number.proofs.Single.{device_is_idle}
 use Rattle.pci_number.specs.Seen.{View, code, IsSeen, AreLastNodes, IsClosed}
 use Rattle.pci_number.specs.Steps.{IsLooked, Absent, There}
 use Rattle.pci_number.specs.Hushing.{Rest, IsRestOf}

@@ -1,8 +1,8 @@
 -- What puts leave, one after the other.
 use Rattle.std.proofs.Common.{◌≡◌, ℕ, inl, inr, refl, sym, ◌∙◌, set}
 use Rattle.pci_spec.specs.Slot.{Slot}
-use Rattle.number_spec.specs.Board.{Board}
-use Rattle.number_spec.specs.Access.{IsByteRead, IsByteWritten}
+use Rattle.pci_number.specs.Board.{Board}
+use Rattle.pci_number.specs.Access.{IsByteRead, IsByteWritten}
 use Rattle.pci_number.specs.Steps.{IsNumberPut, IsTouched, IsLeftAt, IsShownAt}
 use Rattle.pci_number.proofs.Here.{read_here, write_here}
 use Rattle.pci_number.proofs.Bytes.{other_byte, alike_primary, alike_secondary, alike_subordinate, alike_then, shows_from}

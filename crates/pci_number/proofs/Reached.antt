@@ -6,8 +6,8 @@ use Rattle.std.proofs.Math.Bool.{or-false}
 use Rattle.pci_spec.specs.Number.{byte_at, has_bit}
 use Rattle.pci_spec.specs.Header.{vendor_id}
 use Rattle.pci_spec.proofs.BusRanges.{second_side}
-use Rattle.number_spec.specs.Board.{Nodes, NoMore, Node}
-use Rattle.number_spec.specs.Walk.{has_more, is_found, slot_comes_before, all_after, is_rising, is_all_found, is_walkable}
+use Rattle.pci_number.specs.Board.{Nodes, NoMore, Node}
+use Rattle.pci_number.specs.Walk.{has_more, is_found, slot_comes_before, all_after, is_rising, is_all_found, is_walkable}
 use Rattle.pci_number.specs.Seen.{AreLastNodes}
 
 before : (device function d f : ℕ) → slot_comes_before device function d f ≡ true → (device < d) ⊎ ((device ≡ d) × (function < f))

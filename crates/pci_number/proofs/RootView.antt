@@ -5,10 +5,10 @@ use Rattle.std.specs.List.{filter, list_all}
 use Rattle.std.proofs.lemmas.Bool.{and_parts, and_from, or_cases, or_left, or_right, eqb-true, eqb-false, eq-eqb, le-leb, leb-true, lt-ltb, ltb-true, cases_lt, cases_Bool, false_from_ne_true}
 use Rattle.std.proofs.lemmas.List.Folds.{list_all-map}
 use Rattle.pci_spec.proofs.BusRanges.{all_from, all_gives}
-use Rattle.number_spec.specs.Board.{Nodes, RootBus, Board, goes_to}
-use Rattle.number_spec.specs.Access.{nodes_behind, with_nodes}
-use Rattle.number_spec.specs.Ready.{IsReady}
-use Rattle.number_spec.proofs.Among.{only}
+use Rattle.pci_number.specs.Board.{Nodes, RootBus, Board, goes_to}
+use Rattle.pci_number.specs.Access.{nodes_behind, with_nodes}
+use Rattle.pci_number.specs.Ready.{IsReady}
+use Rattle.pci_number.proofs.Among.{only}
 
 -- how many roots have a number
 abbrev count : ℕ → Board → ℕ

@@ -4,16 +4,16 @@ use Rattle.std.specs.Bool.{◌==◌}
 use Rattle.std.specs.List.{flat_map}
 use Rattle.std.proofs.lemmas.Bool.{eq-eqb, ne_eqb}
 use Rattle.std.proofs.lemmas.List.{append-nil}
-use Rattle.number_spec.specs.Board.{Nodes, Board, node_image}
-use Rattle.number_spec.specs.Access.{nodes_behind, with_byte, with_nodes}
-use Rattle.number_spec.specs.Walk.{is_walkable}
-use Rattle.number_spec.specs.Numbered.{without_numbers}
-use Rattle.number_spec.specs.Room.{last_behind, IsNumberedWithRoom}
-use Rattle.number_spec.specs.Spare.{spare_room}
-use Rattle.number_spec.specs.NoBus.{first_without}
-use Rattle.number_spec.specs.Ready.{IsReady}
-use Rattle.number_spec.proofs.Kept.{same_walk}
-use Rattle.number_spec.proofs.Roots.{with_root}
+use Rattle.pci_number.specs.Board.{Nodes, Board, node_image}
+use Rattle.pci_number.specs.Access.{nodes_behind, with_byte, with_nodes}
+use Rattle.pci_number.specs.Walk.{is_walkable}
+use Rattle.pci_number.specs.Numbered.{without_numbers}
+use Rattle.pci_number.specs.Room.{last_behind, IsNumberedWithRoom}
+use Rattle.pci_number.specs.SpareBuses.{spare_room}
+use Rattle.pci_number.specs.NoBus.{first_without}
+use Rattle.pci_number.specs.Ready.{IsReady}
+use Rattle.pci_number.proofs.Kept.{same_walk}
+use Rattle.pci_number.proofs.ListedRoots.{with_root}
 use Rattle.pci_number.specs.Seen.{View, IsSeen, IsClosed}
 use Rattle.pci_number.specs.Steps.{IsHushed, IsHushLeft}
 use Rattle.pci_number.specs.Walked.{IsBusNumbered, IsBusLeft, outset}

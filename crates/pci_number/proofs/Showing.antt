@@ -2,10 +2,10 @@
 use Rattle.std.proofs.Common.{◌≡◌, ℕ, ◌+◌, ◌≤◌, inl, inr, Bool, true, arith, refl, ◌∙◌, List, Result}
 use Rattle.std.specs.Result.{IsErr}
 use Rattle.pci_spec.specs.Slot.{Slot}
-use Rattle.number_spec.specs.Board.{Nodes, Node, Board, is_type_1, HasOneAnswer}
-use Rattle.number_spec.specs.Walk.{all_after, is_walkable}
-use Rattle.number_spec.specs.Room.{shows}
-use Rattle.number_spec.proofs.Roomy.{shown}
+use Rattle.pci_number.specs.Board.{Nodes, Node, Board, is_type_1, HasOneAnswer}
+use Rattle.pci_number.specs.Walk.{all_after, is_walkable}
+use Rattle.pci_number.specs.Room.{shows}
+use Rattle.pci_number.proofs.Roomy.{shown}
 use Rattle.pci_number.specs.Seen.{View, code, IsSeen, IsClosed}
 use Rattle.pci_number.specs.Steps.{IsNumberPut, IsAlike, IsShownAt, IsHushed}
 use Rattle.pci_number.specs.Less.{IsLessStep}

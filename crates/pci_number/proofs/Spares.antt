@@ -5,9 +5,9 @@ use Rattle.std.proofs.lemmas.Bool.{eq-eqb, ne_eqb, le-leb, lt-ltb, cases_Bool, f
 use Rattle.pci_spec.specs.Slot.{Slot}
 use Rattle.pci_spec.specs.Number.{byte_at, number_at, has_bit}
 use Rattle.pci_spec.specs.Capability.{pointer_at}
-use Rattle.number_spec.specs.Board.{Board}
-use Rattle.number_spec.specs.Access.{IsByteRead}
-use Rattle.number_spec.specs.Spare.{is_hot_plug, leads_to_slot, has_hot_plug_slot, spare_room}
+use Rattle.pci_number.specs.Board.{Board}
+use Rattle.pci_number.specs.Access.{IsByteRead}
+use Rattle.pci_number.specs.SpareBuses.{is_hot_plug, leads_to_slot, has_hot_plug_slot, spare_room}
 use Rattle.pci_number.specs.Spare.{IsSaidThere}
 use Rattle.pci_number.proofs.Here.{read_here}
 

@@ -3,11 +3,11 @@ use Rattle.std.proofs.Common.{◌≡◌, ℕ, ◌+◌, ◌<◌, ◌≤◌, inl, 
 use Rattle.std.specs.Result.{IsErr}
 use Rattle.std.proofs.lemmas.Bool.{both_ways}
 use Rattle.pci_spec.specs.Slot.{Slot}
-use Rattle.number_spec.specs.Board.{Nodes, Node, Board, is_type_1, HasOneAnswer}
-use Rattle.number_spec.specs.Numbered.{without_numbers}
-use Rattle.number_spec.specs.Room.{shows}
-use Rattle.number_spec.specs.Spare.{spare_room}
-use Rattle.number_spec.specs.Spread.{IsSpread}
+use Rattle.pci_number.specs.Board.{Nodes, Node, Board, is_type_1, HasOneAnswer}
+use Rattle.pci_number.specs.Numbered.{without_numbers}
+use Rattle.pci_number.specs.Room.{shows}
+use Rattle.pci_number.specs.SpareBuses.{spare_room}
+use Rattle.pci_number.specs.Spread.{IsSpread}
 use Rattle.pci_number.specs.Seen.{View, IsClosed}
 use Rattle.pci_number.specs.Steps.{IsNumberPut, IsLooked, IsAlike, IsBusOpened}
 use Rattle.pci_number.specs.Spare.{IsLed}

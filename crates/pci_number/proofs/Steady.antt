@@ -2,7 +2,7 @@
 use Rattle.std.proofs.Common.{◌≡◌, inl, inr, List, [], ◌∷◌, ◌++◌, refl, sym, ◌∙◌, ap, subst, Result, Ok, Err}
 use Rattle.std.specs.Result.{IsErr}
 use Rattle.std.proofs.lemmas.List.{append_assoc}
-use Rattle.number_spec.specs.Board.{Board}
+use Rattle.pci_number.specs.Board.{Board}
 use Rattle.pci_number.specs.Stood.{Each, Adds, Ends, IsOneMore, latest, EachStep, AddsSteps, EndsSteps, StepsOrEnds, board_moment}
 
 latest_join : (a b : Board) (xs ys : List Board) → latest a xs ≡ b → latest a (ys ++ xs) ≡ latest b ys

@@ -2,7 +2,7 @@
 use Rattle.std.proofs.Common.{◌≡◌, inl, inr, List, [], ◌∷◌, ◌++◌, refl, sym, ◌∙◌, ap, Result, Ok, Err}
 use Rattle.std.specs.Result.{IsErr}
 use Rattle.std.proofs.lemmas.List.{append_assoc}
-use Rattle.number_spec.specs.Board.{Board}
+use Rattle.pci_number.specs.Board.{Board}
 use Rattle.pci_number.specs.Stood.{Each, Adds, Ends, AddsOrEnds, IsOneMore, board_moment}
 
 each_both : (P : Board → Type 0) (xs ys : List Board) → Each P xs → Each P ys → Each P (xs ++ ys)

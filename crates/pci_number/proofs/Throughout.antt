@@ -1,14 +1,14 @@
 -- The board is single while numbers are given behind a root.
 use Rattle.std.proofs.Common.{ℕ, ◌≤◌, length, Bool, refl, sym, ◌∙◌, ap, subst, List, Result, Ok, ◌≡◌, ◌⊎◌, inl, inr, ◌∷◌, Err}
 use Rattle.std.specs.Result.{IsErr}
-use Rattle.number_spec.specs.Board.{Nodes, Board, answers, HasOneAnswer}
-use Rattle.number_spec.specs.Access.{nodes_behind, with_nodes}
-use Rattle.number_spec.specs.Ready.{IsReady}
+use Rattle.pci_number.specs.Board.{Nodes, Board, answers, HasOneAnswer}
+use Rattle.pci_number.specs.Access.{nodes_behind, with_nodes}
+use Rattle.pci_number.specs.Ready.{IsReady}
 use Rattle.pci_number.specs.Steps.{IsHushed}
 use Rattle.pci_number.specs.Less.{without_own_numbers, AreShut, IsLessStep}
 use Rattle.pci_number.specs.Single.{IsHushStep, IsSingleBeside, EndsSingle, ClosedOrStopped, IsSingleThroughout}
-use Rattle.number_spec.specs.Room.{last_behind}
-use Rattle.number_spec.specs.Spare.{spare_room}
+use Rattle.pci_number.specs.Room.{last_behind}
+use Rattle.pci_number.specs.SpareBuses.{spare_room}
 use Rattle.pci_number.specs.Walked.{IsBusNumbered, outset}
 use Rattle.pci_number.specs.declared.walk.Walk.{Walk}
 use Rattle.pci_number.specs.Stood.{Adds, Ends, AddsSteps, board_moment}

@@ -6,11 +6,11 @@ use Rattle.std.proofs.lemmas.List.{append-nil}
 use Rattle.std.proofs.lemmas.Simd.{map-map}
 use Rattle.pci_spec.specs.Slot.{Slot}
 use Rattle.pci_spec.specs.Header.{secondary_bus, subordinate_bus}
-use Rattle.number_spec.specs.Board.{Nodes, NoMore, Node, Behind, Next, is_type_1, on_bus, passes_on, behind_bridges}
-use Rattle.number_spec.specs.Numbered.{without_numbers}
-use Rattle.number_spec.specs.Room.{shows}
-use Rattle.number_spec.proofs.Roomy.{shown}
-use Rattle.number_spec.proofs.Single.{IsIdleTo, device_is_idle, outside_is_idle, rest_alone}
+use Rattle.pci_number.specs.Board.{Nodes, NoMore, Node, Behind, Next, is_type_1, on_bus, passes_on, behind_bridges}
+use Rattle.pci_number.specs.Numbered.{without_numbers}
+use Rattle.pci_number.specs.Room.{shows}
+use Rattle.pci_number.proofs.Roomy.{shown}
+use Rattle.pci_number.proofs.Single.{IsIdleTo, device_is_idle, outside_is_idle, rest_alone}
 use Rattle.pci_number.specs.Seen.{View, IsSeen, IsClosed}
 use Rattle.pci_number.specs.Steps.{IsAlike}
 

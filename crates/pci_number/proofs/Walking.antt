@@ -4,16 +4,16 @@ use Rattle.std.specs.Bool.{nat_lt}
 use Rattle.std.proofs.lemmas.Bool.{lt-ltb, ltb-true, or_parts, false_from_ne_true}
 use Rattle.pci_spec.specs.Slot.{Slot}
 use Rattle.pci_spec.specs.Header.{secondary_bus, subordinate_bus}
-use Rattle.number_spec.specs.Board.{Nodes, NoMore, Node, Board, is_type_1}
-use Rattle.number_spec.specs.Walk.{is_walkable, all_after, has_bus}
-use Rattle.number_spec.specs.Numbered.{without_numbers}
-use Rattle.number_spec.specs.Room.{shows, last_behind, have_numbers}
-use Rattle.number_spec.specs.Spare.{spare_room}
-use Rattle.number_spec.specs.NoBus.{first_slot, first_without}
-use Rattle.number_spec.proofs.Same.{first_device}
-use Rattle.number_spec.proofs.Spare.{spare_stays}
-use Rattle.number_spec.proofs.Roomy.{closed as shut_of}
-use Rattle.number_spec.proofs.Roomy.{shown, opened, within_last}
+use Rattle.pci_number.specs.Board.{Nodes, NoMore, Node, Board, is_type_1}
+use Rattle.pci_number.specs.Walk.{is_walkable, all_after, has_bus}
+use Rattle.pci_number.specs.Numbered.{without_numbers}
+use Rattle.pci_number.specs.Room.{shows, last_behind, have_numbers}
+use Rattle.pci_number.specs.SpareBuses.{spare_room}
+use Rattle.pci_number.specs.NoBus.{first_slot, first_without}
+use Rattle.pci_number.proofs.Same.{first_device}
+use Rattle.pci_number.proofs.SpareKept.{spare_stays}
+use Rattle.pci_number.proofs.Roomy.{closed as shut_of}
+use Rattle.pci_number.proofs.Roomy.{shown, opened, within_last}
 use Rattle.pci_number.specs.Seen.{View, code, IsSeen, IsClosed, has_bridges}
 use Rattle.pci_number.specs.Steps.{IsNumberPut, IsLooked, IsAlike, IsTouched, IsBusOpened, IsOpenLeft}
 use Rattle.pci_number.specs.Hushing.{KeptUpTo}

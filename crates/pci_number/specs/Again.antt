@@ -1,9 +1,9 @@
 -- What a second numbering answers and leaves.
 use Rattle.std.specs.Prelude.{◌≡◌, ℕ, None, IsTrue}
-use Rattle.number_spec.specs.Board.{Board}
-use Rattle.number_spec.specs.Access.{nodes_behind}
-use Rattle.number_spec.specs.Reached.{reached, only_bridges_lead}
-use Rattle.number_spec.specs.Ready.{IsReady}
+use Rattle.pci_number.specs.Board.{Board}
+use Rattle.pci_number.specs.Access.{nodes_behind}
+use Rattle.pci_number.specs.Reached.{reached, only_bridges_lead}
+use Rattle.pci_number.specs.Ready.{IsReady}
 use Rattle.pci_number.specs.Answer.{named_by, AnswersWhereReady}
 use Rattle.pci_number.specs.declared.number.Numbering.{Numbering}
 

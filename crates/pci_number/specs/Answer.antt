@@ -1,13 +1,13 @@
 -- What numbering answers.
 use Rattle.std.specs.Prelude.{◌≡◌, ℕ, Option, Some, None}
 use Rattle.pci_spec.specs.Slot.{Slot}
-use Rattle.number_spec.specs.Board.{Board}
-use Rattle.number_spec.specs.Access.{nodes_behind, with_nodes}
-use Rattle.number_spec.specs.Numbered.{without_numbers}
-use Rattle.number_spec.specs.Room.{last_behind, IsNumberedWithRoom}
-use Rattle.number_spec.specs.Spare.{spare_room}
-use Rattle.number_spec.specs.NoBus.{first_without}
-use Rattle.number_spec.specs.Ready.{IsReady}
+use Rattle.pci_number.specs.Board.{Board}
+use Rattle.pci_number.specs.Access.{nodes_behind, with_nodes}
+use Rattle.pci_number.specs.Numbered.{without_numbers}
+use Rattle.pci_number.specs.Room.{last_behind, IsNumberedWithRoom}
+use Rattle.pci_number.specs.SpareBuses.{spare_room}
+use Rattle.pci_number.specs.NoBus.{first_without}
+use Rattle.pci_number.specs.Ready.{IsReady}
 use Rattle.pci_number.specs.declared.number.Numbering.{Numbering}
 use Rattle.pci_number.specs.declared.number.Numbering.TheVariants.{Numbered, NoBus}
 

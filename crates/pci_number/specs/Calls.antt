@@ -5,10 +5,10 @@ use Rattle.std.specs.List.Sorted.{IsStrictlyIncreasing}
 use Rattle.pci_spec.specs.Slot.{Slot}
 use Rattle.pci_spec.specs.System.{System}
 use Rattle.pci_spec.specs.NestingLaws.{HasNoBusFault}
-use Rattle.number_spec.specs.Board.{RootBus, Board, NodePlace, answers, access_of, HasOneAnswer}
-use Rattle.number_spec.specs.Walk.{is_walkable, walk}
-use Rattle.number_spec.specs.Spare.{spare_room}
-use Rattle.number_spec.specs.Listed.{IsBoardListing, HasRoomyNumbers}
+use Rattle.pci_number.specs.Board.{RootBus, Board, NodePlace, answers, access_of, HasOneAnswer}
+use Rattle.pci_number.specs.Walk.{is_walkable, walk}
+use Rattle.pci_number.specs.SpareBuses.{spare_room}
+use Rattle.pci_number.specs.Listed.{IsBoardListing, HasRoomyNumbers}
 use Rattle.pci_number.specs.Answer.{named_by, AnswersWhereReady}
 use Rattle.pci_number.specs.declared.number.Numbering.{Numbering}
 

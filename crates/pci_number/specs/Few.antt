@@ -1,11 +1,11 @@
 -- How many writes numbering makes.
 use Rattle.std.specs.Prelude.{◌≡◌, ℕ, ◌+◌, ◌*◌, ◌≤◌, true, if◌then◌else◌}
 use Rattle.pci_spec.specs.Slot.{Slot}
-use Rattle.number_spec.specs.Board.{Nodes, NoMore, Node, Board, is_type_1}
-use Rattle.number_spec.specs.Access.{nodes_behind}
-use Rattle.number_spec.specs.Walk.{is_walkable}
-use Rattle.number_spec.specs.NoBus.{bridges}
-use Rattle.number_spec.specs.Ready.{IsReady}
+use Rattle.pci_number.specs.Board.{Nodes, NoMore, Node, Board, is_type_1}
+use Rattle.pci_number.specs.Access.{nodes_behind}
+use Rattle.pci_number.specs.Walk.{is_walkable}
+use Rattle.pci_number.specs.NoBus.{bridges}
+use Rattle.pci_number.specs.Ready.{IsReady}
 use Rattle.pci_number.specs.Seen.{View, IsSeen, IsClosed}
 use Rattle.pci_number.specs.Steps.{OfOpening}
 use Rattle.pci_number.specs.Walked.{Outset}

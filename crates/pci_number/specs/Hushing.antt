@@ -1,8 +1,8 @@
 -- The closing of the bridges on a bus under way.
 use Rattle.std.specs.Prelude.{◌≡◌, ℕ, ◌+◌, ◌*◌, ◌≤◌, Bool, true, ◌||◌}
-use Rattle.number_spec.specs.Board.{Nodes, Board}
-use Rattle.number_spec.specs.Walk.{is_walkable}
-use Rattle.number_spec.specs.Numbered.{without_numbers}
+use Rattle.pci_number.specs.Board.{Nodes, Board}
+use Rattle.pci_number.specs.Walk.{is_walkable}
+use Rattle.pci_number.specs.Numbered.{without_numbers}
 use Rattle.pci_number.specs.Seen.{View, IsSeen, AreLastNodes, IsClosed, has_bridges}
 
 -- the nodes on a bus from a place on, on a board

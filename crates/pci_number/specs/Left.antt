@@ -4,15 +4,15 @@ use Rattle.std.specs.List.{Contains}
 use Rattle.pci_spec.specs.Slot.{Slot}
 use Rattle.pci_spec.specs.System.{System}
 use Rattle.pci_spec.specs.NestingLaws.{HasNoBusFault}
-use Rattle.number_spec.specs.Board.{Nodes, RootBus, Board, NodePlace, answers, access_of}
-use Rattle.number_spec.specs.Walk.{walk}
-use Rattle.number_spec.specs.Numbered.{IsNumbered}
-use Rattle.number_spec.specs.Room.{IsNumberedWithRoom}
-use Rattle.number_spec.specs.Spare.{spare_room}
-use Rattle.number_spec.specs.NoBus.{first_without, bridges}
-use Rattle.number_spec.specs.Access.{nodes_behind}
-use Rattle.number_spec.specs.Ready.{IsReady}
-use Rattle.number_spec.specs.Listed.{IsBoardListing}
+use Rattle.pci_number.specs.Board.{Nodes, RootBus, Board, NodePlace, answers, access_of}
+use Rattle.pci_number.specs.Walk.{walk}
+use Rattle.pci_number.specs.Numbered.{IsNumbered}
+use Rattle.pci_number.specs.Room.{IsNumberedWithRoom}
+use Rattle.pci_number.specs.SpareBuses.{spare_room}
+use Rattle.pci_number.specs.NoBus.{first_without, bridges}
+use Rattle.pci_number.specs.Access.{nodes_behind}
+use Rattle.pci_number.specs.Ready.{IsReady}
+use Rattle.pci_number.specs.Listed.{IsBoardListing}
 use Rattle.pci_number.specs.Answer.{named_by, AnswersWhereReady}
 use Rattle.pci_number.specs.declared.number.Numbering.{Numbering}
 

@@ -2,10 +2,10 @@
 use Rattle.std.specs.Prelude.{◌≡◌, ℕ, ◌<◌, ◌≤◌, ◌⊎◌, true, Bool, if◌then◌else◌, List, length, Result}
 use Rattle.pci_spec.specs.Slot.{Slot}
 use Rattle.pci_spec.specs.Header.{secondary_bus, subordinate_bus}
-use Rattle.number_spec.specs.Board.{Nodes, NoMore, Node, Board, is_type_1, behind_bridges}
-use Rattle.number_spec.specs.Walk.{all_after, is_walkable}
-use Rattle.number_spec.specs.Numbered.{with_numbers, without_numbers}
-use Rattle.number_spec.specs.Spread.{IsShut}
+use Rattle.pci_number.specs.Board.{Nodes, NoMore, Node, Board, is_type_1, behind_bridges}
+use Rattle.pci_number.specs.Walk.{all_after, is_walkable}
+use Rattle.pci_number.specs.Numbered.{with_numbers, without_numbers}
+use Rattle.pci_number.specs.Spread.{IsShut}
 use Rattle.pci_number.specs.Seen.{View, code, IsSeen}
 use Rattle.pci_number.specs.Hushing.{Rest, IsRestOf}
 use Rattle.pci_number.specs.Stood.{BoardMoment, AddsSteps, StepsOrEnds}

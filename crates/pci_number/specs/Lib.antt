@@ -15,3 +15,15 @@ pub mod Calls
 pub mod Spare
 pub mod Logs
 pub mod Numberings
+pub mod Board
+pub mod Access
+pub mod Walk
+pub mod Numbered
+pub mod Room
+pub mod SpareKept
+pub mod Reached
+pub mod Listed
+pub mod NoBus
+pub mod Ready
+pub mod Spread
+pub mod NumberingLaws

@@ -3,8 +3,8 @@ use Rattle.std.specs.Prelude.{◌≡◌, ℕ, zero, suc, ◌+◌, ◌/◌, ◌%�
 use Rattle.std.specs.List.{slice_get}
 use Rattle.pci_spec.specs.Slot.{Slot}
 use Rattle.pci_spec.specs.Machine.{Write}
-use Rattle.number_spec.specs.Board.{Board}
-use Rattle.number_spec.specs.Access.{IsByteRead, IsByteWritten}
+use Rattle.pci_number.specs.Board.{Board}
+use Rattle.pci_number.specs.Access.{IsByteRead, IsByteWritten}
 use Rattle.pci_number.specs.Stops.{number_write}
 use Rattle.pci_number.specs.declared.access.Access.{Access}
 

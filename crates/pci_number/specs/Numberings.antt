@@ -1,6 +1,6 @@
 -- What numbering comes to where its accesses are made one by one.
 use Rattle.std.specs.Prelude.{ℕ, ◌≤◌, [], length, Result, Ok, Err, IfOk, IfErr}
-use Rattle.number_spec.specs.Ready.{IsReady}
+use Rattle.pci_number.specs.Ready.{IsReady}
 use Rattle.pci_number.specs.declared.number.Numbering.{Numbering}
 use Rattle.pci_number.specs.declared.stop.Stop.{Stop}
 use Rattle.pci_number.specs.declared.stop.Stop.TheVariants as stops

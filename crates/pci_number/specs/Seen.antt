@@ -4,10 +4,10 @@ use Rattle.pci_spec.specs.Slot.{Slot}
 use Rattle.pci_spec.specs.Number.{byte_at, has_bit}
 use Rattle.pci_spec.specs.Registers.{HEADER_TYPE}
 use Rattle.pci_spec.specs.Header.{vendor_id}
-use Rattle.number_spec.specs.Board.{Nodes, NoMore, Node, Board, NodePlace, is_type_1, on_bus, behind_bridges, node_image, answers}
-use Rattle.number_spec.specs.Access.{image_of, with_byte, with_byte_of}
-use Rattle.number_spec.specs.Walk.{all_after, is_walkable}
-use Rattle.number_spec.specs.Room.{shows}
+use Rattle.pci_number.specs.Board.{Nodes, NoMore, Node, Board, NodePlace, is_type_1, on_bus, behind_bridges, node_image, answers}
+use Rattle.pci_number.specs.Access.{image_of, with_byte, with_byte_of}
+use Rattle.pci_number.specs.Walk.{all_after, is_walkable}
+use Rattle.pci_number.specs.Room.{shows}
 
 -- A board in which some nodes are left out: the board with them, and where their places are on it.
 pub record View : Type 0 where

@@ -1,13 +1,13 @@
 -- The board is single while numbers are given.
 use Rattle.std.specs.Prelude.{◌≡◌, ℕ, ◌+◌, ◌≤◌, ◌⊎◌, true, Bool, List, ◌∷◌, Result, Ok, Err, length}
 use Rattle.pci_spec.specs.Slot.{Slot}
-use Rattle.number_spec.specs.Board.{Nodes, NoMore, Node, Board, is_type_1, answers, HasOneAnswer}
-use Rattle.number_spec.specs.Access.{nodes_behind, with_nodes}
-use Rattle.number_spec.specs.Walk.{all_after, is_walkable}
-use Rattle.number_spec.specs.Room.{shows}
-use Rattle.number_spec.specs.Numbered.{without_numbers}
-use Rattle.number_spec.specs.Spread.{IsSpread}
-use Rattle.number_spec.specs.Ready.{IsReady}
+use Rattle.pci_number.specs.Board.{Nodes, NoMore, Node, Board, is_type_1, answers, HasOneAnswer}
+use Rattle.pci_number.specs.Access.{nodes_behind, with_nodes}
+use Rattle.pci_number.specs.Walk.{all_after, is_walkable}
+use Rattle.pci_number.specs.Room.{shows}
+use Rattle.pci_number.specs.Numbered.{without_numbers}
+use Rattle.pci_number.specs.Spread.{IsSpread}
+use Rattle.pci_number.specs.Ready.{IsReady}
 use Rattle.pci_number.specs.Seen.{View, code, IsSeen, IsClosed}
 use Rattle.pci_number.specs.Hushing.{Rest, IsRestOf}
 use Rattle.pci_number.specs.Less.{without_own_numbers, AreShut}

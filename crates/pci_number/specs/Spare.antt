@@ -1,9 +1,9 @@
 -- What is kept free behind a bridge, as it is seen from the bus that the bridge is on.
 use Rattle.std.specs.Prelude.{◌≡◌, ℕ, ◌+◌, ◌≤◌, min, true, List}
 use Rattle.pci_spec.specs.Slot.{Slot}
-use Rattle.number_spec.specs.Board.{Nodes, Node, Board}
-use Rattle.number_spec.specs.Walk.{all_after}
-use Rattle.number_spec.specs.Spare.{has_hot_plug_slot, leads_to_slot, spare_room}
+use Rattle.pci_number.specs.Board.{Nodes, Node, Board}
+use Rattle.pci_number.specs.Walk.{all_after}
+use Rattle.pci_number.specs.SpareBuses.{has_hot_plug_slot, leads_to_slot, spare_room}
 use Rattle.pci_number.specs.Seen.{View, code, IsSeen}
 
 -- said of the image of the node at a slot

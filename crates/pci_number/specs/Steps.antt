@@ -2,10 +2,10 @@
 use Rattle.std.specs.Prelude.{◌≡◌, ℕ, ◌+◌, ◌*◌, ◌≤◌, Bool, true, false, if◌then◌else◌, List}
 use Rattle.pci_spec.specs.Slot.{Slot}
 use Rattle.pci_spec.specs.Number.{byte_at}
-use Rattle.number_spec.specs.Board.{Nodes, Node, Board, is_type_1}
-use Rattle.number_spec.specs.Walk.{all_after, is_walkable}
-use Rattle.number_spec.specs.Room.{shows}
-use Rattle.number_spec.specs.Numbered.{with_numbers, without_numbers}
+use Rattle.pci_number.specs.Board.{Nodes, Node, Board, is_type_1}
+use Rattle.pci_number.specs.Walk.{all_after, is_walkable}
+use Rattle.pci_number.specs.Room.{shows}
+use Rattle.pci_number.specs.Numbered.{with_numbers, without_numbers}
 use Rattle.pci_number.specs.Seen.{View, code, IsSeen, IsKeptBut, AreLastNodes, IsClosed, has_bridges}
 use Rattle.pci_number.specs.declared.look.Found.{Found}
 

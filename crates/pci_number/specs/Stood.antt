@@ -1,6 +1,6 @@
 -- The boards that stand after each write, the last one first.
 use Rattle.std.specs.Prelude.{◌≡◌, ◌⊎◌, List, [], ◌∷◌, ◌++◌, Result, Ok, Err}
-use Rattle.number_spec.specs.Board.{Board}
+use Rattle.pci_number.specs.Board.{Board}
 
 -- said of each board in a list
 abbrev pub Each : (Board → Type 0) → List Board → Type 0

@@ -2,8 +2,8 @@
 use Rattle.std.specs.Prelude.{◌≡◌, ◌≢◌, ℕ, Option, Some, Result, Ok, Err}
 use Rattle.pci_spec.specs.Slot.{Slot}
 use Rattle.pci_spec.specs.Machine.{Write}
-use Rattle.number_spec.specs.Board.{Board}
-use Rattle.number_spec.specs.Access.{IsByteRead}
+use Rattle.pci_number.specs.Board.{Board}
+use Rattle.pci_number.specs.Access.{IsByteRead}
 use Rattle.pci_number.specs.declared.stop.Stop.{Stop}
 use Rattle.pci_number.specs.declared.stop.Stop.TheVariants.{Stuck, Port}
 

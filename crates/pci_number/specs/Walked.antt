@@ -1,12 +1,12 @@
 -- What the walk over a bus leaves, as it is seen from that bus.
 use Rattle.std.specs.Prelude.{◌≡◌, ℕ, true, Option, Some}
 use Rattle.pci_spec.specs.Slot.{Slot}
-use Rattle.number_spec.specs.Board.{Nodes, Board}
-use Rattle.number_spec.specs.Walk.{is_walkable}
-use Rattle.number_spec.specs.Numbered.{without_numbers}
-use Rattle.number_spec.specs.Room.{last_behind, have_numbers}
-use Rattle.number_spec.specs.Spare.{spare_room}
-use Rattle.number_spec.specs.NoBus.{first_slot, first_without}
+use Rattle.pci_number.specs.Board.{Nodes, Board}
+use Rattle.pci_number.specs.Walk.{is_walkable}
+use Rattle.pci_number.specs.Numbered.{without_numbers}
+use Rattle.pci_number.specs.Room.{last_behind, have_numbers}
+use Rattle.pci_number.specs.SpareBuses.{spare_room}
+use Rattle.pci_number.specs.NoBus.{first_slot, first_without}
 use Rattle.pci_number.specs.Seen.{View, IsSeen, IsClosed}
 use Rattle.pci_number.specs.declared.walk.Walk.{Walk}
 

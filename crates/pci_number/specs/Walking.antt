@@ -1,11 +1,11 @@
 -- The walk over a bus under way.
 use Rattle.std.specs.Prelude.{◌≡◌, ℕ, Bool, true}
-use Rattle.number_spec.specs.Board.{Nodes, Board}
-use Rattle.number_spec.specs.Walk.{is_walkable}
-use Rattle.number_spec.specs.Numbered.{without_numbers}
-use Rattle.number_spec.specs.Room.{last_behind, have_numbers}
-use Rattle.number_spec.specs.Spare.{spare_room}
-use Rattle.number_spec.specs.NoBus.{first_slot, first_without}
+use Rattle.pci_number.specs.Board.{Nodes, Board}
+use Rattle.pci_number.specs.Walk.{is_walkable}
+use Rattle.pci_number.specs.Numbered.{without_numbers}
+use Rattle.pci_number.specs.Room.{last_behind, have_numbers}
+use Rattle.pci_number.specs.SpareBuses.{spare_room}
+use Rattle.pci_number.specs.NoBus.{first_slot, first_without}
 use Rattle.pci_number.specs.Seen.{View, IsSeen, IsClosed}
 use Rattle.pci_number.specs.Hushing.{Rest, IsRestOf, KeptUpTo}
 use Rattle.pci_number.specs.Walked.{Outset}

@@ -1,7 +1,7 @@
 //! Whether a bridge has a hot-plug slot, by the registers that a dump shows (PCI 3.0, 6.7; PCI
 //! Express Base 3.0, 7.8.2 and 7.8.9; SHPC 1.0).
 ghost use Rattle.std.specs.Prelude.{◌≡◌};
-ghost use Rattle.number_spec.specs.Spare.{is_hot_plug, has_hot_plug_slot};
+ghost use Rattle.pci_number.specs.SpareBuses.{is_hot_plug, has_hot_plug_slot};
 
 use crate::spare::{
     EXPRESS, EXPRESS_CAPABILITIES_HIGH, FIRST_PLACE, HOT_PLUG_CONTROLLER, MOST_PLACES,

@@ -1,6 +1,9 @@
 //! Bus numbers for a board that has none: `number::number` gives them over any port to the board's
 //! configuration space (`port::BoardPort`), depth first in the order of devices and functions
 //! (Bridge 1.2, 3.2.5.2 to 3.2.5.4).
+//!
+//! Definitions: where an access to configuration space goes on a board whose bridges may have any bus numbers, and which
+//! numbers the bridges of a board get. `numbering_laws` has laws of them.
 #![tactic(auto)]
 
 pub mod access;
@@ -10,6 +13,7 @@ mod hush;
 mod lead;
 mod look;
 pub mod number;
+pub mod numbering_laws;
 mod open;
 pub mod port;
 mod put;

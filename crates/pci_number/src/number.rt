@@ -1,7 +1,7 @@
 //! Bus numbers for what is behind a root bus.
 ghost use Rattle.std.specs.Prelude.{◌≡◌, ◌+◌, IfOk, IfErr};
 ghost use Rattle.pci_number.specs.Stops.{failures_at, IsNumberingStop};
-ghost use Rattle.number_spec.specs.Ready.{IsReady};
+ghost use Rattle.pci_number.specs.Ready.{IsReady};
 ghost use Rattle.pci_number.specs.Answer.{AnswersWhereReady, Keeps, named_by, highest_bus_of};
 ghost use Rattle.pci_number.specs.Few.{IsFew};
 ghost use Rattle.pci_number.specs.Single.{IsSingleThroughout, EndsSingle};

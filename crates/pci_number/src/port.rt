@@ -1,8 +1,8 @@
 //! A way to the configuration space of a board whose bridges may have any bus numbers.
 ghost use Rattle.std.specs.Prelude.{◌≡◌, ◌+◌, ℕ, List, ◌∷◌, Option, Some, IfOk, OnOk, OnErr};
 ghost use Rattle.pci_spec.specs.Machine.{Write};
-ghost use Rattle.number_spec.specs.Board.{Board};
-ghost use Rattle.number_spec.specs.Access.{IsByteRead, IsByteWritten};
+ghost use Rattle.pci_number.specs.Board.{Board};
+ghost use Rattle.pci_number.specs.Access.{IsByteRead, IsByteWritten};
 ghost use Rattle.pci_number.specs.Stops.{failures_of_access, number_write};
 
 use pci_base::slot::Slot;

@@ -2,7 +2,7 @@
 //! 1.0).
 ghost use Rattle.std.specs.Prelude.{◌≡◌, ◌+◌, ◌*◌, ◌/◌, ◌<◌, ◌&&◌, IfOk};
 ghost use Rattle.pci_spec.specs.Number.{byte_at, has_bit};
-ghost use Rattle.number_spec.specs.Spare.{is_hot_plug, has_hot_plug_slot, spare_room};
+ghost use Rattle.pci_number.specs.SpareBuses.{is_hot_plug, has_hot_plug_slot, spare_room};
 ghost use Rattle.pci_number.specs.Stops.{failures_of_access};
 ghost use Rattle.pci_number.specs.Spare.{IsSaidThere};
 

@@ -1,7 +1,7 @@
 -- The bridges with a hot-plug slot behind which room is wanted, and how much of it.
 use Rattle.std.specs.Prelude.{ℕ, ◌==◌, min, Bool, not, ◌&&◌, if◌then◌else◌, List, [], map, Option, None, Some}
 use Rattle.std.specs.List.{filter}
-use Rattle.number_spec.specs.Spare.{has_hot_plug_slot}
+use Rattle.pci_number.specs.SpareBuses.{has_hot_plug_slot}
 use Rattle.pci_spec.specs.Slot.{Slot}
 use Rattle.pci_spec.specs.Text.{Block}
 use Rattle.settle_spec.specs.Lists.{Spares}

@@ -1,7 +1,7 @@
 //! The bridges with a hot-plug slot behind which room is wanted.
 ghost use Rattle.std.specs.Prelude.{◌≡◌, IfOk};
 ghost use Rattle.std.specs.Option.{option_map};
-ghost use Rattle.number_spec.specs.Spare.{has_hot_plug_slot};
+ghost use Rattle.pci_number.specs.SpareBuses.{has_hot_plug_slot};
 ghost use Rattle.pci_first_fit.specs.Slots.{spares_value};
 ghost use Rattle.pciplan_tasks.specs.Slots.{is_room_wanted, slots_shown, slots_for, spares_said};
 

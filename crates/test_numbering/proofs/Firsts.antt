@@ -4,7 +4,7 @@ use Rattle.std.specs.Bool.{◌==◌, if◌then◌else◌}
 use Rattle.pci_spec.specs.Slot.{Slot}
 use Rattle.pci_spec.specs.Number.{byte_at}
 use Rattle.pci_spec.specs.Header.{secondary_bus}
-use Rattle.number_spec.specs.Board.{Nodes, Node, NodePlace, Behind, Next, is_type_1, passes_on, on_bus, behind_bridges}
+use Rattle.pci_number.specs.Board.{Nodes, Node, NodePlace, Behind, Next, is_type_1, passes_on, on_bus, behind_bridges}
 use Rattle.test_numbering.specs.Tree.{first_byte, IsPutFirst}
 
 -- the nodes behind a bridge that answer

@@ -5,8 +5,8 @@ use Rattle.std.specs.List.{filter, flat_map, list_all}
 use Rattle.std.proofs.lemmas.Bool.{and_parts, and_from, or_cases, or_right, eqb-true, eq-eqb, ne_eqb, le-leb, leb-true, lt-ltb, ltb-true, cases_Bool, false_from_ne_true}
 use Rattle.pci_spec.specs.Slot.{Slot}
 use Rattle.pci_spec.specs.Number.{byte_at}
-use Rattle.number_spec.specs.Board.{Nodes, RootBus, Board, NodePlace, on_bus, behind_bridges, at_root, goes_to, answers, node_image}
-use Rattle.number_spec.specs.Access.{IsByteRead, IsByteWritten, nodes_behind, with_byte, with_nodes}
+use Rattle.pci_number.specs.Board.{Nodes, RootBus, Board, NodePlace, on_bus, behind_bridges, at_root, goes_to, answers, node_image}
+use Rattle.pci_number.specs.Access.{IsByteRead, IsByteWritten, nodes_behind, with_byte, with_nodes}
 use Rattle.test_numbering.specs.Tree.{all_above, roots_rise, first_byte, IsPutFirst, first_byte_of, IsPutFirstOf}
 
 -- the nodes at a root that answer, with its number

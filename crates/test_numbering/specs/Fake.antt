@@ -1,7 +1,7 @@
 -- A board with one root, bus 00, and on it one bridge, 00:01.0, with nothing behind it.
 use Rattle.std.specs.Prelude.{ℕ, Option, Some, None, List, [], ◌∷◌, map, reverse}
 use Rattle.pci_spec.specs.Machine.{Write}
-use Rattle.number_spec.specs.Board.{NoMore, Node, Board}
+use Rattle.pci_number.specs.Board.{NoMore, Node, Board}
 use Rattle.pci_number.specs.Stops.{number_write}
 use Rattle.pci_number.specs.declared.stop.NotTaken.{NotTaken}
 

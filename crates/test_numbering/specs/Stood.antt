@@ -1,7 +1,7 @@
 -- What is kept of the writes to a board in memory.
 use Rattle.std.specs.Prelude.{Option, Some, None, List, [], ◌∷◌, map, reverse}
 use Rattle.pci_spec.specs.Machine.{Write}
-use Rattle.number_spec.specs.Board.{Board}
+use Rattle.pci_number.specs.Board.{Board}
 use Rattle.pci_number.specs.Stops.{number_write}
 use Rattle.test_numbering.specs.declared.tree.Stood.{Stood}
 use Rattle.test_numbering.specs.Tree.{board_of}

@@ -3,8 +3,8 @@
 use Rattle.std.specs.Prelude.{◌≡◌, ℕ, nat_lt, Bool, true, false, ◌&&◌, Option, Some, None, List, [], ◌∷◌}
 use Rattle.std.specs.List.{list_all}
 use Rattle.pci_spec.specs.Number.{byte_at}
-use Rattle.number_spec.specs.Board.{Nodes, NoMore, Node, Board, NodePlace, node_image}
-use Rattle.number_spec.specs.Access.{image_of, with_byte, with_byte_of}
+use Rattle.pci_number.specs.Board.{Nodes, NoMore, Node, Board, NodePlace, node_image}
+use Rattle.pci_number.specs.Access.{image_of, with_byte, with_byte_of}
 use Rattle.test_numbering.specs.declared.bus.Bus.{Bus}
 use Rattle.test_numbering.specs.declared.bus.Bus.TheVariants.{Empty, Holds'}
 use Rattle.test_numbering.specs.declared.roots.Roots.{Roots}

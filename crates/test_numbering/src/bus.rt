@@ -1,6 +1,6 @@
 //! The nodes on a bus of a board in memory, and those behind them.
 ghost use Rattle.std.specs.Prelude.{◌≡◌, ◌==◌, ◌&&◌, ℕ, set, IfOk};
-ghost use Rattle.number_spec.specs.Board.{is_type_1, passes_on, on_bus, behind_bridges};
+ghost use Rattle.pci_number.specs.Board.{is_type_1, passes_on, on_bus, behind_bridges};
 ghost use Rattle.pci_spec.specs.Header.{secondary_bus};
 ghost use Rattle.test_numbering.specs.Tree.{nodes_of, first_byte, IsPutFirst};
 

@@ -1,6 +1,6 @@
 //! The root buses of a board in memory.
 ghost use Rattle.std.specs.Prelude.{◌≡◌, ◌&&◌, nat_le, IfOk, IsTrue};
-ghost use Rattle.number_spec.specs.Board.{answers};
+ghost use Rattle.pci_number.specs.Board.{answers};
 ghost use Rattle.test_numbering.specs.Tree.{board_of, all_above, roots_rise, first_byte_of, IsPutFirstOf};
 
 use crate::bus::Bus;

@@ -1,6 +1,6 @@
 //! A port to a board in memory: a tree of nodes behind each root.
 ghost use Rattle.std.specs.Prelude.{◌≡◌, IsTrue, IfOk};
-ghost use Rattle.number_spec.specs.Board.{answers};
+ghost use Rattle.pci_number.specs.Board.{answers};
 ghost use Rattle.test_numbering.specs.Tree.{board_of, roots_rise, IsPutFirstOf};
 
 use crate::roots::Roots;

@@ -1,8 +1,8 @@
 -- The first write of numbering, on a board where two bridges lead to bus 5.
 use Rattle.std.proofs.Common.{◌≡◌, ℕ, List, [], ◌∷◌, ◌++◌, refl, sym, ◌∙◌, subst, length, Ok}
-use Rattle.number_spec.specs.Board.{Board, answers}
-use Rattle.number_spec.specs.Access.{nodes_behind}
-use Rattle.number_spec.proofs.Examples.Boards.{slot, board, pair}
+use Rattle.pci_number.specs.Board.{Board, answers}
+use Rattle.pci_number.specs.Access.{nodes_behind}
+use Rattle.pci_number.proofs.BoardExamples.Boards.{slot, board, pair}
 use Rattle.pci_number.specs.Less.{AreShut}
 use Rattle.pci_number.specs.Stood.{latest, board_moment}
 use Rattle.pci_number.specs.Single.{IsSingleBeside, IsSingleThroughout}

@@ -1,5 +1,5 @@
 use Rattle.std.proofs.Common.{◌≡◌, suc, ◌+◌, ◌-◌, ◌/◌, ◌*◌, arith, sym, ◌∙◌, ap}
-use Rattle.number_spec.specs.Spare.{leads_to_slot}
+use Rattle.pci_number.specs.SpareBuses.{leads_to_slot}
 use Rattle.pci_number.proofs.Spares.{no_list_there, first_place, in_header, at_slot, past_place}
 use Rattle.pci_number.proofs.hot_plug.has_hot_plug_slot.Goals as goal
 

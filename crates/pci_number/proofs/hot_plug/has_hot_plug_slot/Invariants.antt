@@ -1,5 +1,5 @@
 use Rattle.std.proofs.Common.{◌≡◌, ◌-◌, ◌%◌}
-use Rattle.number_spec.specs.Spare.{leads_to_slot, has_hot_plug_slot}
+use Rattle.pci_number.specs.SpareBuses.{leads_to_slot, has_hot_plug_slot}
 use Rattle.pci_number.proofs.hot_plug.has_hot_plug_slot.Given as goal
 
 abbrev pub invariant-loop-n : goal.invariant-loop-n

@@ -1,7 +1,7 @@
 use Rattle.std.proofs.Common.{arith, sym, ◌∙◌, ap, subst}
 use Rattle.std.specs.Bool.{◌==◌}
 use Rattle.std.proofs.lemmas.Bool.{eq-eqb, ne_eqb}
-use Rattle.number_spec.specs.Access.{IsByteRead}
+use Rattle.pci_number.specs.Access.{IsByteRead}
 use Rattle.pci_number.proofs.Looks.{not_looked, none_first, none_later, there_first, there_later}
 use Rattle.pci_number.proofs.look.look.Goals as goal
 

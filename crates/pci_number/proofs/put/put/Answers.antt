@@ -1,5 +1,5 @@
 use Rattle.std.proofs.Common.{subst}
-use Rattle.number_spec.specs.Access.{IsByteWritten}
+use Rattle.pci_number.specs.Access.{IsByteWritten}
 use Rattle.pci_number.proofs.Errs.{always_err}
 use Rattle.pci_number.proofs.Puts.{put_already, put_new, touched}
 use Rattle.pci_number.proofs.put.put.Goals as goal

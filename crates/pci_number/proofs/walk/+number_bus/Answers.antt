@@ -1,5 +1,5 @@
 use Rattle.std.proofs.Common.{◌+◌, true, false, arith, refl, ap, subst}
-use Rattle.number_spec.specs.Board.{HasOneAnswer}
+use Rattle.pci_number.specs.Board.{HasOneAnswer}
 use Rattle.pci_number.specs.Steps.{IsOpenLeft}
 use Rattle.pci_number.specs.Stood.{Adds}
 use Rattle.pci_number.specs.Walked.{outset}

@@ -1,5 +1,5 @@
 use Rattle.std.proofs.Common.{◌≡◌, refl, sym, ◌∙◌, ap, ◌&&◌}
-use Rattle.number_spec.specs.Board.{is_type_1, passes_on, on_bus, behind_bridges}
+use Rattle.pci_number.specs.Board.{is_type_1, passes_on, on_bus, behind_bridges}
 use Rattle.test_numbering.specs.Tree.{nodes_of, first_byte}
 use Rattle.test_numbering.proofs.Firsts.{beyond, beyond_leads, beyond_passes, beyond_ends, byte_found, byte_none}
 use Rattle.test_numbering.proofs.bus.Bus.+byte_behind.Goals as goal

@@ -1,5 +1,5 @@
 use Rattle.std.proofs.Common.{refl, sym, ◌∙◌, ap}
-use Rattle.number_spec.specs.Board.{on_bus}
+use Rattle.pci_number.specs.Board.{on_bus}
 use Rattle.test_numbering.specs.Tree.{nodes_of, first_byte}
 use Rattle.test_numbering.proofs.Firsts.{byte_hit, byte_miss}
 use Rattle.test_numbering.proofs.bus.Bus.+byte_here.Goals as goal

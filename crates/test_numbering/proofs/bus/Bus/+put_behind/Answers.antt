@@ -1,5 +1,5 @@
 use Rattle.std.proofs.Common.{◌≡◌, refl, sym, ◌∙◌, ap, subst, false, ◌&&◌}
-use Rattle.number_spec.specs.Board.{is_type_1, passes_on, on_bus, behind_bridges}
+use Rattle.pci_number.specs.Board.{is_type_1, passes_on, on_bus, behind_bridges}
 use Rattle.test_numbering.specs.Tree.{nodes_of, IsPutFirst}
 use Rattle.test_numbering.proofs.Firsts.{beyond, beyond_leads, beyond_passes, beyond_ends, put_found, put_none}
 use Rattle.test_numbering.proofs.bus.Bus.+put_behind.Goals as goal

@@ -1,5 +1,5 @@
 use Rattle.std.proofs.Common.{refl, sym, ◌∙◌, subst}
-use Rattle.number_spec.specs.Board.{on_bus}
+use Rattle.pci_number.specs.Board.{on_bus}
 use Rattle.test_numbering.specs.Tree.{nodes_of, IsPutFirst}
 use Rattle.test_numbering.proofs.Firsts.{put_hit, put_miss}
 use Rattle.test_numbering.proofs.bus.Bus.+put_here.Goals as goal

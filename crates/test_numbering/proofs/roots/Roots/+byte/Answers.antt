@@ -1,6 +1,6 @@
 use Rattle.std.proofs.Common.{◌≡◌, true, false, sym, ◌∙◌, ap, subst, ◌∷◌}
 use Rattle.std.proofs.lemmas.Bool.{eq-eqb, ne_eqb}
-use Rattle.number_spec.specs.Board.{RootBus, answers}
+use Rattle.pci_number.specs.Board.{RootBus, answers}
 use Rattle.test_numbering.specs.Tree.{nodes_of, board_of, roots_rise, first_byte_of}
 use Rattle.test_numbering.proofs.Nearest.{near_of, byte_on, byte_behind, byte_far}
 use Rattle.test_numbering.proofs.roots.Roots.+byte.Goals as goal

@@ -1,6 +1,6 @@
 use Rattle.std.proofs.Common.{◌≡◌, true, false, sym, ◌∙◌, ap, subst, ◌∷◌}
 use Rattle.std.proofs.lemmas.Bool.{eq-eqb, ne_eqb}
-use Rattle.number_spec.specs.Board.{RootBus, answers}
+use Rattle.pci_number.specs.Board.{RootBus, answers}
 use Rattle.test_numbering.specs.Tree.{nodes_of, board_of, roots_rise, IsPutFirstOf}
 use Rattle.test_numbering.proofs.Nearest.{near_of, put_on, put_behind, put_far, put_rise}
 use Rattle.test_numbering.proofs.roots.Roots.+put.Goals as goal
