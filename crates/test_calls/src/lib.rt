@@ -1,5 +1,5 @@
-//! Tests of single calls: what one function's registers decode to, texts that are read and written, told ranges, a machine in
-//! memory, admission and what it keeps, and what an outline lists.
+//! Tests of single calls: what one function's registers decode to, texts that are read and written, a machine in
+//! memory, admission and what it keeps, what an outline lists, derived probes, and the domains that are read of a machine.
 #![tactic(auto)]
 
 #[cfg(test)]
@@ -9,15 +9,21 @@ mod bars;
 #[cfg(test)]
 mod chains;
 #[cfg(test)]
+mod domains;
+#[cfg(test)]
 mod faults;
 #[cfg(test)]
 mod headers;
+#[cfg(test)]
+mod lines;
 #[cfg(test)]
 mod machines;
 #[cfg(test)]
 mod outlines;
 #[cfg(test)]
 mod pairs;
+#[cfg(test)]
+mod probes;
 #[cfg(test)]
 mod reading;
 #[cfg(test)]
@@ -29,9 +35,15 @@ mod roms;
 #[cfg(test)]
 mod roots;
 #[cfg(test)]
+mod rows;
+#[cfg(test)]
 mod setting;
 #[cfg(test)]
+mod sizes_texts;
+#[cfg(test)]
 mod slots;
+#[cfg(test)]
+mod systems;
 #[cfg(test)]
 mod texts;
 #[cfg(test)]
