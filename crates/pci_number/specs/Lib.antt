@@ -20,7 +20,7 @@ pub mod Access
 pub mod Walk
 pub mod Numbered
 pub mod Room
-pub mod SpareKept
+pub mod SpareBuses
 pub mod Reached
 pub mod Listed
 pub mod NoBus
