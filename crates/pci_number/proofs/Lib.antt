@@ -6,6 +6,7 @@ pub mod Errs
 pub mod Views
 pub mod Places
 pub mod Reached
+pub mod Replayed
 pub mod Passing
 pub mod Hushing
 pub mod Opening

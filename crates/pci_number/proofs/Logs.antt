@@ -1,10 +1,11 @@
 -- What an access of a true log shows, and what one access more makes of what was written.
-use Rattle.std.proofs.Common.{◌≡◌, ℕ, zero, suc, ◌+◌, List, [], ◌∷◌, true, false, cond, Option, Some, refl, sym, ap, subst, ◌∙◌, arith}
+use Rattle.std.proofs.Common.{◌≡◌, ℕ, zero, suc, ◌+◌, ◌/◌, ◌%◌, ◌==◌, ◌&&◌, ◌||◌, Bool, List, [], ◌∷◌, true, false, cond, Option, Some, None, is_some, refl, sym, ap, subst, ◌∙◌, arith}
 use Rattle.std.specs.List.{slice_get}
+use Rattle.std.proofs.lemmas.Bool.{eqb-true}
 use Rattle.pci_number.specs.Access.{IsByteRead, IsByteWritten}
 use Rattle.pci_number.specs.Board.{Board}
 use Rattle.pci_spec.specs.Slot.{Slot}
-use Rattle.pci_number.specs.Logs.{TrueLog, AreTrueFrom, IsTrueOf, boards_stood, is_a_write, is_write, last_made, slot_of, write_of, writes_made}
+use Rattle.pci_number.specs.Logs.{TrueLog, AreTrueFrom, IsTrueOf, board_then, boards_stood, is_a_write, is_same, is_write, last_made, last_then, slot_of, stood_then, write_of, writes_made, writes_then}
 use Rattle.pci_number.specs.Stops.{number_write}
 use Rattle.pci_number.specs.declared.access.Access.{Access}
 
@@ -38,6 +39,57 @@ pub record IsWritten (a : Access) (s : Slot) (offset value : ℕ) : Type 0 where
   pub kind : a.kind ≡ 1
   pub number : a.value ≡ value
 
+-- ---- an access of a log that is the one that is wanted
+
+both : (b c : Bool) → (b && c) ≡ true → (b ≡ true) × (c ≡ true)
+both true c e = (refl, e)
+both false c e = absurd (let no : ⊥ = cc in no)
+
+five : (b c d e f : Bool) → (b && (c && (d && (e && f)))) ≡ true → (b ≡ true) × (c ≡ true) × (d ≡ true) × (e ≡ true) × (f ≡ true)
+five b c d e f h =
+    let one = both b (c && (d && (e && f))) h in
+    let two = both c (d && (e && f)) one.1 in
+    let three = both d (e && f) two.1 in
+    let four = both e f three.1 in
+    (one.0, two.0, three.0, four.0, four.1)
+
+one_value : (kind value other : ℕ) → kind ≡ 1 → (kind == 0 || value == other) ≡ true → value ≡ other
+one_value kind value other one e = eqb-true value other (rw (sym (ap (λ k. (k == 0 || value == other)) one)) e)
+
+module _ (a wanted : Access) (same : is_same a wanted ≡ true) where
+  parts : (a.bus == wanted.bus ≡ true) × (a.place == wanted.place ≡ true) × (a.offset == wanted.offset ≡ true) × (a.kind == wanted.kind ≡ true)
+      × ((wanted.kind == 0 || a.value == wanted.value) ≡ true)
+  parts =
+      five (a.bus == wanted.bus) (a.place == wanted.place) (a.offset == wanted.offset) (a.kind == wanted.kind)
+      (wanted.kind == 0 || a.value == wanted.value) same
+
+  at_bus : a.bus ≡ wanted.bus
+  at_bus = eqb-true a.bus wanted.bus parts.0
+
+  at_place : a.place ≡ wanted.place
+  at_place = eqb-true a.place wanted.place parts.1
+
+  at_offset : a.offset ≡ wanted.offset
+  at_offset = eqb-true a.offset wanted.offset parts.2
+
+  of_kind : a.kind ≡ wanted.kind
+  of_kind = eqb-true a.kind wanted.kind parts.3
+
+  of_value : (wanted.kind == 0 || a.value == wanted.value) ≡ true
+  of_value = parts.4
+
+  at_slot : (s : Slot) → slot_of wanted ≡ s → slot_of a ≡ s
+  at_slot s is = ap (λ (n : ℕ). let made : Slot = record { bus = n; device = a.place / 8; function = a.place % 8 } in made) at_bus
+      ∙ ap (λ (n : ℕ). let made : Slot = record { bus = wanted.bus; device = n / 8; function = n % 8 } in made) at_place ∙ is
+
+  pub read_again : (s : Slot) (offset : ℕ) → slot_of wanted ≡ s → wanted.offset ≡ offset → wanted.kind ≡ 0 → IsRead a s offset
+  read_again s offset slot byte kind = record { slot = at_slot s slot; byte = at_offset ∙ byte; kind = of_kind ∙ kind }
+
+  pub written_again : (s : Slot) (offset value : ℕ) → slot_of wanted ≡ s → wanted.offset ≡ offset → wanted.kind ≡ 1 → wanted.value ≡ value
+      → IsWritten a s offset value
+  written_again s offset value slot byte kind number =
+      record { slot = at_slot s slot; byte = at_offset ∙ byte; kind = of_kind ∙ kind; number = one_value wanted.kind a.value wanted.value kind of_value ∙ number }
+
 no_write : (a : Access) → a.kind ≡ 0 → is_write a ≡ false
 no_write a e = rw e refl
 
@@ -59,17 +111,17 @@ module _ (world : TrueLog) (k : ℕ) (a : Access) (there : slice_get world.log k
     pub board_stays : world.boards (k + 1) ≡ world.boards k
     board_stays = ap world.boards (sym is_next) ∙ (true_at world k a there).same (no_write a is.kind)
 
-    is_none : is_a_write (slice_get world.log k) ≡ false
-    is_none = ap is_a_write there ∙ no_write a is.kind
+    reads_here : is_a_write (slice_get world.log k) ≡ false
+    reads_here = ap is_a_write there ∙ no_write a is.kind
 
     pub none_stood : boards_stood world (k + 1) ≡ boards_stood world k
-    none_stood = ap (boards_stood world) (sym is_next) ∙ ap (λ b. cond b (world.boards (suc k) ∷ boards_stood world k) (boards_stood world k)) is_none
+    none_stood = ap (boards_stood world) (sym is_next) ∙ ap (λ b. cond b (world.boards (suc k) ∷ boards_stood world k) (boards_stood world k)) reads_here
 
     pub none_last : last_made world.log (k + 1) ≡ last_made world.log k
-    none_last = ap (last_made world.log) (sym is_next) ∙ ap (λ b. cond b (write_of (slice_get world.log k)) (last_made world.log k)) is_none
+    none_last = ap (last_made world.log) (sym is_next) ∙ ap (λ b. cond b (write_of (slice_get world.log k)) (last_made world.log k)) reads_here
 
     pub none_made : writes_made world.log (k + 1) ≡ writes_made world.log k
-    none_made = ap (writes_made world.log) (sym is_next) ∙ ap (λ b. cond b (writes_made world.log k + 1) (writes_made world.log k)) is_none
+    none_made = ap (writes_made world.log) (sym is_next) ∙ ap (λ b. cond b (writes_made world.log k + 1) (writes_made world.log k)) reads_here
 
   -- ---- a write
 
@@ -95,3 +147,22 @@ module _ (world : TrueLog) (k : ℕ) (a : Access) (there : slice_get world.log k
 
     pub one_made : writes_made world.log (k + 1) ≡ writes_made world.log k + 1
     one_made = ap (writes_made world.log) (sym is_next) ∙ ap (λ b. cond b (writes_made world.log k + 1) (writes_made world.log k)) is_one
+
+-- ---- as long as no access is wanted
+
+pub none_left : (next : Option Access) → is_some next ≡ false → next ≡ None
+none_left None e = refl
+none_left (Some a) e = absurd (let no : ⊥ = cc in no)
+
+module _ (world : TrueLog) (k : ℕ) (next : Option Access) (none : next ≡ None) where
+  pub then_board : board_then world k next ≡ world.boards k
+  then_board = ap (λ n. board_then world k n) none
+
+  pub then_stood : stood_then world k next ≡ boards_stood world k
+  then_stood = ap (λ n. stood_then world k n) none
+
+  pub then_last : last_then world.log k next ≡ last_made world.log k
+  then_last = ap (λ n. last_then world.log k n) none
+
+  pub then_made : writes_then world.log k next ≡ writes_made world.log k
+  then_made = ap (λ n. writes_then world.log k n) none

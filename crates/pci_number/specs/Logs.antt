@@ -1,5 +1,5 @@
 -- A log of accesses to a board, and the boards of which it is true.
-use Rattle.std.specs.Prelude.{◌≡◌, ℕ, zero, suc, ◌+◌, ◌/◌, ◌%◌, ◌==◌, nat_le, Bool, true, false, if◌then◌else◌, List, [], ◌∷◌, Option, Some, None}
+use Rattle.std.specs.Prelude.{◌≡◌, ℕ, zero, suc, ◌+◌, ◌/◌, ◌%◌, ◌==◌, ◌&&◌, ◌||◌, nat_le, not, Bool, true, false, if◌then◌else◌, List, [], ◌∷◌, Option, Some, None}
 use Rattle.std.specs.List.{slice_get}
 use Rattle.pci_spec.specs.Slot.{Slot}
 use Rattle.pci_spec.specs.Machine.{Write}
@@ -27,20 +27,41 @@ abbrev pub AreTrueFrom : (ℕ → Board) → ℕ → List Access → Type 0
 AreTrueFrom boards n [] = Unit {0}
 AreTrueFrom boards n (a ∷ log) = IsTrueOf (boards n) a (boards (suc n)) × AreTrueFrom boards (suc n) log
 
--- A log, and the boards that stood before each of its accesses and after the last one.
+-- A log, the boards that stood before each of its accesses and after the last one, and what one write more leaves of each.
 pub record TrueLog : Type 0 where
   pub log : List Access
   pub boards : ℕ → Board
   pub are_true : AreTrueFrom boards 0 log
+  pub left_by : ℕ → Slot → ℕ → ℕ → Board
+  pub are_left : (n : ℕ) (slot : Slot) (offset value : ℕ) → IsByteWritten (boards n) slot offset (left_by n slot offset value)
 
 -- no access
 pub no_log : TrueLog
-no_log = record { log = []; boards = λ n. []; are_true = tt }
+no_log =
+    record {
+      log = [];
+      boards = λ n. [];
+      are_true = tt;
+      left_by = λ n slot offset value. [];
+      are_left = λ n slot offset value. record { nothing = λ none i. []; byte = λ place one. absurd (let no : ⊥ = cc in no) };
+    }
 
 -- an access that is wanted is a read or a write
 abbrev pub is_access : Option Access → Bool
 is_access None = true
 is_access (Some a) = nat_le a.kind 1
+
+-- an access of a log is the one that is wanted; of a read it doesn't count what it showed
+abbrev pub is_same : Access → Access → Bool
+is_same made wanted =
+    made.bus == wanted.bus && (made.place == wanted.place && (made.offset == wanted.offset && (made.kind == wanted.kind
+    && (wanted.kind == 0 || made.value == wanted.value))))
+
+-- an access that is wanted is not the one at a place of a log: the log ends there, or has another one
+abbrev pub is_new : Option Access → Option Access → Bool
+is_new made None = true
+is_new None (Some wanted) = true
+is_new (Some made) (Some wanted) = not (is_same made wanted)
 
 -- ---- what was written by the first n accesses of a log
 
@@ -67,3 +88,18 @@ abbrev pub boards_stood : TrueLog → ℕ → List Board
 boards_stood world zero = []
 boards_stood world (suc n) =
     if is_a_write (slice_get world.log n) then world.boards (suc n) ∷ boards_stood world n else boards_stood world n
+
+-- ---- the same, once the access that is wanted was made, too: a read changes nothing
+
+abbrev pub board_then : TrueLog → ℕ → Option Access → Board
+board_then world n None = world.boards n
+board_then world n (Some a) = if is_write a then world.left_by n (slot_of a) a.offset a.value else world.boards n
+
+abbrev pub stood_then : TrueLog → ℕ → Option Access → List Board
+stood_then world n wanted = if is_a_write wanted then board_then world n wanted ∷ boards_stood world n else boards_stood world n
+
+abbrev pub last_then : List Access → ℕ → Option Access → Option Write
+last_then log n wanted = if is_a_write wanted then write_of wanted else last_made log n
+
+abbrev pub writes_then : List Access → ℕ → Option Access → ℕ
+writes_then log n wanted = if is_a_write wanted then writes_made log n + 1 else writes_made log n

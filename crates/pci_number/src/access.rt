@@ -1,8 +1,7 @@
 //! One access of a numbering, as a log has it.
-ghost use Rattle.std.specs.Prelude.{◌≡◌, ◌+◌, ◌*◌, ◌==◌, ◌&&◌, true};
-ghost use Rattle.pci_number.specs.Logs.{slot_of};
+ghost use Rattle.std.specs.Prelude.{◌≡◌, ◌+◌, ◌*◌, ◌==◌, ◌&&◌};
+ghost use Rattle.pci_number.specs.Logs.{is_same, slot_of};
 
-use crate::look::slot_at;
 use crate::number::Numbering;
 use crate::stop::NotTaken;
 use pci_base::slot::Slot;
@@ -63,24 +62,14 @@ impl Access {
         }
     }
 
-    /// The slot that it is to.
-    pub fn slot(&self) -> Slot
-        ensures { result ≡ slot_of self.now }
+    /// Whether it is the access that is wanted. It doesn't count what a read showed.
+    pub fn is(&self, wanted: &Access) -> bool
+        ensures { result ≡ is_same self.now wanted.now }
     {
-        slot_at(self.bus, u16::from(self.place))
-    }
-
-    /// Whether it is a read of the same byte, whatever is read.
-    pub fn is_read_of(&self, slot: Slot, offset: u8) -> bool
-        ensures { result ≡ true → (slot_of self.now ≡ slot) × (self.now.offset ≡ offset) × (self.now.kind ≡ 0) }
-    {
-        self.kind == READ && self.offset == offset && self.slot() == slot
-    }
-    /// Whether it is the write of a number to the same byte.
-    pub fn is_write_of(&self, slot: Slot, offset: u8, value: u8) -> bool
-        ensures { result ≡ true → (slot_of self.now ≡ slot) × (self.now.offset ≡ offset)
-            × (self.now.kind ≡ 1) × (self.now.value ≡ value) }
-    {
-        self.kind == WRITE && self.offset == offset && self.value == value && self.slot() == slot
+        self.bus == wanted.bus
+            && self.place == wanted.place
+            && self.offset == wanted.offset
+            && self.kind == wanted.kind
+            && (wanted.kind == READ || self.value == wanted.value)
     }
 }

@@ -1,8 +1,8 @@
 //! Numbering where the accesses are made by whoever calls, one after another: from the accesses that were made and what they
 //! showed it follows which one is the next.
-ghost use Rattle.std.specs.Prelude.{◌≡◌, ◌+◌, ◌≤◌, true, nat_lt, nat_le, is_some, length};
+ghost use Rattle.std.specs.Prelude.{◌≡◌, ◌≤◌, true, nat_lt, is_some, length};
 ghost use Rattle.std.specs.List.{slice_get};
-ghost use Rattle.pci_number.specs.Logs.{TrueLog, no_log, is_access};
+ghost use Rattle.pci_number.specs.Logs.{TrueLog, no_log, is_access, is_new};
 ghost use Rattle.pci_number.specs.Numberings.{IsSteppedTo};
 
 use crate::access::{Access, READ, Step, Stepped, WRITE};
@@ -26,7 +26,8 @@ impl World for Brand {
     ghost world = { no_log };
 }
 
-/// A port that answers by a log, as far as it goes. The first access that isn't in it fails, and is kept.
+/// A port that answers by a log, as far as it goes. The first access that isn't in it is kept. Where it is a write, it is
+/// taken for made, so that numbering says of it what it says of each write. Each access after it fails.
 #[derive(Drop)]
 struct Replay<'a, W: World> {
     log: &'a [Access],
@@ -36,9 +37,10 @@ struct Replay<'a, W: World> {
     of: PhantomData<W>,
     ghost is_log: { log.now ≡ W.world.log },
     ghost within: { at ≤ length log.now },
-    // an access failed exactly where one is wanted
-    ghost wants: { is_some next ≡ nat_lt 0 failed.count },
+    // an access fails only once one is wanted
+    ghost wants: { nat_lt 0 failed.count ≡ true → is_some next ≡ true },
     ghost kinds: { is_access next ≡ true },
+    ghost new: { is_new (slice_get log.now at) next ≡ true },
 }
 
 impl<W: World> Replay<'_, W> {
@@ -48,51 +50,47 @@ impl<W: World> Replay<'_, W> {
     {
         self.log.get(self.at).copied()
     }
-
-    /// An access that isn't in the log.
-    fn want(&mut self, access: Access) -> AccessFailed
-        requires { nat_le access.kind 1 ≡ true }
-        ensures at { self.new.at ≡ self.old.at }
-        ensures log { self.new.log.now ≡ self.old.log.now }
-        ensures counted { self.new.failed.count ≡ self.old.failed.count + 1 }
-    {
-        self.next = Some(access);
-        self.failed = self.failed.and_one();
-        AccessFailed
-    }
 }
 
 impl<W: World> BoardPort for Replay<'_, W> {
-    ghost use Rattle.pci_number.specs.Logs.{boards_stood, last_made, writes_made};
+    ghost use Rattle.pci_number.specs.Logs.{board_then, last_then, stood_then, writes_then};
 
-    ghost board = { λ r. W.world.boards r.at };
+    ghost board = { λ r. board_then W.world r.at r.next };
 
-    ghost history = { λ r. boards_stood W.world r.at };
+    ghost history = { λ r. stood_then W.world r.at r.next };
 
     ghost failures = { λ r. r.failed.count };
 
-    ghost last_write = { λ r. last_made W.world.log r.at };
+    ghost last_write = { λ r. last_then W.world.log r.at r.next };
 
-    ghost writes = { λ r. writes_made W.world.log r.at };
+    ghost writes = { λ r. writes_then W.world.log r.at r.next };
 
     fn read(&mut self, access: Slot, offset: u8) -> Result<u8, AccessFailed> {
-        match self.here() {
-            Some(made) if made.is_read_of(access, offset) => {
-                self.at += 1;
-                Ok(made.value)
+        if self.next.is_none() {
+            let wanted = Access::to(access, offset, READ, 0);
+            match self.here() {
+                Some(made) if made.is(&wanted) => {
+                    self.at += 1;
+                    return Ok(made.value);
+                }
+                _ => self.next = Some(wanted),
             }
-            _ => Err(self.want(Access::to(access, offset, READ, 0))),
         }
+        self.failed = self.failed.and_one();
+        Err(AccessFailed)
     }
 
     fn write(&mut self, access: Slot, offset: u8, value: u8) -> Result<(), AccessFailed> {
-        match self.here() {
-            Some(made) if made.is_write_of(access, offset, value) => {
-                self.at += 1;
-                Ok(())
-            }
-            _ => Err(self.want(Access::to(access, offset, WRITE, value))),
+        if self.next.is_some() {
+            self.failed = self.failed.and_one();
+            return Err(AccessFailed);
         }
+        let wanted = Access::to(access, offset, WRITE, value);
+        match self.here() {
+            Some(made) if made.is(&wanted) => self.at += 1,
+            _ => self.next = Some(wanted),
+        }
+        Ok(())
     }
 }
 
@@ -109,13 +107,13 @@ fn stepped<W: World>(log: &[Access], root: u8, last: u8, spare: u8) -> Stepped
         of: PhantomData,
     };
     let outcome = number(&mut replay, root, last, spare);
-    let step = match outcome {
-        Ok(numbering) => Step::Done(numbering),
-        Err(Stop::Stuck(told)) => Step::Stuck(told),
-        Err(Stop::Port) => match replay.next {
-            Some(access) => Step::Next(access),
-            // the access that failed is wanted
-            None => unreachable!(),
+    let step = match replay.next {
+        Some(access) => Step::Next(access),
+        None => match outcome {
+            Ok(numbering) => Step::Done(numbering),
+            Err(Stop::Stuck(told)) => Step::Stuck(told),
+            // an access fails only once one is wanted
+            Err(Stop::Port) => unreachable!(),
         },
     };
     Stepped {
