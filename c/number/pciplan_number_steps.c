@@ -22,7 +22,7 @@ struct pciplan_numbered_by_steps pciplan_number_by_steps(uint8_t root, uint8_t l
 
     for (;;) {
         answer.status = pciplan_number_step(log, answer.accesses, root, last, spare, &step);
-        if (answer.status != PCIPLAN_NUMBER_ACCESS || answer.accesses == room)
+        if (answer.status != PCIPLAN_NUMBER_ACCESS || step.used != answer.accesses || answer.accesses == room)
             break;
         log[answer.accesses] = step.access;
         make(&log[answer.accesses]);

@@ -1,2 +1,3 @@
 -- Worked examples: what the definitions of numbering's steps say of small boards.
 pub mod Closings
+pub mod Bounds

@@ -46,3 +46,4 @@ pub mod Listed
 pub mod Among
 pub mod Enough
 pub mod BoardExamples
+pub mod Spent

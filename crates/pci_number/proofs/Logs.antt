@@ -5,7 +5,7 @@ use Rattle.std.proofs.lemmas.Bool.{eqb-true}
 use Rattle.pci_number.specs.Access.{IsByteRead, IsByteWritten}
 use Rattle.pci_number.specs.Board.{Board}
 use Rattle.pci_spec.specs.Slot.{Slot}
-use Rattle.pci_number.specs.Logs.{TrueLog, AreTrueFrom, IsTrueOf, board_then, boards_stood, is_a_write, is_same, is_write, last_made, last_then, slot_of, stood_then, write_of, writes_made, writes_then}
+use Rattle.pci_number.specs.Logs.{TrueLog, AreTrueFrom, IsTrueOf, accesses_then, board_then, boards_stood, is_a_write, is_same, is_write, last_made, last_then, slot_of, stood_then, write_of, writes_made, writes_then}
 use Rattle.pci_number.specs.Stops.{number_write}
 use Rattle.pci_number.specs.declared.access.Access.{Access}
 
@@ -166,3 +166,6 @@ module _ (world : TrueLog) (k : ℕ) (next : Option Access) (none : next ≡ Non
 
   pub then_made : writes_then world.log k next ≡ writes_made world.log k
   then_made = ap (λ n. writes_then world.log k n) none
+
+  pub then_accessed : accesses_then k next ≡ k
+  then_accessed = ap (λ n. accesses_then k n) none

@@ -2,10 +2,11 @@
 use Rattle.std.proofs.Common.{◌≡◌, ◌≤◌, ℕ, true, inl, List, [], length, Option, Some, None, Result, Ok, Err, IfOk, IfErr, refl}
 use Rattle.std.specs.List.{slice_get}
 use Rattle.pci_number.specs.Board.{Board}
+use Rattle.pci_number.specs.Accesses.{most_accesses}
 use Rattle.pci_number.specs.Answer.{AnswersWhereReady, Keeps}
 use Rattle.pci_number.specs.Access.{nodes_behind}
 use Rattle.pci_number.specs.Few.{IsFew}
-use Rattle.pci_number.specs.Logs.{TrueLog, board_then, is_access, is_new, last_then, stood_then, writes_then}
+use Rattle.pci_number.specs.Logs.{TrueLog, accesses_then, board_then, is_access, is_new, last_then, stood_then, writes_then}
 use Rattle.pci_number.specs.Numberings.{IsSteppedTo}
 use Rattle.pci_number.specs.Ready.{IsReady}
 use Rattle.pci_number.specs.Single.{IsSingleThroughout, ClosedOrStopped, EndsSingle}
@@ -30,6 +31,7 @@ pub record IsReplayed (world : TrueLog) (root last spare : ℕ) (at : ℕ) (next
   pub end : IfOk outcome (λ _. EndsSingle (world.boards 0) root last (board_then world at next))
   pub stop : IfErr outcome (IsNumberingStop (board_then world at next) (last_then world.log at next))
   pub few : IsFew (world.boards 0) root last 0 (writes_then world.log at next)
+  pub bounded : accesses_then at next ≤ most_accesses root last
 
 -- ---- what is said of an outcome holds of a numbering that stopped at an access, too
 
@@ -71,6 +73,7 @@ module _ (world : TrueLog) (root last spare at : ℕ) where
         end = tt;
         stop = tt;
         few = replayed.few;
+        bounded = replayed.bounded;
       }
 
   pub done_stepped : (numbering : Numbering) → IsReplayed world root last spare at None (Ok numbering)
@@ -86,6 +89,7 @@ module _ (world : TrueLog) (root last spare at : ℕ) where
         end = replayed.end;
         stop = tt;
         few = replayed.few;
+        bounded = replayed.bounded;
       }
 
   pub stuck_stepped : (told : NotTaken) → IsReplayed world root last spare at None (Err (Stuck told))
@@ -101,4 +105,5 @@ module _ (world : TrueLog) (root last spare at : ℕ) where
         end = tt;
         stop = replayed.stop;
         few = replayed.few;
+        bounded = replayed.bounded;
       }

@@ -27,3 +27,4 @@ pub mod NoBus
 pub mod Ready
 pub mod Spread
 pub mod NumberingLaws
+pub mod Accesses

@@ -103,3 +103,7 @@ last_then log n wanted = if is_a_write wanted then write_of wanted else last_mad
 
 abbrev pub writes_then : List Access → ℕ → Option Access → ℕ
 writes_then log n wanted = if is_a_write wanted then writes_made log n + 1 else writes_made log n
+
+-- how many accesses they are, where a read that is wanted isn't one yet
+abbrev pub accesses_then : ℕ → Option Access → ℕ
+accesses_then n wanted = if is_a_write wanted then n + 1 else n

@@ -11,7 +11,8 @@ use Rattle.pci_number.specs.declared.access.Step.TheVariants.{Next, Done, Stuck}
 use Rattle.pci_number.specs.declared.access.Stepped.{Stepped}
 use Rattle.pci_number.specs.Answer.{AnswersWhereReady, Keeps}
 use Rattle.pci_number.specs.Few.{IsFew}
-use Rattle.pci_number.specs.Logs.{TrueLog, board_then, is_access, is_new, last_made, stood_then, writes_then}
+use Rattle.pci_number.specs.Accesses.{most_accesses}
+use Rattle.pci_number.specs.Logs.{TrueLog, accesses_then, board_then, is_access, is_new, last_made, stood_then, writes_then}
 use Rattle.pci_number.specs.Single.{IsSingleThroughout, EndsSingle}
 use Rattle.pci_number.specs.Stood.{board_moment}
 use Rattle.pci_number.specs.Stops.{IsNumberingStop}
@@ -50,3 +51,5 @@ pub record IsSteppedTo (world : TrueLog) (root last spare : ℕ) (stepped : Step
       (IsNumberingStop (world.boards stepped.used) (last_made world.log stepped.used))
   -- at most 8 writes are made for each bridge behind this root
   pub few : IsFew (world.boards 0) root last 0 (writes_then world.log stepped.used (asked_by stepped.step))
+  -- so many accesses are made at most, a write that is asked for among them, whatever the board is
+  pub bounded : accesses_then stepped.used (asked_by stepped.step) ≤ most_accesses root last

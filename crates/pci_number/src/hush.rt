@@ -5,6 +5,7 @@ ghost use Rattle.pci_number.specs.Steps.{IsShownAt, IsLeftAt, IsHushed, IsHushLe
 ghost use Rattle.pci_number.specs.Few.{IsHushFew};
 ghost use Rattle.pci_number.specs.Less.{IsCloseStood, IsHushStood};
 ghost use Rattle.pci_number.specs.Stood.{board_moment};
+ghost use Rattle.pci_number.specs.Accesses.{most_of_three, most_of_hush};
 
 use crate::look::{PLACES, look, slot_at};
 use crate::port::BoardPort;
@@ -23,6 +24,7 @@ fn close<P: BoardPort>(port: &mut P, slot: Slot) -> Result<(), Stop>
     ensures stop { IfErr result (IsNumberingStop (P.board port.new) (P.last_write port.new)) }
     ensures counted { P.failures port.new ≡ P.failures port.old + failures_at result }
     ensures few { P.writes port.new ≤ P.writes port.old + 3 }
+    ensures bounded { P.accesses port.new ≤ P.accesses port.old + most_of_three }
 {
     put(port, slot, SUBORDINATE_BUS, 0)?;
     put(port, slot, SECONDARY_BUS, 0)?;
@@ -43,6 +45,7 @@ pub fn hush<P: BoardPort>(port: &mut P, bus: u8) -> Result<bool, Stop>
     ensures counted { P.failures port.new ≡ P.failures port.old + failures_at result }
     // a bound for the whole board is the sum of these
     ensures few { IsHushFew (P.board port.old) bus (P.writes port.old) (P.writes port.new) }
+    ensures bounded { P.accesses port.new ≤ P.accesses port.old + most_of_hush }
 {
     let mut more = false;
     let mut bridges = false;

@@ -4,6 +4,7 @@ ghost use Rattle.pci_number.specs.Stops.{failures_at, IsNumberingStop};
 ghost use Rattle.pci_number.specs.Steps.{IsNumberPut, IsTouched};
 ghost use Rattle.pci_number.specs.Stood.{IsOneMore, board_moment};
 ghost use Rattle.pci_number.specs.Spare.{IsLed};
+ghost use Rattle.pci_number.specs.Accesses.{most_of_lead};
 
 use crate::port::BoardPort;
 use crate::put::put;
@@ -33,6 +34,7 @@ pub fn lead_to<P: BoardPort>(
     ensures counted { P.failures port.new ≡ P.failures port.old + failures_at result }
     // a bound for the whole board is the sum of these
     ensures few { P.writes port.new ≤ P.writes port.old + 1 }
+    ensures bounded { P.accesses port.new ≤ P.accesses port.old + most_of_lead }
 {
     let left = last.saturating_sub(taken);
     let room = room_of(port, slot, spare)?;

@@ -1,7 +1,8 @@
 //! What is at a place of a bus.
-ghost use Rattle.std.specs.Prelude.{◌≡◌, ◌+◌, ◌/◌, ◌%◌, ◌<◌, IfOk};
+ghost use Rattle.std.specs.Prelude.{◌≡◌, ◌+◌, ◌/◌, ◌%◌, ◌<◌, ◌≤◌, IfOk};
 ghost use Rattle.pci_number.specs.Stops.{failures_of_access};
 ghost use Rattle.pci_number.specs.Steps.{IsLooked};
+ghost use Rattle.pci_number.specs.Accesses.{most_of_look};
 
 use crate::port::{AccessFailed, BoardPort};
 use pci_base::offset::{HEADER_TYPE, VENDOR_ID};
@@ -42,6 +43,7 @@ pub fn look<P: BoardPort>(port: &mut P, slot: Slot, more: bool) -> Result<Found,
     ensures no_write { P.last_write port.new ≡ P.last_write port.old }
     ensures counted { P.failures port.new ≡ P.failures port.old + failures_of_access result }
     ensures no_more { P.writes port.new ≡ P.writes port.old }
+    ensures bounded { P.accesses port.new ≤ P.accesses port.old + most_of_look }
 {
     let first = slot.fun() == 0;
     if !first && !more {

@@ -1,11 +1,12 @@
 //! Bus numbers for what is behind a root bus.
-ghost use Rattle.std.specs.Prelude.{◌≡◌, ◌+◌, IfOk, IfErr};
+ghost use Rattle.std.specs.Prelude.{◌≡◌, ◌+◌, ◌≤◌, IfOk, IfErr};
 ghost use Rattle.pci_number.specs.Stops.{failures_at, IsNumberingStop};
 ghost use Rattle.pci_number.specs.Ready.{IsReady};
 ghost use Rattle.pci_number.specs.Answer.{AnswersWhereReady, Keeps, named_by, highest_bus_of};
 ghost use Rattle.pci_number.specs.Few.{IsFew};
 ghost use Rattle.pci_number.specs.Single.{IsSingleThroughout, EndsSingle};
 ghost use Rattle.pci_number.specs.Stood.{board_moment};
+ghost use Rattle.pci_number.specs.Accesses.{most_accesses};
 
 use crate::hush::hush;
 use crate::port::BoardPort;
@@ -30,7 +31,8 @@ pub enum Numbering {
 /// made to forward nothing. Of each bridge bytes 18h to 1Ah alone are written, one at a time, where
 /// that changes them; each is read back. Once those on the root bus forward nothing, at most one
 /// node answers each access after every write, as long as that holds behind the other roots; and
-/// from the start on if it was so at the start.
+/// from the start on if it was so at the start. Whatever the board is, at most 3840 accesses are
+/// made, and 4049 more for each number from `root` + 1 to `last`.
 ///
 /// # Errors
 ///
@@ -54,6 +56,8 @@ pub fn number<P: BoardPort>(port: &mut P, root: u8, last: u8, spare: u8) -> Resu
     ensures counted { P.failures port.new ≡ P.failures port.old + failures_at result }
     // whatever happens, at most 8 writes are made for each bridge behind this root
     ensures few { IsFew (P.board port.old) root last (P.writes port.old) (P.writes port.new) }
+    // a caller who makes them one by one comes to an end, whatever the board shows
+    ensures bounded { P.accesses port.new ≤ P.accesses port.old + most_accesses root last }
 {
     hush(port, root)?;
     let start = Walk {

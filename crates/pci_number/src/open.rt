@@ -5,6 +5,7 @@ ghost use Rattle.pci_number.specs.Steps.{IsShownAt, IsLeftAt, IsBusOpened, IsOpe
 ghost use Rattle.pci_number.specs.Few.{IsOpenFew};
 ghost use Rattle.pci_number.specs.Single.{IsShowStood, IsOpenStood};
 ghost use Rattle.pci_number.specs.Stood.{board_moment};
+ghost use Rattle.pci_number.specs.Accesses.{most_of_three, most_of_open};
 
 use crate::hush::hush;
 use crate::port::BoardPort;
@@ -23,6 +24,7 @@ fn show<P: BoardPort>(port: &mut P, slot: Slot, behind: u8) -> Result<(), Stop>
     ensures stop { IfErr result (IsNumberingStop (P.board port.new) (P.last_write port.new)) }
     ensures counted { P.failures port.new ≡ P.failures port.old + failures_at result }
     ensures few { P.writes port.new ≤ P.writes port.old + 3 }
+    ensures bounded { P.accesses port.new ≤ P.accesses port.old + most_of_three }
 {
     put(port, slot, PRIMARY_BUS, slot.bus())?;
     put(port, slot, SECONDARY_BUS, behind)?;
@@ -47,6 +49,7 @@ pub fn open<P: BoardPort>(port: &mut P, slot: Slot, behind: u8, last: u8) -> Res
     // a bound for the whole board is the sum of these
     ensures few { IsOpenFew (P.board port.old) slot behind last (P.writes port.old)
         (P.writes port.new) }
+    ensures bounded { P.accesses port.new ≤ P.accesses port.old + most_of_open }
 {
     show(port, slot, behind)?;
     if !hush(port, behind)? {

@@ -29,6 +29,9 @@ pub trait BoardPort {
     // How many writes were made. No number is the last.
     ghost writes: { Self → ℕ };
 
+    // How many accesses were made, reads and writes together. No number is the last.
+    ghost accesses: { Self → ℕ };
+
     /// The byte at an offset of the node that answers, or FFh where none does.
     fn read(&mut self, access: Slot, offset: u8) -> Result<u8, AccessFailed>
         ensures value { IfOk result (IsByteRead (board self.old) access offset) }
@@ -37,7 +40,10 @@ pub trait BoardPort {
         ensures same_history { history self.new ≡ history self.old }
         ensures no_write { last_write self.new ≡ last_write self.old }
         ensures counted { failures self.new ≡ failures self.old + failures_of_access result }
-        ensures no_more { writes self.new ≡ writes self.old };
+        ensures no_more { writes self.new ≡ writes self.old }
+        ensures accessed { OnOk result (accesses self.new ≡ accesses self.old + 1) }
+        // an access that failed doesn't count as made
+        ensures none_accessed { OnErr result (accesses self.new ≡ accesses self.old) };
 
     /// Writes one of the three bus numbers of a bridge, bytes 18h to 1Ah. The byte may keep bits.
     fn write(&mut self, access: Slot, offset: u8, value: u8) -> Result<(), AccessFailed>
@@ -51,5 +57,7 @@ pub trait BoardPort {
         ensures not_made { OnErr result (last_write self.new ≡ last_write self.old) }
         ensures counted { failures self.new ≡ failures self.old + failures_of_access result }
         ensures one_more { OnOk result (writes self.new ≡ writes self.old + 1) }
-        ensures none_more { OnErr result (writes self.new ≡ writes self.old) };
+        ensures none_more { OnErr result (writes self.new ≡ writes self.old) }
+        ensures accessed { OnOk result (accesses self.new ≡ accesses self.old + 1) }
+        ensures none_accessed { OnErr result (accesses self.new ≡ accesses self.old) };
 }

@@ -3,6 +3,7 @@ ghost use Rattle.std.specs.Prelude.{◌≡◌, ◌+◌, ◌≤◌, IfErr, OnOk, 
 ghost use Rattle.pci_number.specs.Stops.{failures_at, IsNumberingStop};
 ghost use Rattle.pci_number.specs.Steps.{IsNumberPut, IsTouched};
 ghost use Rattle.pci_number.specs.Stood.{IsOneMore, board_moment};
+ghost use Rattle.pci_number.specs.Accesses.{most_of_put};
 
 use crate::port::BoardPort;
 use crate::stop::{NotTaken, Stop};
@@ -24,6 +25,7 @@ pub fn put<P: BoardPort>(port: &mut P, slot: Slot, offset: u8, number: u8) -> Re
     ensures counted { P.failures port.new ≡ P.failures port.old + failures_at result }
     // a bound for the whole board is the sum of these
     ensures few { P.writes port.new ≤ P.writes port.old + 1 }
+    ensures bounded { P.accesses port.new ≤ P.accesses port.old + most_of_put }
 {
     if port.read(slot, offset)? == number {
         return Ok(());

@@ -53,7 +53,7 @@ impl<W: World> Replay<'_, W> {
 }
 
 impl<W: World> BoardPort for Replay<'_, W> {
-    ghost use Rattle.pci_number.specs.Logs.{board_then, last_then, stood_then, writes_then};
+    ghost use Rattle.pci_number.specs.Logs.{accesses_then, board_then, last_then, stood_then, writes_then};
 
     ghost board = { λ r. board_then W.world r.at r.next };
 
@@ -64,6 +64,8 @@ impl<W: World> BoardPort for Replay<'_, W> {
     ghost last_write = { λ r. last_then W.world.log r.at r.next };
 
     ghost writes = { λ r. writes_then W.world.log r.at r.next };
+
+    ghost accesses = { λ r. accesses_then r.at r.next };
 
     fn read(&mut self, access: Slot, offset: u8) -> Result<u8, AccessFailed> {
         if self.next.is_none() {
@@ -128,6 +130,11 @@ fn stepped<W: World>(log: &[Access], root: u8, last: u8, spare: u8) -> Stepped
 /// Whoever has no port makes the access that is answered, appends it to the log with what it showed, and calls again. Each
 /// call goes over the log from its beginning. Where an access fails, nothing more is to be made; the board is then as after the
 /// accesses of the log.
+///
+/// `used` says how many accesses of the log are the numbering's. An access is asked for only where the log ends there, or goes
+/// on with another access. It changes bus numbers of bridges behind the root alone, whatever the board makes of it. Whatever
+/// the board is, at most 3840 accesses are the numbering's, and 4049 more for each number from `root` + 1 to `last`. So a caller
+/// that goes on only where all of the log is used comes to an end.
 pub fn next_access(log: &[Access], root: u8, last: u8, spare: u8) -> Stepped
     // whatever the board is: the log is true of it
     ghost world: { TrueLog }

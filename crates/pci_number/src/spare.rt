@@ -1,10 +1,11 @@
 //! Whether a bridge has a hot-plug slot (PCI 3.0, 6.7; PCI Express Base 3.0, 7.8.2 and 7.8.9; SHPC
 //! 1.0).
-ghost use Rattle.std.specs.Prelude.{◌≡◌, ◌+◌, ◌*◌, ◌/◌, ◌<◌, ◌&&◌, IfOk};
+ghost use Rattle.std.specs.Prelude.{◌≡◌, ◌+◌, ◌*◌, ◌/◌, ◌<◌, ◌≤◌, ◌&&◌, IfOk};
 ghost use Rattle.pci_spec.specs.Number.{byte_at, has_bit};
 ghost use Rattle.pci_number.specs.SpareBuses.{is_hot_plug, has_hot_plug_slot, spare_room};
 ghost use Rattle.pci_number.specs.Stops.{failures_of_access};
 ghost use Rattle.pci_number.specs.Spare.{IsSaidThere};
+ghost use Rattle.pci_number.specs.Accesses.{most_of_room};
 
 use crate::port::{AccessFailed, BoardPort};
 use pci_base::offset::{CAPABILITIES_POINTER, STATUS};
@@ -48,6 +49,7 @@ fn has_slot<P: BoardPort>(port: &mut P, slot: Slot, place: u8) -> Result<bool, A
     ensures no_write { P.last_write port.new ≡ P.last_write port.old }
     ensures counted { P.failures port.new ≡ P.failures port.old + failures_of_access result }
     ensures no_more { P.writes port.new ≡ P.writes port.old }
+    ensures bounded { P.accesses port.new ≤ P.accesses port.old + 2 }
 {
     let express = port.read(slot, place + EXPRESS_CAPABILITIES_HIGH)?;
     let capabilities = port.read(slot, place + SLOT_CAPABILITIES)?;
@@ -63,6 +65,7 @@ fn is_hot_plug<P: BoardPort>(port: &mut P, slot: Slot, place: u8) -> Result<bool
     ensures no_write { P.last_write port.new ≡ P.last_write port.old }
     ensures counted { P.failures port.new ≡ P.failures port.old + failures_of_access result }
     ensures no_more { P.writes port.new ≡ P.writes port.old }
+    ensures bounded { P.accesses port.new ≤ P.accesses port.old + 3 }
 {
     let id = port.read(slot, place)?;
     if id == HOT_PLUG_CONTROLLER {
@@ -84,6 +87,7 @@ fn has_hot_plug_slot<P: BoardPort>(port: &mut P, slot: Slot) -> Result<bool, Acc
     ensures no_write { P.last_write port.new ≡ P.last_write port.old }
     ensures counted { P.failures port.new ≡ P.failures port.old + failures_of_access result }
     ensures no_more { P.writes port.new ≡ P.writes port.old }
+    ensures bounded { P.accesses port.new ≤ P.accesses port.old + most_of_room }
 {
     let status = port.read(slot, STATUS)?;
     if status / 16 % 2 == 0 {
@@ -112,6 +116,7 @@ pub fn room_of<P: BoardPort>(port: &mut P, slot: Slot, spare: u8) -> Result<u8, 
     ensures no_write { P.last_write port.new ≡ P.last_write port.old }
     ensures counted { P.failures port.new ≡ P.failures port.old + failures_of_access result }
     ensures no_more { P.writes port.new ≡ P.writes port.old }
+    ensures bounded { P.accesses port.new ≤ P.accesses port.old + most_of_room }
 {
     if spare == 0 {
         return Ok(0);

@@ -5,6 +5,7 @@ ghost use Rattle.pci_number.specs.Walked.{IsBusNumbered, IsBusLeft, named, outse
 ghost use Rattle.pci_number.specs.Few.{IsBusFew};
 ghost use Rattle.pci_number.specs.Single.{IsBusStood};
 ghost use Rattle.pci_number.specs.Stood.{board_moment};
+ghost use Rattle.pci_number.specs.Accesses.{most_of_numbers, most_of_walk};
 
 use crate::lead::lead_to;
 use crate::look::{PLACES, look, slot_at};
@@ -62,6 +63,10 @@ pub fn number_bus<P: BoardPort>(
     // a bound for the whole board is the sum of these
     ensures few { IsBusFew (P.board port.old) (outset bus last spare start) (P.writes port.old)
         (P.writes port.new) }
+    ensures bounded { P.accesses port.new ≤ P.accesses port.old + most_of_walk last start.taken }
+    // the numbers that are left have their accesses still before them
+    ensures spent { IfOk result (λ walk. P.accesses port.new + most_of_numbers last walk.taken
+        ≤ P.accesses port.old + most_of_walk last start.taken) }
 {
     let mut walk = start;
     let mut more = false;

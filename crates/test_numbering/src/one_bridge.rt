@@ -15,6 +15,8 @@ pub struct OneBridge {
     /// The bridge's image after each write so far.
     stood: Vec<[u8; 256]>,
     failed: Failures,
+    /// How many accesses were made.
+    accesses: Failures,
 }
 
 impl OneBridge {
@@ -33,6 +35,7 @@ impl OneBridge {
             last: None,
             stood: Vec::new(alloc),
             failed: Failures::new(),
+            accesses: Failures::new(),
         }
     }
 
@@ -68,7 +71,10 @@ impl BoardPort for OneBridge {
 
     ghost writes = { λ s. length s.stood.items };
 
+    ghost accesses = { λ s. s.accesses.count };
+
     fn read(&mut self, access: Slot, offset: u8) -> Result<u8, AccessFailed> {
+        self.accesses = self.accesses.and_one();
         if is_bridge(access) {
             Ok(self.image[usize::from(offset)])
         } else {
@@ -92,6 +98,7 @@ impl BoardPort for OneBridge {
             self.failed = self.failed.and_one();
             return Err(AccessFailed);
         }
+        self.accesses = self.accesses.and_one();
         self.image = image;
         self.last = Some(NotTaken {
             slot: access,

@@ -24,6 +24,8 @@ pub struct Tree {
     /// What stood after each write, the last one last.
     pub stood: Vec<Stood>,
     failed: Failures,
+    /// How many accesses were made.
+    accesses: Failures,
     ghost rise: { IsTrue (roots_rise (board_of roots)) },
 }
 
@@ -36,6 +38,7 @@ impl Tree {
                 roots,
                 stood: Vec::new(alloc),
                 failed: Failures::new(),
+                accesses: Failures::new(),
             })
         } else {
             None
@@ -90,7 +93,10 @@ impl BoardPort for Tree {
 
     ghost writes = { λ t. length t.stood.items };
 
+    ghost accesses = { λ t. t.accesses.count };
+
     fn read(&mut self, access: Slot, offset: u8) -> Result<u8, AccessFailed> {
+        self.accesses = self.accesses.and_one();
         match self.roots.byte(access, offset) {
             Some(byte) => Ok(byte),
             None => Ok(0xff),
@@ -104,6 +110,7 @@ impl BoardPort for Tree {
                     self.failed = self.failed.and_one();
                     return Err(AccessFailed);
                 }
+                self.accesses = self.accesses.and_one();
                 self.roots = roots;
                 Ok(())
             }

@@ -15,6 +15,7 @@ loop-place-init g c = record {
   standing = standing_start (g.P.BoardPort.board c.args.port.now) c.args.bus (g.P.BoardPort.history c.args.port.now);
   counted = refl;
   few = hush_count_start (g.P.BoardPort.board c.args.port.now) c.args.bus (g.P.BoardPort.writes c.args.port.now);
+  bounded = omega arith;
 }
 
 pub returns-in_err-found-clause-left : goal.returns-in_err-found-clause-left
@@ -64,12 +65,14 @@ loop-place-preserved g c =
             counted = omega (arith, ap g.P.BoardPort.failures w.port-is, w.in_ok-close.ensures.counted, looked.counted, so_far.counted);
             few = rw w.port-is (hush_count_close before now after slot bus at more found made total (writes w.close.new.port) place looked.looked w.if-found.true shown
                 (omega (arith, w.in_ok-close.ensures.few, looked.no_more)) so_far.few);
+            bounded = omega (arith, ap g.P.BoardPort.accesses w.port-is, w.in_ok-close.ensures.bounded, looked.bounded, so_far.bounded);
           }
       | else-found w ↦ record {
         hushing = rw (w.port-is, w.bridges-is, looked.same) (hush_pass before now slot bus at more bridges found place looked.looked w.if-found.false so_far.hushing);
         standing = rw (w.port-is, looked.same, looked.same_history) (standing_pass before now slot bus at old stood more found place looked.looked w.if-found.false so_far.standing);
         counted = omega (arith, ap g.P.BoardPort.failures w.port-is, looked.counted, so_far.counted);
         few = rw (w.port-is, looked.same, looked.no_more) (hush_count_pass before now slot bus at more found made total place looked.looked w.if-found.false so_far.few);
+        bounded = omega (arith, ap g.P.BoardPort.accesses w.port-is, looked.bounded, so_far.bounded);
       }
     ]
 

@@ -1,6 +1,6 @@
 use Rattle.std.specs.List.{slice_get}
 use Rattle.pci_number.specs.Logs.{is_new}
-use Rattle.std.proofs.Common.{◌≡◌, ◌≤◌, length, true, Some, None, Ok, Err, sym, subst, ap, ◌∙◌}
+use Rattle.std.proofs.Common.{◌≡◌, ◌≤◌, arith, length, true, Some, None, Ok, Err, sym, subst, ap, ◌∙◌}
 use Rattle.pci_number.proofs.Replayed.{IsReplayed, next_stepped, done_stepped, stuck_stepped}
 use Rattle.pci_number.specs.Numberings.{IsSteppedTo}
 use Rattle.pci_number.specs.declared.access.Step.{Step}
@@ -25,6 +25,7 @@ returns g c =
       end = said.end;
       stop = said.stop;
       few = said.few;
+      bounded = let spent = said.bounded in omega (arith, spent);
     } in
     elim c.match-replay.branch [
       | in-Some w ↦

@@ -1,4 +1,5 @@
-use Rattle.std.proofs.Common.{◌+◌, true, false, arith, refl, ap, subst}
+use Rattle.std.proofs.Common.{◌+◌, ◌≤◌, true, false, arith, refl, ap, subst}
+use Rattle.pci_number.specs.Accesses.{most_of_numbers, most_of_walk}
 use Rattle.pci_number.specs.Board.{HasOneAnswer}
 use Rattle.pci_number.specs.Steps.{IsOpenLeft}
 use Rattle.pci_number.specs.Stood.{Adds}
@@ -9,6 +10,7 @@ use Rattle.pci_number.proofs.Errs.{always_err}
 use Rattle.pci_number.proofs.Behind.{is_open, few_from, open_ok, open_end, Behind, behind_alone, behind_wide}
 use Rattle.pci_number.proofs.Few.{IsBegunFew, begun_few_alone, begun_few_wide, walk_count_start, walk_count_pass, walk_count_without, walk_count_led, walk_few, walk_few_open, walk_few_led}
 use Rattle.pci_number.proofs.Places.{place_of}
+use Rattle.pci_number.proofs.Spent.{spent_look, spent_open, spent_bus, spent_led, spent_on}
 use Rattle.pci_number.proofs.Walking.{IsBegun, begun_alone, begun_wide, walk_start, walk_pass, walk_without, walk_led, walk_left, walk_left_open, walk_left_bus, walk_left_led, walk_done}
 use Rattle.pci_number.proofs.Standing.{Bridge, stood_here, stood_wide, stand_start, stand_pass, stand_without, stand_led, stand_left, stand_left_open, stand_left_bus, stand_left_led, stand_done}
 use Rattle.pci_number.proofs.walk.+number_bus.Goals as goal
@@ -21,6 +23,7 @@ loop-place-init g t c = record {
   above = omega arith;
   counted = refl;
   few = walk_count_start (g.P.BoardPort.board c.args.port.now) c.args.bus c.args.last c.args.start (g.P.BoardPort.writes c.args.port.now);
+  spent = omega arith;
 }
 
 pub returns-in_err-found-clause-left : goal.returns-in_err-found-clause-left
@@ -58,6 +61,7 @@ loop-place-preserved g t c =
     let writes = g.P.BoardPort.writes in
     let history = g.P.BoardPort.history in
     let failures = g.P.BoardPort.failures in
+    let accesses = g.P.BoardPort.accesses in
     let before = board c.args.port.now in
     let made = writes c.args.port.now in
     let old = history c.args.port.now in
@@ -104,6 +108,10 @@ loop-place-preserved g t c =
                 (is_open now seen_on slot (walk.taken + 1) last look.same opened w.in_ok-open.field-0 false y.if-branch.false w.in_ok-open.ensures.opened)
                 (omega (arith, w.in_ok-open.ensures.counted, look.counted, so_far.counted)))
           ] in
+          let gone : accesses w.if-branch.port + most_of_numbers last led_on.taken ≤ accesses w.open.new.port + most_of_walk last (walk.taken + 1) = elim w.if-branch.branch [
+            | then-branch+in_ok-walk y ↦ rw (y.port-is, y.walk-is) y.in_ok-walk.ensures.spent
+            | else-branch y ↦ rw (y.port-is, y.walk-is) (omega arith)
+          ] in
           record {
             walking = rw (w.port-is, w.walk-is) (walk_led spare before now far later slot bus at last start walk led_on after more found place look.looked w.if-found.true w.if-walk-last.true
                 behind.begun led.put led.led led.above refl so_far.walking);
@@ -113,6 +121,8 @@ loop-place-preserved g t c =
             counted = omega (arith, ap failures w.port-is, led.counted, behind.counted);
             few = rw (w.port-is, w.walk-is) (walk_count_led before now far later slot bus at spare last start walk led_on after more found made total far_by (writes w.lead_to.new.port) place look.looked w.if-found.true w.if-walk-last.true
                 behind.begun led.put led.above behind.few led.few so_far.few);
+            spent = rw (w.port-is, w.walk-is) (spent_on last (accesses c.args.port.now) start.taken at walk.taken led_on.taken after.taken (accesses c.loop-place.port) (accesses c.look.new.port) (accesses w.open.new.port) (accesses w.if-branch.port) (accesses w.lead_to.new.port)
+                w.if-walk-last.true so_far.spent look.bounded w.in_ok-open.ensures.bounded gone led.bounded led.above);
           }
       | then-found+else-walk-last w ↦
           let after = w.and_without-walk.result in
@@ -123,6 +133,7 @@ loop-place-preserved g t c =
             above = omega (arith, ap (λ (x : Walk). x.taken) w.walk-is, same_taken, so_far.above);
             counted = omega (arith, ap failures w.port-is, look.counted, so_far.counted);
             few = rw (w.port-is, w.walk-is, look.same, look.no_more) (walk_count_without before now slot bus at last start walk after more found made total place look.looked w.if-found.true same_taken so_far.few);
+            spent = omega (arith, ap accesses w.port-is, ap (λ (x : Walk). x.taken) w.walk-is, same_taken, look.bounded, so_far.spent);
           }
       | else-found w ↦ record {
         walking = rw (w.port-is, w.walk-is, look.same) (walk_pass spare before now slot bus at last start walk more found place look.looked w.if-found.false so_far.walking);
@@ -130,6 +141,7 @@ loop-place-preserved g t c =
         above = omega (arith, ap (λ (x : Walk). x.taken) w.walk-is, so_far.above);
         counted = omega (arith, ap failures w.port-is, look.counted, so_far.counted);
         few = rw (w.port-is, w.walk-is, look.same, look.no_more) (walk_count_pass before now slot bus at last start walk more found made total place look.looked w.if-found.false so_far.few);
+        spent = omega (arith, ap accesses w.port-is, ap (λ (x : Walk). x.taken) w.walk-is, look.bounded, so_far.spent);
       }
     ]
 
@@ -293,3 +305,36 @@ returns-in_err-walk-2-clause-stood g t c =
     (place_of slot c.args.bus c.loop-place.place c.slot_at-slot.ensures) look.looked c.if-found.true c.if-walk-last.true c.loop-place.invariant.standing
     (board c.if-branch.port) (history c.if-branch.port) far_stood (board c.lead_to.new.port) (history c.lead_to.new.port) c.in_err-walk-2.ensures.stood
     c.from_residual-in_err-walk-2.result c.from_residual-in_err-walk-2.ensures.0
+
+-- how many accesses were made
+
+pub returns-in_err-found-clause-bounded : goal.returns-in_err-found-clause-bounded
+returns-in_err-found-clause-bounded g t c =
+    let accesses = g.P.BoardPort.accesses in
+    spent_look c.args.last (accesses c.args.port.now) c.args.start.taken c.loop-place.place c.loop-place.walk.taken (accesses c.loop-place.port) (accesses c.look.new.port)
+    c.loop-place-test.true c.loop-place.invariant.spent c.in_err-found.ensures.bounded
+
+pub returns-in_err-open-clause-bounded : goal.returns-in_err-open-clause-bounded
+returns-in_err-open-clause-bounded g t c =
+    let accesses = g.P.BoardPort.accesses in
+    spent_open c.args.last (accesses c.args.port.now) c.args.start.taken c.loop-place.place c.loop-place.walk.taken (accesses c.loop-place.port) (accesses c.look.new.port) (accesses c.open.new.port)
+    c.loop-place-test.true c.if-walk-last.true c.loop-place.invariant.spent c.in_ok-found.ensures.bounded c.in_err-open.ensures.bounded
+
+pub returns-in_err-walk-clause-bounded : goal.returns-in_err-walk-clause-bounded
+returns-in_err-walk-clause-bounded g t c =
+    let accesses = g.P.BoardPort.accesses in
+    spent_bus c.args.last (accesses c.args.port.now) c.args.start.taken c.loop-place.place c.loop-place.walk.taken (accesses c.loop-place.port) (accesses c.look.new.port) (accesses c.open.new.port) (accesses c.number_bus.new.port)
+    c.loop-place-test.true c.if-walk-last.true c.loop-place.invariant.spent c.in_ok-found.ensures.bounded c.in_ok-open.ensures.bounded c.in_err-walk.ensures.bounded
+
+pub returns-in_err-walk-2-clause-bounded : goal.returns-in_err-walk-2-clause-bounded
+returns-in_err-walk-2-clause-bounded g t c =
+    let accesses = g.P.BoardPort.accesses in
+    let last = c.args.last in
+    let walk = c.loop-place.walk in
+    let led_on = c.if-branch.walk in
+    let gone : accesses c.if-branch.port + most_of_numbers last led_on.taken ≤ accesses c.open.new.port + most_of_walk last (walk.taken + 1) = elim c.if-branch.branch [
+      | then-branch+in_ok-walk y ↦ rw (y.port-is, y.walk-is) y.in_ok-walk.ensures.spent
+      | else-branch y ↦ rw (y.port-is, y.walk-is) (omega arith)
+    ] in
+    spent_led last (accesses c.args.port.now) c.args.start.taken c.loop-place.place walk.taken led_on.taken (accesses c.loop-place.port) (accesses c.look.new.port) (accesses c.open.new.port) (accesses c.if-branch.port) (accesses c.lead_to.new.port)
+    c.loop-place-test.true c.if-walk-last.true c.loop-place.invariant.spent c.in_ok-found.ensures.bounded c.in_ok-open.ensures.bounded gone c.in_err-walk-2.ensures.bounded

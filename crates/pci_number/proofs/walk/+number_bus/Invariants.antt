@@ -1,4 +1,5 @@
 use Rattle.std.proofs.Common.{◌≡◌, ◌≤◌, ◌-◌}
+use Rattle.pci_number.proofs.Spent.{IsSpent}
 use Rattle.pci_number.specs.Walking.{IsWalking}
 use Rattle.pci_number.proofs.Few.{IsWalkCounted}
 use Rattle.pci_number.specs.Single.{IsWalkStanding}
@@ -13,6 +14,7 @@ invariant-loop-place g l = record {
   above : l.fn.start.taken ≤ l.walk.taken;
   counted : g.P.BoardPort.failures l.port ≡ g.P.BoardPort.failures l.initial.port;
   few : IsWalkCounted (g.P.BoardPort.board l.initial.port) l.bus l.last l.fn.start l.place l.more l.walk (g.P.BoardPort.board l.port) (g.P.BoardPort.writes l.initial.port) (g.P.BoardPort.writes l.port);
+  spent : IsSpent l.last (g.P.BoardPort.accesses l.initial.port) l.fn.start.taken l.place l.walk.taken (g.P.BoardPort.accesses l.port);
 }
 
 abbrev pub decreases-number_bus : goal.decreases-number_bus

@@ -1,5 +1,5 @@
-use Rattle.std.proofs.Common.{◌+◌, Some, sym, subst, ◌∙◌}
-use Rattle.pci_number.proofs.Logs.{read_again, stands, board_stays, byte_read, none_left, none_last, none_made, none_stood, then_board, then_last, then_made, then_stood}
+use Rattle.std.proofs.Common.{ap, ◌+◌, Some, sym, subst, ◌∙◌}
+use Rattle.pci_number.proofs.Logs.{read_again, stands, board_stays, byte_read, none_left, none_last, none_made, none_stood, then_accessed, then_board, then_last, then_made, then_stood}
 use Rattle.pci_number.specs.Access.{IsByteRead}
 use Rattle.pci_number.proofs.replay.ReplayBoardPort.read.Goals as goal
 
@@ -52,3 +52,10 @@ returns-in-Some-clause-no_more g c =
     none_made world port.at c.in-Some.made (stands world port.log.now port.at c.here.result c.in-Some.made port.is_log c.here.ensures c.in-Some.is)
     c.args.access c.args.offset (read_again c.in-Some.made c.to-wanted.result (sym c.if-is.ensures) c.args.access c.args.offset c.to-wanted.ensures.slot c.to-wanted.ensures.offset c.to-wanted.ensures.kind) in
     then_made world (port.at + 1) port.next none ∙ made ∙ sym (then_made world port.at port.next none)
+
+pub returns-in-Some-clause-accessed : goal.returns-in-Some-clause-accessed
+returns-in-Some-clause-accessed g c =
+    let world = g.W.World.world in
+    let port = c.args.self.now in
+    let none = none_left port.next c.if-is_none.ensures in
+    then_accessed world (port.at + 1) port.next none ∙ ap (λ n. n + 1) (sym (then_accessed world port.at port.next none))

@@ -1,5 +1,5 @@
 use Rattle.std.proofs.Common.{◌+◌, ◌∷◌, Some, sym, subst, ◌∙◌, ap}
-use Rattle.pci_number.proofs.Logs.{written_again, stands, byte_written, none_left, one_last, one_made, one_stood, then_board, then_last, then_made, then_stood}
+use Rattle.pci_number.proofs.Logs.{written_again, stands, byte_written, none_left, one_last, one_made, one_stood, then_accessed, then_board, then_last, then_made, then_stood}
 use Rattle.pci_number.specs.Access.{IsByteWritten}
 use Rattle.pci_number.specs.Logs.{board_then, boards_stood}
 use Rattle.pci_number.proofs.replay.ReplayBoardPort.write.Goals as goal
@@ -44,3 +44,10 @@ returns-in-Some-clause-one_more g c =
     one_made world port.at c.in-Some.made (stands world port.log.now port.at c.here.result c.in-Some.made port.is_log c.here.ensures c.in-Some.is)
     c.args.access c.args.offset c.args.value (written_again c.in-Some.made c.to-wanted.result (sym c.if-is.ensures) c.args.access c.args.offset c.args.value c.to-wanted.ensures.slot c.to-wanted.ensures.offset c.to-wanted.ensures.kind c.to-wanted.ensures.value) in
     then_made world (port.at + 1) port.next none ∙ made ∙ ap (λ n. n + 1) (sym (then_made world port.at port.next none))
+
+pub returns-in-Some-clause-accessed : goal.returns-in-Some-clause-accessed
+returns-in-Some-clause-accessed g c =
+    let world = g.W.World.world in
+    let port = c.args.self.now in
+    let none = none_left port.next (sym c.if-is_some.ensures) in
+    then_accessed world (port.at + 1) port.next none ∙ ap (λ n. n + 1) (sym (then_accessed world port.at port.next none))
