@@ -275,8 +275,8 @@ struct pciplan_number_step {
    enum pciplan_number_answer. log has all of them in their order, with what each read showed. The next access is made and
    appended, and the call is made again with the longer log, from log_len 0 on. Numbers are given as pciplan_number.h says:
    depth first in the order of slots, with root + 1 to last; spare numbers are kept free behind a bridge with a hot-plug
-   slot. Only bytes 18h to 1Ah of bridges are written. At most 3,840 accesses are made, and 4,049 more for each number
-   from root + 1 to last.
+   slot. Only bytes 18h to 1Ah of bridges are written. used is at most 3,840, and 4,049 more for each
+   number from root + 1 to last.
 
    It holds of any board whose accesses showed what log says. Where an access fails, nothing more is to be made. Each call
    goes over the whole log, so the time grows with its square: a row of 10 bridges takes 1,538 accesses and some 20 ms in

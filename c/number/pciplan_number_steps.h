@@ -21,7 +21,7 @@ struct pciplan_numbered_by_steps {
 };
 
 /* Numbers the buses behind the host's bus root with root + 1 to last, as pciplan_number.h says. log has room for room
-   accesses: some 130 for each bus that is looked at, and 3 for each function there. It never takes more than 3,840, and
+   accesses: some 130 for each bus that is looked at, and 3 for each function there. It never takes more than 3,841, and
    4,049 for each number from root + 1 to last. */
 struct pciplan_numbered_by_steps pciplan_number_by_steps(uint8_t root, uint8_t last, uint8_t spare,
                                                          struct pciplan_number_access *log, size_t room);
