@@ -1,5 +1,6 @@
 -- Worked examples: what the definitions say of plain registers, texts and small trees, one module a subject.
 pub mod Samples
+pub mod ProfileFaults
 pub mod Registers
 pub mod Bars
 pub mod Roms

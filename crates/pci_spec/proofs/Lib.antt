@@ -45,6 +45,7 @@ pub mod Firsts
 pub mod Looking
 pub mod Chains
 pub mod Pairing
+pub mod ProfileFaults
 pub mod Readable
 pub mod ToldAlike
 pub mod ToldSystems

@@ -8,7 +8,7 @@ use Rattle.std.proofs.lemmas.List.Elements.{Contains-get_or}
 use Rattle.pci_spec.specs.Slot.{Slot, IsSlot, slot_number, same_slot}
 use Rattle.pci_spec.specs.Capability.{pointer}
 use Rattle.pci_spec.specs.System.{System, Function}
-use Rattle.pci_spec.specs.Fault.{Fault, NoVendor, HeaderKind, BarType, BarMask, BarPair, RomMask, WindowMask, CapRange, CapLoop, CapCut, SlotsDiffer, StrayProbe, LoneFunction, PaletteSnoop, VgaEnable, IsaEnable, Subtractive, InReset, PowerState, BusRange, Orphan, Unreached, Clash, Split}
+use Rattle.pci_spec.specs.Fault.{Fault, NoVendor, HeaderKind, BarType, BarMask, BarPair, RomMask, WindowMask, CapRange, CapLoop, CapCut, SlotsDiffer, StrayProbe, LoneFunction, OfProfile, BusRange, Orphan, Unreached, Clash, Split}
 use Rattle.pci_spec.specs.Order.{precedes, slot_key, looking_key, phase_of, is_before, longest_walk, steps_at, step_after, image_at}
 use Rattle.pci_spec.proofs.Members.{in_nil, in_head, in_tail, in_cons_cases, in_filter_to, in_filter_from, in_range_from, pairs_filter, pairs_range}
 use Rattle.pci_spec.proofs.Regions.{precedes-cases}
@@ -79,12 +79,7 @@ key_head image_of (CapCut slot place) = refl
 key_head image_of (SlotsDiffer slot) = refl
 key_head image_of (StrayProbe slot offset) = refl
 key_head image_of (LoneFunction slot) = refl
-key_head image_of (PaletteSnoop slot) = refl
-key_head image_of (VgaEnable slot) = refl
-key_head image_of (IsaEnable slot) = refl
-key_head image_of (Subtractive slot) = refl
-key_head image_of (InReset slot) = refl
-key_head image_of (PowerState slot) = refl
+key_head image_of (OfProfile fault slot) = refl
 key_head image_of (BusRange slot) = refl
 key_head image_of (Orphan slot) = refl
 key_head image_of (Unreached slot register space address bridge) = refl

@@ -11,9 +11,10 @@ use Rattle.pci_spec.specs.Bar as bars
 use Rattle.pci_spec.specs.Rom.{breaks_rom_rule}
 use Rattle.pci_spec.specs.Window.{window_register, breaks_window_rule}
 use Rattle.pci_spec.specs.System.{System, Function}
-use Rattle.pci_spec.specs.Fault.{Fault, fault_number, IsIn, NoVendor, HeaderKind, BarType, BarMask, BarPair, RomMask, WindowMask, CapRange, CapLoop, CapCut, SlotsDiffer, StrayProbe, LoneFunction, PaletteSnoop, VgaEnable, IsaEnable, Subtractive, InReset, PowerState, BusRange, Orphan, Unreached, Clash, Split, SomeAt, HasBarFault, has_no_vendor, has_other_layout, is_stray}
+use Rattle.pci_spec.specs.Fault.{Fault, fault_number, IsIn, NoVendor, HeaderKind, BarType, BarMask, BarPair, RomMask, WindowMask, CapRange, CapLoop, CapCut, SlotsDiffer, StrayProbe, LoneFunction, OfProfile, BusRange, Orphan, Unreached, Clash, Split, SomeAt, HasBarFault, has_no_vendor, has_other_layout, is_stray}
 use Rattle.pci_spec.specs.ToldAlike.{IsReadable}
 use Rattle.pci_spec.specs.ProbeLaws.{is_reading_number, ReadableWithoutFaults}
+use Rattle.pci_spec.proofs.ProfileFaults.{no_reading_number}
 
 -- ---- readable ones have none
 
@@ -42,12 +43,7 @@ module _ (roots : List ℕ) (s : System) (readable : All IsReadable s) where
   none_of_readable (SlotsDiffer slot) k there = there
   none_of_readable (StrayProbe slot offset) k (f, listed, at, there) = both_ways _ ((is_readable f listed).clean offset) there
   none_of_readable (LoneFunction slot) k there = both_ways false refl k
-  none_of_readable (PaletteSnoop slot) k there = both_ways false refl k
-  none_of_readable (VgaEnable slot) k there = both_ways false refl k
-  none_of_readable (IsaEnable slot) k there = both_ways false refl k
-  none_of_readable (Subtractive slot) k there = both_ways false refl k
-  none_of_readable (InReset slot) k there = both_ways false refl k
-  none_of_readable (PowerState slot) k there = both_ways false refl k
+  none_of_readable (OfProfile fault slot) k there = both_ways _ (no_reading_number fault) k
   none_of_readable (BusRange slot) k there = both_ways false refl k
   none_of_readable (Orphan slot) k there = both_ways false refl k
   none_of_readable (Unreached slot register space address bridge) k there = both_ways false refl k

@@ -4,7 +4,7 @@ use Rattle.std.specs.List.{Contains}
 use Rattle.std.proofs.lemmas.List.Elements.{All-contains}
 use Rattle.pci_spec.specs.Number.{IsImage}
 use Rattle.pci_spec.specs.System.{System, IsSystem, IsFunction, Function}
-use Rattle.pci_spec.specs.Fault.{Fault, IsIn, NoVendor, HeaderKind, BarType, BarMask, BarPair, RomMask, WindowMask, CapRange, CapLoop, CapCut, SlotsDiffer, StrayProbe, LoneFunction, PaletteSnoop, VgaEnable, IsaEnable, Subtractive, InReset, PowerState, BusRange, Orphan, Unreached, Clash, Split}
+use Rattle.pci_spec.specs.Fault.{Fault, IsIn, NoVendor, HeaderKind, BarType, BarMask, BarPair, RomMask, WindowMask, CapRange, CapLoop, CapCut, SlotsDiffer, StrayProbe, LoneFunction, OfProfile, BusRange, Orphan, Unreached, Clash, Split}
 use Rattle.pci_spec.specs.Sound.{IsSound}
 use Rattle.pci_spec.specs.SoundLaws.{SoundWithoutFaults}
 use Rattle.pci_spec.proofs.Nesting.{nested_without_bus_faults, no_bus_fault_where_nested}
@@ -37,12 +37,7 @@ none_there roots s system sound (WindowMask slot register) there = sound.profile
 none_there roots s system sound (SlotsDiffer slot) there = there
 none_there roots s system sound (StrayProbe slot offset) there = sound.profile (StrayProbe slot offset) refl there
 none_there roots s system sound (LoneFunction slot) there = sound.profile (LoneFunction slot) refl there
-none_there roots s system sound (PaletteSnoop slot) there = sound.profile (PaletteSnoop slot) refl there
-none_there roots s system sound (VgaEnable slot) there = sound.profile (VgaEnable slot) refl there
-none_there roots s system sound (IsaEnable slot) there = sound.profile (IsaEnable slot) refl there
-none_there roots s system sound (Subtractive slot) there = sound.profile (Subtractive slot) refl there
-none_there roots s system sound (InReset slot) there = sound.profile (InReset slot) refl there
-none_there roots s system sound (PowerState slot) there = sound.profile (PowerState slot) refl there
+none_there roots s system sound (OfProfile fault slot) there = sound.profile (OfProfile fault slot) refl there
 
 -- a system without faults is sound
 sound_without : (roots : List ℕ) (s : System) → IsSystem s → ((fault : Fault) → IsIn roots s fault → ⊥) → IsSound roots s

@@ -3,13 +3,12 @@ use Rattle.std.proofs.Common.{◌≡◌, ℕ, ◌<◌, List, [], ◌∷◌, refl
 use Rattle.std.specs.Bool.{IsTrue, nat_lt, ◌==◌, if◌then◌else◌}
 use Rattle.std.specs.List.{All, AllZip, Contains, list_all, list_any}
 use Rattle.std.proofs.lemmas.List.Elements.{All-contains}
-use Rattle.pci_spec.specs.Number.{has_bit}
 use Rattle.pci_spec.specs.Slot.{Slot, same_slot, slot_number}
-use Rattle.pci_spec.specs.Header.{command, class_code, layout, bridge_control, secondary_bus}
+use Rattle.pci_spec.specs.Header.{layout, secondary_bus}
 use Rattle.pci_spec.specs.Capability.{HasLowPlace, ComesTwiceTo, HasCutBody}
 use Rattle.pci_spec.specs.System.{System, Function, Space, is_bridge, Leads, Gets, forwards, passes, is_prefetchable_part}
 use Rattle.pci_spec.specs.Bus.{has_bus_order, has_no_root_behind, has_lawful_buses, is_inside, share_no_bus, are_siblings, is_root, is_led_to}
-use Rattle.pci_spec.specs.Fault.{Fault, IsIn, NoVendor, HeaderKind, BarType, BarMask, BarPair, RomMask, WindowMask, CapRange, CapLoop, CapCut, SlotsDiffer, StrayProbe, LoneFunction, PaletteSnoop, VgaEnable, IsaEnable, Subtractive, InReset, PowerState, BusRange, Orphan, Unreached, Clash, Split, SomeAt, IsNotInD0, has_no_vendor, has_other_layout, has_function_zero, IsUnreached, ClaimsOnBus, address_in, named_region}
+use Rattle.pci_spec.specs.Fault.{Fault, IsIn, NoVendor, HeaderKind, BarType, BarMask, BarPair, RomMask, WindowMask, CapRange, CapLoop, CapCut, SlotsDiffer, StrayProbe, LoneFunction, OfProfile, BusRange, Orphan, Unreached, Clash, Split, SomeAt, HasProfileFault, has_no_vendor, has_other_layout, has_function_zero, IsUnreached, ClaimsOnBus, address_in, named_region}
 use Rattle.pci_spec.specs.Order.{image_at, is_before, IsFirstIn}
 use Rattle.pci_spec.specs.ToldAlike.{IsToldAlike, IsToldAtLeast, IsReadable}
 use Rattle.pci_spec.specs.ProbeLaws.{GreaterHaveTheFaults, AlikeHaveTheSameFaults, AlikeHaveTheSameFirstFault, AlikeAreSoundTogether}
@@ -233,12 +232,7 @@ module _ (roots : List ℕ) (s t : System) (is_s : All IsReadable s) (is_t : All
   fault_too (StrayProbe slot offset) there = absurd (none_of_readable roots s is_s (StrayProbe slot offset) refl there)
   fault_too (LoneFunction slot) there = some_too slot (λ f. (0 < slot.function) × IsTrue (not (has_function_zero s slot))) (λ f. (0 < slot.function) × IsTrue (not (has_function_zero t slot)))
       (λ f g m h. (h.0, sym (ap not (zero_same slot)) ∙ h.1)) there
-  fault_too (PaletteSnoop slot) there = image_too slot (λ image. IsTrue (has_bit (command image) 5)) there
-  fault_too (VgaEnable slot) there = image_too slot (λ image. IsTrue (layout image == 1 && has_bit (bridge_control image) 3)) there
-  fault_too (IsaEnable slot) there = image_too slot (λ image. IsTrue (layout image == 1 && has_bit (bridge_control image) 2)) there
-  fault_too (Subtractive slot) there = image_too slot (λ image. IsTrue (layout image == 1 && class_code image == 0x060401)) there
-  fault_too (InReset slot) there = image_too slot (λ image. IsTrue (layout image == 1 && has_bit (bridge_control image) 6)) there
-  fault_too (PowerState slot) there = image_too slot IsNotInD0 there
+  fault_too (OfProfile fault slot) there = image_too slot (λ image. HasProfileFault image fault) there
   fault_too (BusRange slot) there = some_too slot (λ f. IsTrue (is_bridge f && not (has_lawful_buses roots s f))) (λ f. IsTrue (is_bridge f && not (has_lawful_buses roots t f)))
       (λ f g m h. let image = m.alike.image in let same = buses_same f g m.alike in sym (λ i. layout (image i) == 1 && not (same i)) ∙ h) there
   fault_too (Orphan slot) there = some_too slot (λ f. IsTrue (not (is_led_to roots s slot.bus))) (λ f. IsTrue (not (is_led_to roots t slot.bus)))

@@ -1,5 +1,5 @@
 -- What is wrong with a system, and what it means that a fault is there.
-use Rattle.std.specs.Prelude.{◌≡◌, ◌≢◌, ◌⊎◌, ℕ, ◌<◌, ◌==◌, nat_lt, Bool, false, ◌&&◌, ◌||◌, not, IsTrue, List, Some}
+use Rattle.std.specs.Prelude.{◌≡◌, ◌≢◌, ◌⊎◌, ℕ, ◌<◌, ◌==◌, nat_lt, Bool, false, ◌&&◌, ◌||◌, not, IsTrue, IsFalse, List, codes, Some}
 use Rattle.std.specs.List.{list_any, Contains}
 use Rattle.pci_spec.specs.Number.{byte_at, has_bit}
 use Rattle.pci_spec.specs.Slot.{Slot}
@@ -42,6 +42,42 @@ named_regions first first_register second second_register = record {
   second = named_region second second_register;
 }
 
+-- ---- faults of the profile
+
+-- A function isn't judged with one of these, which its image shows: of its Command, of a bridge's Bridge Control or Class
+-- Code, or of its capabilities list.
+pub data ProfileFault : Type 0 where
+  PaletteSnoop VgaEnable IsaEnable Subtractive InReset PowerState : ProfileFault
+
+-- their numbers,
+abbrev pub profile_number : ProfileFault → ℕ
+profile_number PaletteSnoop = 51
+profile_number VgaEnable = 52
+profile_number IsaEnable = 53
+profile_number Subtractive = 54
+profile_number InReset = 55
+profile_number PowerState = 56
+
+-- names,
+abbrev pub profile_name : ProfileFault → List ℕ
+profile_name PaletteSnoop = codes "PaletteSnoop"
+profile_name VgaEnable = codes "VgaEnable"
+profile_name IsaEnable = codes "IsaEnable"
+profile_name Subtractive = codes "Subtractive"
+profile_name InReset = codes "InReset"
+profile_name PowerState = codes "PowerState"
+
+-- and places in the order in which they are looked for in a function
+abbrev pub profile_key : ProfileFault → ℕ
+profile_key PaletteSnoop = 0
+profile_key VgaEnable = 1
+profile_key IsaEnable = 2
+profile_key Subtractive = 3
+profile_key InReset = 4
+profile_key PowerState = 5
+
+-- ---- all faults
+
 -- a fault, with the function and the register that it names
 pub data Fault : Type 0 where
   NoVendor : (slot : Slot) → Fault
@@ -57,12 +93,7 @@ pub data Fault : Type 0 where
   SlotsDiffer : (slot : Slot) → Fault
   StrayProbe : (slot : Slot) (offset : ℕ) → Fault
   LoneFunction : (slot : Slot) → Fault
-  PaletteSnoop : (slot : Slot) → Fault
-  VgaEnable : (slot : Slot) → Fault
-  IsaEnable : (slot : Slot) → Fault
-  Subtractive : (slot : Slot) → Fault
-  InReset : (slot : Slot) → Fault
-  PowerState : (slot : Slot) → Fault
+  OfProfile : (fault : ProfileFault) (slot : Slot) → Fault
   BusRange : (slot : Slot) → Fault
   Orphan : (slot : Slot) → Fault
   Unreached : (slot : Slot) (register : ℕ) (space : Space) (address : ℕ) (bridge : Slot) → Fault
@@ -85,12 +116,7 @@ fault_number (CapCut slot place) = 29
 fault_number (SlotsDiffer slot) = 30
 fault_number (StrayProbe slot offset) = 31
 fault_number (LoneFunction slot) = 50
-fault_number (PaletteSnoop slot) = 51
-fault_number (VgaEnable slot) = 52
-fault_number (IsaEnable slot) = 53
-fault_number (Subtractive slot) = 54
-fault_number (InReset slot) = 55
-fault_number (PowerState slot) = 56
+fault_number (OfProfile fault slot) = profile_number fault
 fault_number (BusRange slot) = 57
 fault_number (Orphan slot) = 58
 fault_number (Unreached slot register space address bridge) = 60
@@ -150,6 +176,29 @@ IsNotInD0At image place =
 -- and one that the walk comes to does
 abbrev pub IsNotInD0 : List ℕ → Type 0
 IsNotInD0 image = (place : ℕ) × ComesTo image place × IsNotInD0At image place
+
+-- what each fault of the profile means of an image
+abbrev pub HasProfileFault : List ℕ → ProfileFault → Type 0
+HasProfileFault image PaletteSnoop = IsTrue (has_bit (command image) PALETTE_SNOOP)
+HasProfileFault image VgaEnable = IsTrue (controls_bridge image VGA_ENABLE)
+HasProfileFault image IsaEnable = IsTrue (controls_bridge image ISA_ENABLE)
+HasProfileFault image Subtractive = IsTrue (is_subtractive_bridge image)
+HasProfileFault image InReset = IsTrue (controls_bridge image SECONDARY_BUS_RESET)
+HasProfileFault image PowerState = IsNotInD0 image
+
+-- none of them is there: a bridge, where the image is one, passes no VGA or ISA accesses of its own, decodes its windows
+-- alone, and isn't in reset,
+pub record IsPlainBridge (image : List ℕ) : Type 0 where
+  pub vga : IsFalse (controls_bridge image VGA_ENABLE)
+  pub isa : IsFalse (controls_bridge image ISA_ENABLE)
+  pub subtractive : IsFalse (is_subtractive_bridge image)
+  pub reset : IsFalse (controls_bridge image SECONDARY_BUS_RESET)
+
+-- and any function answers its address registers alone, and is in D0
+pub record IsPlainImage (image : List ℕ) : Type 0 where
+  pub palette : IsFalse (has_bit (command image) PALETTE_SNOOP)
+  pub bridge : IsPlainBridge image
+  pub awake : IsNotInD0 image → ⊥
 
 -- ---- of a system
 
@@ -224,14 +273,7 @@ IsIn roots s (StrayProbe slot offset) =
     SomeAt s slot (λ f. IsTrue (is_stray f.image f.probe offset))
 IsIn roots s (LoneFunction slot) =
     SomeAt s slot (λ f. (0 < slot.function) × IsTrue (not (has_function_zero s slot)))
-IsIn roots s (PaletteSnoop slot) =
-    SomeAt s slot (λ f. IsTrue (has_bit (command f.image) PALETTE_SNOOP))
-IsIn roots s (VgaEnable slot) = SomeAt s slot (λ f. IsTrue (controls_bridge f.image VGA_ENABLE))
-IsIn roots s (IsaEnable slot) = SomeAt s slot (λ f. IsTrue (controls_bridge f.image ISA_ENABLE))
-IsIn roots s (Subtractive slot) = SomeAt s slot (λ f. IsTrue (is_subtractive_bridge f.image))
-IsIn roots s (InReset slot) =
-    SomeAt s slot (λ f. IsTrue (controls_bridge f.image SECONDARY_BUS_RESET))
-IsIn roots s (PowerState slot) = SomeAt s slot (λ f. IsNotInD0 f.image)
+IsIn roots s (OfProfile fault slot) = SomeAt s slot (λ f. HasProfileFault f.image fault)
 IsIn roots s (BusRange slot) =
     SomeAt s slot (λ f. IsTrue (is_bridge f && not (has_lawful_buses roots s f)))
 IsIn roots s (Orphan slot) = SomeAt s slot (λ f. IsTrue (not (is_led_to roots s slot.bus)))

@@ -4,7 +4,7 @@ use Rattle.pci_spec.specs.Slot.{Slot}
 use Rattle.pci_spec.specs.Text.{hex_digit, hex_byte, slot_text}
 use Rattle.pci_spec.specs.Window.{WindowKind, IoWindow, MemoryWindow, PrefetchWindow}
 use Rattle.pci_spec.specs.System.{Space, Io, Memory}
-use Rattle.pci_spec.specs.Fault.{Fault, fault_number, NoVendor, HeaderKind, BarType, BarMask, BarPair, RomMask, WindowMask, CapRange, CapLoop, CapCut, SlotsDiffer, StrayProbe, LoneFunction, PaletteSnoop, VgaEnable, IsaEnable, Subtractive, InReset, PowerState, BusRange, Orphan, Unreached, Clash, Split}
+use Rattle.pci_spec.specs.Fault.{Fault, fault_number, profile_name, NoVendor, HeaderKind, BarType, BarMask, BarPair, RomMask, WindowMask, CapRange, CapLoop, CapCut, SlotsDiffer, StrayProbe, LoneFunction, OfProfile, BusRange, Orphan, Unreached, Clash, Split}
 use Rattle.pci_spec.specs.Machine.{Write}
 
 -- a number in so many hex digits
@@ -69,12 +69,7 @@ fault_name (CapCut slot place) = codes "CapCut"
 fault_name (SlotsDiffer slot) = codes "SlotsDiffer"
 fault_name (StrayProbe slot offset) = codes "StrayProbe"
 fault_name (LoneFunction slot) = codes "LoneFunction"
-fault_name (PaletteSnoop slot) = codes "PaletteSnoop"
-fault_name (VgaEnable slot) = codes "VgaEnable"
-fault_name (IsaEnable slot) = codes "IsaEnable"
-fault_name (Subtractive slot) = codes "Subtractive"
-fault_name (InReset slot) = codes "InReset"
-fault_name (PowerState slot) = codes "PowerState"
+fault_name (OfProfile fault slot) = profile_name fault
 fault_name (BusRange slot) = codes "BusRange"
 fault_name (Orphan slot) = codes "Orphan"
 fault_name (Unreached slot register space address bridge) = codes "Unreached"
@@ -96,12 +91,7 @@ fault_fields (CapCut slot place) = region_field slot place
 fault_fields (SlotsDiffer slot) = slot_field slot
 fault_fields (StrayProbe slot offset) = region_field slot offset
 fault_fields (LoneFunction slot) = slot_field slot
-fault_fields (PaletteSnoop slot) = slot_field slot
-fault_fields (VgaEnable slot) = slot_field slot
-fault_fields (IsaEnable slot) = slot_field slot
-fault_fields (Subtractive slot) = slot_field slot
-fault_fields (InReset slot) = slot_field slot
-fault_fields (PowerState slot) = slot_field slot
+fault_fields (OfProfile fault slot) = slot_field slot
 fault_fields (BusRange slot) = slot_field slot
 fault_fields (Orphan slot) = slot_field slot
 fault_fields (Unreached slot register space address bridge) =

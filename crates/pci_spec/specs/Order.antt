@@ -5,7 +5,7 @@ use Rattle.pci_spec.specs.Slot.{Slot, same_slot}
 use Rattle.pci_spec.specs.Capability.{pointer}
 use Rattle.pci_spec.specs.Text.{Block}
 use Rattle.pci_spec.specs.System.{System, Space, Io, Memory, system_of}
-use Rattle.pci_spec.specs.Fault.{Fault, NoVendor, HeaderKind, BarType, BarMask, BarPair, RomMask, WindowMask, CapRange, CapLoop, CapCut, SlotsDiffer, StrayProbe, LoneFunction, PaletteSnoop, VgaEnable, IsaEnable, Subtractive, InReset, PowerState, BusRange, Orphan, Unreached, Clash, Split, IsIn, IsThere}
+use Rattle.pci_spec.specs.Fault.{Fault, ProfileFault, profile_key, NoVendor, HeaderKind, BarType, BarMask, BarPair, RomMask, WindowMask, CapRange, CapLoop, CapCut, SlotsDiffer, StrayProbe, LoneFunction, OfProfile, BusRange, Orphan, Unreached, Clash, Split, IsIn, IsThere}
 
 -- one list of numbers is before another, by the first place at which they differ
 abbrev pub precedes : List ℕ → List ℕ → Bool
@@ -52,7 +52,7 @@ pub data Check : Type 0 where
   -- of a place of the capabilities list
   PlaceRange PlaceVisits PlaceBody : Check
   -- of Profile
-  PaletteSnoopBit VgaEnableBit IsaEnableBit ClassCode BusResetBit PowerStateBits : Check
+  ProfileCheck : (fault : ProfileFault) → Check
   -- of Place
   FunctionZero WayToBus BusNumbers : Check
   -- of Judging
@@ -69,12 +69,7 @@ check_key Capabilities = 3
 check_key PlaceRange = 0
 check_key PlaceVisits = 1
 check_key PlaceBody = 2
-check_key PaletteSnoopBit = 0
-check_key VgaEnableBit = 1
-check_key IsaEnableBit = 2
-check_key ClassCode = 3
-check_key BusResetBit = 4
-check_key PowerStateBits = 5
+check_key (ProfileCheck fault) = profile_key fault
 check_key FunctionZero = 0
 check_key WayToBus = 1
 check_key BusNumbers = 2
@@ -133,12 +128,7 @@ looking_key image_of (CapLoop slot place) =
 looking_key image_of (CapCut slot place) =
     in_phase Decoding slot Capabilities
     (step_after 0 (image_of slot) place ∷ check_key PlaceBody ∷ [])
-looking_key image_of (PaletteSnoop slot) = in_phase Profile slot PaletteSnoopBit []
-looking_key image_of (VgaEnable slot) = in_phase Profile slot VgaEnableBit []
-looking_key image_of (IsaEnable slot) = in_phase Profile slot IsaEnableBit []
-looking_key image_of (Subtractive slot) = in_phase Profile slot ClassCode []
-looking_key image_of (InReset slot) = in_phase Profile slot BusResetBit []
-looking_key image_of (PowerState slot) = in_phase Profile slot PowerStateBits []
+looking_key image_of (OfProfile fault slot) = in_phase Profile slot (ProfileCheck fault) []
 looking_key image_of (LoneFunction slot) = in_phase Place slot FunctionZero []
 looking_key image_of (Orphan slot) = in_phase Place slot WayToBus []
 looking_key image_of (BusRange slot) = in_phase Place slot BusNumbers []

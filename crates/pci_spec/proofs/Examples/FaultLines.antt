@@ -5,7 +5,7 @@ use Rattle.std.proofs.lemmas.Bool.{both_ways}
 use Rattle.pci_spec.specs.Slot.{Slot}
 use Rattle.pci_spec.specs.Text.{Block}
 use Rattle.pci_spec.specs.System.{Function, function_of, system_of}
-use Rattle.pci_spec.specs.Fault.{Fault, IsThere, NoVendor, HeaderKind, BarMask, CapRange, CapLoop, SlotsDiffer, StrayProbe, PaletteSnoop, RomMask}
+use Rattle.pci_spec.specs.Fault.{Fault, IsThere, NoVendor, HeaderKind, BarMask, CapRange, CapLoop, SlotsDiffer, StrayProbe, OfProfile, PaletteSnoop, RomMask}
 use Rattle.pci_spec.specs.Order.{looking_key, slot_key, is_before, image_at}
 use Rattle.pci_spec.specs.FaultLines.{subject, IsLine, AreAllFaults}
 use Rattle.pci_spec.proofs.Members.{in_nil, in_cons_cases}
@@ -57,7 +57,7 @@ first_of_two = function_of (block 1 (blank 0 0)) (block 1 (put_bytes ((0x40, 1) 
 stray_there : IsThere host dump probe (StrayProbe one 0x40)
 stray_there = (refl, (first_of_two, (0, lit< tt, refl), refl, refl))
 
-later_phase_has_no_line : IsLine host dump probe (PaletteSnoop two) → ⊥
+later_phase_has_no_line : IsLine host dump probe (OfProfile PaletteSnoop two) → ⊥
 later_phase_has_no_line line = line.none_earlier (StrayProbe one 0x40) (lit< tt) stray_there
 
 second_fault_of_identity_has_no_line : IsLine host dump probe (StrayProbe one 0x41) → ⊥

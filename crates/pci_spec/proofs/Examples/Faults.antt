@@ -7,7 +7,7 @@ use Rattle.pci_spec.specs.Slot.{Slot}
 use Rattle.pci_spec.specs.Text.{Block}
 use Rattle.pci_spec.specs.Window.{IoWindow}
 use Rattle.pci_spec.specs.System.{Io, Memory, Function, system_of}
-use Rattle.pci_spec.specs.Fault.{Fault, IsIn, IsThere, has_no_vendor, has_other_layout, is_stray, has_function_zero, SomeAt, NoVendor, BarType, BarMask, BarPair, RomMask, WindowMask, SlotsDiffer, StrayProbe, LoneFunction, PaletteSnoop, VgaEnable, IsaEnable, Subtractive, InReset, PowerState, BusRange, Orphan, Unreached, Clash, Split}
+use Rattle.pci_spec.specs.Fault.{Fault, IsIn, IsThere, has_no_vendor, has_other_layout, is_stray, has_function_zero, SomeAt, NoVendor, BarType, BarMask, BarPair, RomMask, WindowMask, SlotsDiffer, StrayProbe, LoneFunction, OfProfile, PaletteSnoop, VgaEnable, IsaEnable, Subtractive, InReset, PowerState, BusRange, Orphan, Unreached, Clash, Split}
 use Rattle.pci_spec.specs.Order.{precedes, judging_key}
 use Rattle.pci_spec.proofs.Examples.Samples.{put, put_bytes, zeros, blank, slot, device, bridge, host}
 
@@ -65,7 +65,7 @@ rom_of_32_mb = (device (slot 0 1 0) 0 [] ((0x30, 0xfe000000) ∷ []), there _, r
 window_whose_read_backs_differ : IsIn host (bridge (slot 0 1 0) 0 0x10100 [] ((0x1c, 0xf1f0) ∷ []) ∷ []) (WindowMask (slot 0 1 0) 0x1c)
 window_whose_read_backs_differ = (bridge (slot 0 1 0) 0 0x10100 [] ((0x1c, 0xf1f0) ∷ []), there _, refl, (IoWindow, refl, refl, refl))
 
-palette_snoop : IsIn host (device (slot 0 1 0) 0x20 [] [] ∷ []) (PaletteSnoop (slot 0 1 0))
+palette_snoop : IsIn host (device (slot 0 1 0) 0x20 [] [] ∷ []) (OfProfile PaletteSnoop (slot 0 1 0))
 palette_snoop = (device (slot 0 1 0) 0x20 [] [], there _, refl, refl)
 
 -- a bridge with these bits of Bridge Control, and one of this class
@@ -75,23 +75,23 @@ controlled bits = bridge (slot 0 1 0) 0 0x10100 ((0x3c, 65536 * bits) ∷ []) []
 abbrev of_class : ℕ → Function
 of_class class = bridge (slot 0 1 0) 0 0x10100 ((0x08, 256 * class) ∷ []) []
 
-isa_enable : IsIn host (controlled 4 ∷ []) (IsaEnable (slot 0 1 0))
+isa_enable : IsIn host (controlled 4 ∷ []) (OfProfile IsaEnable (slot 0 1 0))
 isa_enable = (controlled 4, there _, refl, refl)
 
-vga_enable : IsIn host (controlled 8 ∷ []) (VgaEnable (slot 0 1 0))
+vga_enable : IsIn host (controlled 8 ∷ []) (OfProfile VgaEnable (slot 0 1 0))
 vga_enable = (controlled 8, there _, refl, refl)
 
-secondary_bus_reset : IsIn host (controlled 0x40 ∷ []) (InReset (slot 0 1 0))
+secondary_bus_reset : IsIn host (controlled 0x40 ∷ []) (OfProfile InReset (slot 0 1 0))
 secondary_bus_reset = (controlled 0x40, there _, refl, refl)
 
-subtractive_bridge : IsIn host (of_class 0x060401 ∷ []) (Subtractive (slot 0 1 0))
+subtractive_bridge : IsIn host (of_class 0x060401 ∷ []) (OfProfile Subtractive (slot 0 1 0))
 subtractive_bridge = (of_class 0x060401, there _, refl, refl)
 
 -- the state of the second of two power management capabilities counts too
 abbrev sleeper : ℕ → Function
 sleeper state = device (slot 0 1 0) 0 ((0x04, 0x00100000) ∷ (0x34, 0x40) ∷ (0x40, 0x4801) ∷ (0x48, 1) ∷ (0x4c, state) ∷ []) []
 
-asleep : IsIn host (sleeper 0x8103 ∷ []) (PowerState (slot 0 1 0))
+asleep : IsIn host (sleeper 0x8103 ∷ []) (OfProfile PowerState (slot 0 1 0))
 asleep = (sleeper 0x8103, there _, refl, (0x48, (1, refl, λ e. omega (arith, e)), (refl, λ e. let three : 3 ≡ 0 = e in omega (arith, three))))
 
 no_function_on_a_bus_that_nothing_leads_to : IsIn host (device (slot 5 0 0) 0 [] [] ∷ []) (Orphan (slot 5 0 0))
@@ -112,25 +112,25 @@ none_at f place P not_there (g, listed, at, h) = not_there (subst P (sym (only_o
 no : false ≡ true → ⊥
 no h = both_ways false refl h
 
-other_command_bits : IsIn host (device (slot 0 1 0) 0xffdf [] [] ∷ []) (PaletteSnoop (slot 0 1 0)) → ⊥
+other_command_bits : IsIn host (device (slot 0 1 0) 0xffdf [] [] ∷ []) (OfProfile PaletteSnoop (slot 0 1 0)) → ⊥
 other_command_bits h = none_at _ _ _ no h
 
-other_bits_than_isa_enable : IsIn host (controlled 0xfffb ∷ []) (IsaEnable (slot 0 1 0)) → ⊥
+other_bits_than_isa_enable : IsIn host (controlled 0xfffb ∷ []) (OfProfile IsaEnable (slot 0 1 0)) → ⊥
 other_bits_than_isa_enable h = none_at _ _ _ no h
 
-other_bits_than_vga_enable : IsIn host (controlled 0xfff7 ∷ []) (VgaEnable (slot 0 1 0)) → ⊥
+other_bits_than_vga_enable : IsIn host (controlled 0xfff7 ∷ []) (OfProfile VgaEnable (slot 0 1 0)) → ⊥
 other_bits_than_vga_enable h = none_at _ _ _ no h
 
-other_bits_than_reset : IsIn host (controlled 0xffbf ∷ []) (InReset (slot 0 1 0)) → ⊥
+other_bits_than_reset : IsIn host (controlled 0xffbf ∷ []) (OfProfile InReset (slot 0 1 0)) → ⊥
 other_bits_than_reset h = none_at _ _ _ no h
 
-plain_bridge_class : IsIn host (of_class 0x060400 ∷ []) (Subtractive (slot 0 1 0)) → ⊥
+plain_bridge_class : IsIn host (of_class 0x060400 ∷ []) (OfProfile Subtractive (slot 0 1 0)) → ⊥
 plain_bridge_class h = none_at _ _ _ no h
 
-device_of_that_class : IsIn host (device (slot 0 1 0) 0 ((0x08, 0x06040100) ∷ []) [] ∷ []) (Subtractive (slot 0 1 0)) → ⊥
+device_of_that_class : IsIn host (device (slot 0 1 0) 0 ((0x08, 0x06040100) ∷ []) [] ∷ []) (OfProfile Subtractive (slot 0 1 0)) → ⊥
 device_of_that_class h = none_at _ _ _ no h
 
-device_has_no_bridge_control : IsIn host (device (slot 0 1 0) 0 ((0x3c, 0xffff0000) ∷ []) [] ∷ []) (VgaEnable (slot 0 1 0)) → ⊥
+device_has_no_bridge_control : IsIn host (device (slot 0 1 0) 0 ((0x3c, 0xffff0000) ∷ []) [] ∷ []) (OfProfile VgaEnable (slot 0 1 0)) → ⊥
 device_has_no_bridge_control h = none_at _ _ _ no h
 
 function_zero_stands_alone : IsIn host (device (slot 0 1 0) 0 [] [] ∷ []) (LoneFunction (slot 0 1 0)) → ⊥
@@ -216,8 +216,8 @@ nor_after_them = refl
 
 -- ---- faults of bridges alone
 
-device_is_not_in_reset : IsIn host (device (slot 0 1 0) 0 ((0x3c, 0xffff0000) ∷ []) [] ∷ []) (InReset (slot 0 1 0)) → ⊥
+device_is_not_in_reset : IsIn host (device (slot 0 1 0) 0 ((0x3c, 0xffff0000) ∷ []) [] ∷ []) (OfProfile InReset (slot 0 1 0)) → ⊥
 device_is_not_in_reset h = none_at _ _ _ (both_ways false refl) h
 
-device_has_no_isa_enable : IsIn host (device (slot 0 1 0) 0 ((0x3c, 0xffff0000) ∷ []) [] ∷ []) (IsaEnable (slot 0 1 0)) → ⊥
+device_has_no_isa_enable : IsIn host (device (slot 0 1 0) 0 ((0x3c, 0xffff0000) ∷ []) [] ∷ []) (OfProfile IsaEnable (slot 0 1 0)) → ⊥
 device_has_no_isa_enable h = none_at _ _ _ (both_ways false refl) h

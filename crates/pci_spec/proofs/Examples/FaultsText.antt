@@ -4,7 +4,7 @@ use Rattle.std.specs.Prelude.{slice_index_or}
 use Rattle.std.specs.Fmt.{digits}
 use Rattle.pci_spec.specs.Number.{each_from, some_from}
 use Rattle.pci_spec.specs.System.{System, Memory}
-use Rattle.pci_spec.specs.Fault.{Fault, VgaEnable, Unreached}
+use Rattle.pci_spec.specs.Fault.{Fault, OfProfile, VgaEnable, Unreached}
 use Rattle.pci_spec.specs.Why.{scaled_text, IsWhy}
 use Rattle.pci_spec.specs.FaultsText.{fault_line, is_judged, IsFaultsText}
 use Rattle.pci_spec.proofs.Examples.Samples.{slot, device, host}
@@ -13,7 +13,7 @@ abbrev line : List ℕ → List ℕ
 line text = text ++ 10 ∷ []
 
 abbrev vga : Fault
-vga = VgaEnable (slot 0 2 0)
+vga = OfProfile VgaEnable (slot 0 2 0)
 
 abbrev unreached : Fault
 unreached = Unreached (slot 1 0 0) 0x10 Memory 0xe0000000 (slot 0 1 0)

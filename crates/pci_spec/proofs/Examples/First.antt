@@ -7,7 +7,7 @@ use Rattle.std.proofs.lemmas.Nat.{pow_below}
 use Rattle.pci_spec.specs.Slot.{Slot}
 use Rattle.pci_spec.specs.Bar.{Memory32, is_run}
 use Rattle.pci_spec.specs.System.{Function, System, Space, Memory, Part, Bar, Rom, Window, Claims, Leads, is_bridge, register_of}
-use Rattle.pci_spec.specs.Fault.{Fault, IsIn, IsClash, ClaimsOnBus, NoVendor, HeaderKind, BarType, BarMask, BarPair, RomMask, WindowMask, CapRange, CapLoop, CapCut, SlotsDiffer, StrayProbe, LoneFunction, PaletteSnoop, VgaEnable, IsaEnable, Subtractive, InReset, PowerState, BusRange, Orphan, Unreached, Clash, Split, address_in, named_region, named_regions}
+use Rattle.pci_spec.specs.Fault.{Fault, IsIn, IsClash, ClaimsOnBus, NoVendor, HeaderKind, BarType, BarMask, BarPair, RomMask, WindowMask, CapRange, CapLoop, CapCut, SlotsDiffer, StrayProbe, LoneFunction, OfProfile, BusRange, Orphan, Unreached, Clash, Split, address_in, named_region, named_regions}
 use Rattle.pci_spec.specs.Order.{IsFirst, precedes, judging_key}
 use Rattle.pci_spec.proofs.Bits.{agree-interval, run_number}
 use Rattle.pci_spec.proofs.Absent.{in_pair, not_lawful, no_rom}
@@ -146,12 +146,7 @@ nothing_before (CapCut at r) h is = no h
 nothing_before (SlotsDiffer at) h is = is
 nothing_before (StrayProbe at r) h is = no h
 nothing_before (LoneFunction at) h is = no h
-nothing_before (PaletteSnoop at) h is = no h
-nothing_before (VgaEnable at) h is = no h
-nothing_before (IsaEnable at) h is = no h
-nothing_before (Subtractive at) h is = no h
-nothing_before (InReset at) h is = no h
-nothing_before (PowerState at) h is = no h
+nothing_before (OfProfile fault at) h is = no h
 nothing_before (BusRange at) h is = no h
 nothing_before (Orphan at) h is = no h
 nothing_before (Unreached at r space a bridge) h is = no_way is.bridges is.root at.bus is.b is.leads is.on_the_way

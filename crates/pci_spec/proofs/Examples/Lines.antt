@@ -3,7 +3,7 @@ use Rattle.std.proofs.Common.{◌≡◌, refl, None, Some}
 use Rattle.std.specs.Prelude.{codes}
 use Rattle.pci_spec.specs.Slot.{Slot}
 use Rattle.pci_spec.specs.System.{Io, Memory}
-use Rattle.pci_spec.specs.Fault.{NoVendor, HeaderKind, BarType, BarMask, BarPair, RomMask, WindowMask, CapRange, CapLoop, CapCut, SlotsDiffer, StrayProbe, LoneFunction, PaletteSnoop, VgaEnable, IsaEnable, Subtractive, InReset, PowerState, BusRange, Orphan, Unreached, Clash, Split}
+use Rattle.pci_spec.specs.Fault.{NoVendor, HeaderKind, BarType, BarMask, BarPair, RomMask, WindowMask, CapRange, CapLoop, CapCut, SlotsDiffer, StrayProbe, LoneFunction, OfProfile, PaletteSnoop, VgaEnable, IsaEnable, Subtractive, InReset, PowerState, BusRange, Orphan, Unreached, Clash, Split}
 use Rattle.pci_spec.specs.Line.{fault_text, verdict_line, write_line}
 use Rattle.pci_spec.proofs.Examples.Samples.{slot, write}
 
@@ -51,22 +51,22 @@ stray_probe = refl
 lone_function : fault_text (LoneFunction place) ≡ codes "50 LoneFunction 0a:1f.3"
 lone_function = refl
 
-palette_snoop : fault_text (PaletteSnoop place) ≡ codes "51 PaletteSnoop 0a:1f.3"
+palette_snoop : fault_text (OfProfile PaletteSnoop place) ≡ codes "51 PaletteSnoop 0a:1f.3"
 palette_snoop = refl
 
-vga_enable : fault_text (VgaEnable place) ≡ codes "52 VgaEnable 0a:1f.3"
+vga_enable : fault_text (OfProfile VgaEnable place) ≡ codes "52 VgaEnable 0a:1f.3"
 vga_enable = refl
 
-isa_enable : fault_text (IsaEnable place) ≡ codes "53 IsaEnable 0a:1f.3"
+isa_enable : fault_text (OfProfile IsaEnable place) ≡ codes "53 IsaEnable 0a:1f.3"
 isa_enable = refl
 
-subtractive : fault_text (Subtractive place) ≡ codes "54 Subtractive 0a:1f.3"
+subtractive : fault_text (OfProfile Subtractive place) ≡ codes "54 Subtractive 0a:1f.3"
 subtractive = refl
 
-in_reset : fault_text (InReset place) ≡ codes "55 InReset 0a:1f.3"
+in_reset : fault_text (OfProfile InReset place) ≡ codes "55 InReset 0a:1f.3"
 in_reset = refl
 
-power_state : fault_text (PowerState place) ≡ codes "56 PowerState 0a:1f.3"
+power_state : fault_text (OfProfile PowerState place) ≡ codes "56 PowerState 0a:1f.3"
 power_state = refl
 
 bus_range : fault_text (BusRange place) ≡ codes "57 BusRange 0a:1f.3"

@@ -1,7 +1,7 @@
 -- A system of no functions is sound: no fault is there.
 use Rattle.std.proofs.Common.{[], ◌∷◌, arith}
 use Rattle.std.specs.List.{Contains}
-use Rattle.pci_spec.specs.Fault.{Fault, IsIn, NoVendor, HeaderKind, BarType, BarMask, BarPair, RomMask, WindowMask, CapRange, CapLoop, CapCut, SlotsDiffer, StrayProbe, LoneFunction, PaletteSnoop, VgaEnable, IsaEnable, Subtractive, InReset, PowerState, BusRange, Orphan, Unreached, Clash, Split}
+use Rattle.pci_spec.specs.Fault.{Fault, IsIn, NoVendor, HeaderKind, BarType, BarMask, BarPair, RomMask, WindowMask, CapRange, CapLoop, CapCut, SlotsDiffer, StrayProbe, LoneFunction, OfProfile, BusRange, Orphan, Unreached, Clash, Split}
 use Rattle.pci_spec.specs.Sound.{IsSound}
 
 none_in : {X : Type 0} (x : X) → Contains [] x → ⊥
@@ -21,12 +21,7 @@ nothing_in (CapCut s p) h = none_in h.0 h.1
 nothing_in (SlotsDiffer s) h = h
 nothing_in (StrayProbe s o) h = none_in h.0 h.1
 nothing_in (LoneFunction s) h = none_in h.0 h.1
-nothing_in (PaletteSnoop s) h = none_in h.0 h.1
-nothing_in (VgaEnable s) h = none_in h.0 h.1
-nothing_in (IsaEnable s) h = none_in h.0 h.1
-nothing_in (Subtractive s) h = none_in h.0 h.1
-nothing_in (InReset s) h = none_in h.0 h.1
-nothing_in (PowerState s) h = none_in h.0 h.1
+nothing_in (OfProfile fault s) h = none_in h.0 h.1
 nothing_in (BusRange s) h = none_in h.0 h.1
 nothing_in (Orphan s) h = none_in h.0 h.1
 nothing_in (Unreached s r sp a b) h = none_in h.f h.listed

@@ -2,7 +2,7 @@
 use Rattle.std.proofs.Common.{◌≡◌, ℕ, List, [], ◌∷◌, refl, Bool, true, false, map}
 use Rattle.pci_spec.specs.Slot.{Slot}
 use Rattle.pci_spec.specs.System.{Io, Memory}
-use Rattle.pci_spec.specs.Fault.{Fault, NoVendor, HeaderKind, BarType, BarMask, BarPair, RomMask, WindowMask, CapRange, CapLoop, CapCut, SlotsDiffer, StrayProbe, LoneFunction, PaletteSnoop, VgaEnable, IsaEnable, Subtractive, InReset, PowerState, BusRange, Orphan, Unreached, Clash, Split}
+use Rattle.pci_spec.specs.Fault.{Fault, NoVendor, HeaderKind, BarType, BarMask, BarPair, RomMask, WindowMask, CapRange, CapLoop, CapCut, SlotsDiffer, StrayProbe, LoneFunction, OfProfile, PaletteSnoop, VgaEnable, IsaEnable, Subtractive, InReset, PowerState, BusRange, Orphan, Unreached, Clash, Split}
 use Rattle.pci_spec.specs.Order.{looking_key, precedes, steps_at}
 use Rattle.pci_spec.proofs.Examples.Samples.{slot, blank, put_bytes}
 
@@ -26,7 +26,7 @@ in_order (a ∷ b ∷ rest) = and (precedes (looking_key (λ s. looped) a) (look
     and true q = q
     and false q = false
 
-phases_come_first : in_order (SlotsDiffer high ∷ NoVendor high ∷ BarMask high 0x10 ∷ PaletteSnoop high ∷ LoneFunction high
+phases_come_first : in_order (SlotsDiffer high ∷ NoVendor high ∷ BarMask high 0x10 ∷ OfProfile PaletteSnoop high ∷ LoneFunction high
     ∷ Unreached high 0x10 Io 9 low ∷ Clash 9 Memory 9 high 0x10 high 0x14 ∷ Split Io 0 low 0x10 high 0x10 ∷ []) ≡ true
 phases_come_first = refl
 
@@ -44,13 +44,13 @@ places_in_the_order_of_the_walk : in_order (CapCut high 0x80 ∷ CapRange high 0
 unfolding steps_at
 places_in_the_order_of_the_walk = refl
 
-profile_by_number : in_order (PowerState low ∷ PaletteSnoop high ∷ VgaEnable high ∷ IsaEnable high ∷ Subtractive high ∷ InReset high ∷ PowerState high ∷ []) ≡ true
+profile_by_number : in_order (OfProfile PowerState low ∷ OfProfile PaletteSnoop high ∷ OfProfile VgaEnable high ∷ OfProfile IsaEnable high ∷ OfProfile Subtractive high ∷ OfProfile InReset high ∷ OfProfile PowerState high ∷ []) ≡ true
 profile_by_number = refl
 
 place_in_the_tree : in_order (BusRange low ∷ LoneFunction high ∷ Orphan high ∷ BusRange high ∷ []) ≡ true
 place_in_the_tree = refl
 
-a_later_phase_does_not_precede : in_order (PaletteSnoop low ∷ NoVendor high ∷ []) ≡ false
+a_later_phase_does_not_precede : in_order (OfProfile PaletteSnoop low ∷ NoVendor high ∷ []) ≡ false
 a_later_phase_does_not_precede = refl
 
 -- ---- far along a list

@@ -12,18 +12,19 @@ use Rattle.pci_spec.specs.Window.{WindowKind, IoWindow, MemoryWindow, PrefetchWi
 use Rattle.pci_spec.specs.Capability.{HasChain, pointer}
 use Rattle.pci_spec.specs.System.{Function, IsFunction, IsSystem, Space, Io, Memory, Part, Bar, Rom, Window, Claims, register_of, is_bridge}
 use Rattle.pci_spec.specs.Bus.{IsNested, is_root}
-use Rattle.pci_spec.specs.Fault.{IsIn, NoVendor, HeaderKind, BarType, BarMask, BarPair, RomMask, WindowMask, CapRange, CapLoop, CapCut, SlotsDiffer, StrayProbe, LoneFunction, PaletteSnoop, VgaEnable, IsaEnable, Subtractive, InReset, PowerState, BusRange, Orphan, Unreached, Clash, Split, has_no_vendor, is_stray}
+use Rattle.pci_spec.specs.Fault.{IsIn, HasProfileFault, NoVendor, HeaderKind, BarType, BarMask, BarPair, RomMask, WindowMask, CapRange, CapLoop, CapCut, SlotsDiffer, StrayProbe, LoneFunction, OfProfile, BusRange, Orphan, Unreached, Clash, Split, has_no_vendor, is_stray}
 use Rattle.pci_spec.specs.Sound.{IsSound, IsSameRegion, IsInProfile}
 use Rattle.pci_spec.specs.Decoded.{bar_size}
 use Rattle.pci_spec.specs.ToldAlike.{IsToldAlike, IsReadable, enables_bar}
 use Rattle.pci_spec.proofs.Absent.{not_lawful, no_rom}
 use Rattle.pci_spec.proofs.Bits.{interval-agrees}
 use Rattle.pci_spec.proofs.BarLaws.{bar_answers_its_size}
+use Rattle.pci_spec.proofs.ProfileFaults.{none_of_plain, plain_device}
 use Rattle.pci_spec.proofs.Readable.{none_of_readable}
 use Rattle.pci_spec.proofs.Verdicts.{single_without_clashes}
 use Rattle.pci_spec.proofs.ToldSystems.{alike_are_sound_together}
 use Rattle.pci_spec.proofs.Examples.Samples.{slot, device, bridge, host}
-use Rattle.pci_spec.proofs.Examples.Sound.{no_chain, no_place, no_stray}
+use Rattle.pci_spec.proofs.Examples.Sound.{no_chain, no_stray}
 use Rattle.pci_spec.proofs.Examples.Texts.{bytes_by}
 
 pub no : {A : Type 0} → false ≡ true → A
@@ -93,12 +94,8 @@ module _ (f : Function) (readable : IsReadable f) (at : f.slot ≡ slot 0 1 0) (
   profile (LoneFunction s) n (x, listed, is, (positive, alone)) =
       let zeroth : s.function ≡ 0 = ap (λ (z : Slot). z.function) (sym is ∙ ap (λ (z : Function). z.slot) (sym (only_one f x listed)) ∙ at) in
       omega (arith, zeroth, positive)
-  profile (PaletteSnoop s) n (x, listed, is, h) = no (sym snoop ∙ ap (λ (z : Function). has_bit (command z.image) 5) (only_one f x listed) ∙ h)
-  profile (VgaEnable s) n (x, listed, is, h) = no_bridge x listed (and_parts (is_bridge x) _ h).0
-  profile (IsaEnable s) n (x, listed, is, h) = no_bridge x listed (and_parts (is_bridge x) _ h).0
-  profile (Subtractive s) n (x, listed, is, h) = no_bridge x listed (and_parts (is_bridge x) _ h).0
-  profile (InReset s) n (x, listed, is, h) = no_bridge x listed (and_parts (is_bridge x) _ h).0
-  profile (PowerState s) n (x, listed, is, h) = no_place x.image (sym (ap (λ (z : Function). pointer z.image 0) (only_one f x listed)) ∙ plain) h.0 h.1
+  profile (OfProfile fault s) n (x, listed, is, h) =
+      none_of_plain f.image (plain_device f.image is_device snoop plain) fault (subst (λ (z : Function). HasProfileFault z.image fault) (sym (only_one f x listed)) h)
   profile (CapRange s r) n h = no n
   profile (CapLoop s r) n h = no n
   profile (CapCut s r) n h = no n
