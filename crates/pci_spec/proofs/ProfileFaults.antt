@@ -1,6 +1,6 @@
 -- The faults of the profile: their numbers and names, and where none of them is there. What goes through all faults has
 -- one row for them, by these lemmas.
-use Rattle.std.proofs.Common.{◌≡◌, ℕ, zero, suc, ◌+◌, ◌*◌, ◌%◌, ◌^◌, ◌<◌, ◌≤◌, inl, inr, List, refl, true, false, ◌&&◌, arith, sym, ◌∙◌, ap, length, [], ◌∷◌, get_or}
+use Rattle.std.proofs.Common.{◌≡◌, ℕ, zero, suc, ◌+◌, ◌*◌, ◌%◌, ◌^◌, ◌<◌, ◌≤◌, inl, inr, List, refl, false, ◌&&◌, arith, sym, ◌∙◌, ap, length, [], ◌∷◌, get_or}
 use Rattle.std.specs.Bool.{IsTrue, nat_eq, ◌==◌, if◌then◌else◌}
 use Rattle.std.proofs.lemmas.Bool.{and_parts, and_right, both_ways, cases_lt, cond-true, eq-eqb, eqb-true}
 use Rattle.pci_spec.specs.Number.{byte_at, has_bit}

@@ -2,7 +2,7 @@ pub mod Above
 pub mod AddressBits
 pub mod AboveBuses
 pub mod AllItems
-pub mod Asleep
+pub mod ShownSame
 pub mod BarFaults
 pub mod BarFits
 pub mod BarNumbers

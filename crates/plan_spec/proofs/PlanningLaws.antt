@@ -4,7 +4,7 @@ use Rattle.std.specs.List.{sum}
 use Rattle.std.proofs.lemmas.Bool.{cases_lt}
 use Rattle.std.proofs.lemmas.List.Elements.{All-weaker}
 use Rattle.pci_spec.specs.Decoded.{IsDecodable}
-use Rattle.pci_spec.specs.Fault.{Fault, NoVendor, HeaderKind, BarType, BarMask, BarPair, RomMask, WindowMask, CapRange, CapLoop, CapCut, SlotsDiffer, StrayProbe, LoneFunction, PaletteSnoop, VgaEnable, IsaEnable, Subtractive, InReset, PowerState, BusRange, Orphan, Unreached, Clash, Split, fault_number}
+use Rattle.pci_spec.specs.Fault.{Fault, NoVendor, HeaderKind, BarType, BarMask, BarPair, RomMask, WindowMask, CapRange, CapLoop, CapCut, SlotsDiffer, StrayProbe, LoneFunction, OfProfile, BusRange, Orphan, Unreached, Clash, Split, fault_number}
 use Rattle.pci_spec.specs.Sound.{is_of_profile}
 use Rattle.plan_spec.specs.Planning.Safety.{IsSafe}
 use Rattle.plan_spec.specs.PlanningLaws.{CutIsSound, OffIsSound, IdleCommandIsFree, MovedIsSystem, MovedIsNested, MovedIsInProfile, MovedHasChains, ProfileDecodes, LargestFirstIsAligned, TakesAddress, PlacedFillsItsRange, PlacedTakesOnce, FewWritesEach, WindowIsLeastPower, LaidOutIsSound, RomsCanBeOn, PlacesAreATable, PlannedNumbersAreFinal}
@@ -84,12 +84,7 @@ reading_in_profile (CapCut slot place) reading = reading
 reading_in_profile (SlotsDiffer slot) reading = refl
 reading_in_profile (StrayProbe slot offset) reading = refl
 reading_in_profile (LoneFunction slot) reading = refl
-reading_in_profile (PaletteSnoop slot) reading = refl
-reading_in_profile (VgaEnable slot) reading = refl
-reading_in_profile (IsaEnable slot) reading = refl
-reading_in_profile (Subtractive slot) reading = refl
-reading_in_profile (InReset slot) reading = refl
-reading_in_profile (PowerState slot) reading = refl
+reading_in_profile (OfProfile fault slot) reading = refl
 reading_in_profile (BusRange slot) reading = reading
 reading_in_profile (Orphan slot) reading = reading
 reading_in_profile (Unreached slot register space address bridge) reading = reading

@@ -12,11 +12,12 @@ use Rattle.pci_spec.specs.Capability.{HasChain}
 use Rattle.pci_spec.specs.System.{Function, IsFunction, IsSystem, is_bridge}
 use Rattle.pci_spec.specs.Bus.{IsNested, LeadsTo, has_bus_order, is_behind, is_strictly_inside, is_root, has_no_root_behind}
 use Rattle.pci_spec.specs.Decoded.{IsDecodable}
-use Rattle.pci_spec.specs.Fault.{SomeAt, HasBarFault, NoVendor, HeaderKind, BarType, BarMask, BarPair, RomMask, WindowMask, CapRange, CapLoop, CapCut, SlotsDiffer, StrayProbe, LoneFunction, PaletteSnoop, VgaEnable, IsaEnable, Subtractive, InReset, PowerState, BusRange, Orphan, Unreached, Clash, Split}
+use Rattle.pci_spec.specs.Fault.{SomeAt, HasBarFault, NoVendor, HeaderKind, BarType, BarMask, BarPair, RomMask, WindowMask, CapRange, CapLoop, CapCut, SlotsDiffer, StrayProbe, LoneFunction, OfProfile, BusRange, Orphan, Unreached, Clash, Split}
 use Rattle.pci_spec.specs.Sound.{IsInProfile, HasChains}
+use Rattle.pci_spec.proofs.ProfileFaults.{none_of_plain, plain_bridge, plain_device}
 use Rattle.pci_spec.proofs.Examples.Samples.{slot, host}
 use Rattle.pci_spec.proofs.Examples.Texts.{bytes_by}
-use Rattle.pci_spec.proofs.Examples.Sound.{no_chain, no_place, no_stray, some_of_none}
+use Rattle.pci_spec.proofs.Examples.Sound.{no_chain, no_stray, some_of_none}
 use Rattle.plan_spec.proofs.Examples.Placed.{start}
 use Rattle.plan_spec.proofs.Examples.Planned.{old_bridge, old_device, old_behind, no}
 use Rattle.plan_spec.proofs.Examples.Filled.{each_of_start}
@@ -147,12 +148,9 @@ tree_is_in_profile (LoneFunction at) n (f, listed, is, (positive, alone)) =
     let e : f.slot.function ≡ 0 = each_of_start (λ g. g.slot.function ≡ 0) refl refl refl f listed in
     let same = ap (λ (z : Slot). z.function) is in
     let no : ⊥ = omega (arith, e, same, positive) in no
-tree_is_in_profile (PaletteSnoop at) n h = at_each _ at no no no h
-tree_is_in_profile (VgaEnable at) n h = at_each _ at no no no h
-tree_is_in_profile (IsaEnable at) n h = at_each _ at no no no h
-tree_is_in_profile (Subtractive at) n h = at_each _ at no no no h
-tree_is_in_profile (InReset at) n h = at_each _ at no no no h
-tree_is_in_profile (PowerState at) n h = at_each _ at (λ is. no_place old_bridge.image refl is.0 is.1) (λ is. no_place old_device.image refl is.0 is.1) (λ is. no_place old_behind.image refl is.0 is.1) h
+tree_is_in_profile (OfProfile fault at) n h =
+    at_each _ at (none_of_plain old_bridge.image (plain_bridge old_bridge.image (refl, refl, refl) refl) fault) (none_of_plain old_device.image (plain_device old_device.image refl refl refl) fault)
+    (none_of_plain old_behind.image (plain_device old_behind.image refl refl refl) fault) h
 tree_is_in_profile (BusRange at) n h = no n
 tree_is_in_profile (Orphan at) n h = no n
 tree_is_in_profile (Unreached at r sp a br) n h = no n

@@ -8,16 +8,17 @@ use Rattle.pci_spec.specs.Header.{layout, bar_count, rom_register}
 use Rattle.pci_spec.specs.Bar.{BarFault, bar_fault}
 use Rattle.pci_spec.specs.Bar as bars
 use Rattle.pci_spec.specs.System.{System, IsSystem, IsFunction, is_bridge}
-use Rattle.pci_spec.specs.Fault.{Fault, NoVendor, HeaderKind, BarType, BarMask, BarPair, RomMask, WindowMask, CapRange, CapLoop, CapCut, SlotsDiffer, StrayProbe, LoneFunction, PaletteSnoop, VgaEnable, IsaEnable, Subtractive, InReset, PowerState, BusRange, Orphan, Unreached, Clash, Split, IsIn, SomeAt, HasBarFault, HasRomFault, HasWindowFault}
+use Rattle.pci_spec.specs.Fault.{Fault, NoVendor, HeaderKind, BarType, BarMask, BarPair, RomMask, WindowMask, CapRange, CapLoop, CapCut, SlotsDiffer, StrayProbe, LoneFunction, OfProfile, BusRange, Orphan, Unreached, Clash, Split, IsIn, SomeAt, HasBarFault, HasRomFault, HasWindowFault}
 use Rattle.plan_spec.specs.Plan.{IsMoved}
 use Rattle.pci_spec.specs.Sound.{is_of_profile, HasChains, IsInProfile}
 use Rattle.plan_spec.proofs.Planning.Moved.{layout_same, bridge_same}
 use Rattle.plan_spec.proofs.Planning.Kept.{images_of}
 use Rattle.pci_spec.proofs.Pairs.{member_back}
+use Rattle.pci_spec.proofs.ProfileFaults.{profile_kept}
 use Rattle.plan_spec.proofs.Planning.BarFaults.{bar_fault_same}
 use Rattle.plan_spec.proofs.Planning.OtherRules.{rom_rule_same, window_rule_same}
-use Rattle.plan_spec.proofs.Planning.Asleep.{asleep_before}
-use Rattle.plan_spec.proofs.Planning.Profile.{some_before, no_vendor_before, kind_before, stray_before, lone_before, snoop_before, vga_before, isa_before, reset_before, subtractive_before}
+use Rattle.plan_spec.proofs.Planning.ShownSame.{shows_same}
+use Rattle.plan_spec.proofs.Planning.Profile.{some_before, no_vendor_before, kind_before, stray_before, lone_before}
 
 module _ (roots : List ℕ) (s t : System) (system : IsSystem s) (chains : HasChains s) (pairs : AllZip IsMoved s t) where
   bar_before : (slot : Slot) (register : ℕ) (fault : BarFault) → SomeAt t slot (λ f. HasBarFault f.image f.probe register fault) → SomeAt s slot (λ f. HasBarFault f.image f.probe register fault)
@@ -50,15 +51,11 @@ module _ (roots : List ℕ) (s t : System) (system : IsSystem s) (chains : HasCh
   fault_before (SlotsDiffer slot) k there = there
   fault_before (StrayProbe slot offset) k there = stray_before roots s t system pairs slot offset there
   fault_before (LoneFunction slot) k there = lone_before roots s t system pairs slot there
-  fault_before (PaletteSnoop slot) k there = snoop_before roots s t system pairs slot there
-  fault_before (VgaEnable slot) k there = vga_before roots s t system pairs slot there
-  fault_before (IsaEnable slot) k there = isa_before roots s t system pairs slot there
-  fault_before (Subtractive slot) k there = subtractive_before roots s t system pairs slot there
-  fault_before (InReset slot) k there = reset_before roots s t system pairs slot there
-  fault_before (PowerState slot) k there =
+  fault_before (OfProfile fault slot) k there =
       let found = member_back IsMoved s t pairs there.0 there.1 in
       let listed = found.1 in
-      (found.0, (listed.0, listed.1, listed.2), sym found.2.slot ∙ there.2, asleep_before found.0 there.0 found.2 (images_of s system found.0 found.1) (chains found.0 found.1) there.3)
+      let same = shows_same found.0 there.0 found.2 (images_of s system found.0 found.1) (chains found.0 found.1) in
+      (found.0, (listed.0, listed.1, listed.2), sym found.2.slot ∙ there.2, profile_kept found.0.image there.0.image same fault there.3)
   fault_before (BusRange slot) k there = absurd (both_ways false refl k)
   fault_before (Orphan slot) k there = absurd (both_ways false refl k)
   fault_before (Unreached slot register space address bridge) k there = absurd (both_ways false refl k)

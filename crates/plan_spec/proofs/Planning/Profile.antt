@@ -5,10 +5,10 @@ use Rattle.std.specs.List.{AllZip}
 use Rattle.pci_spec.specs.Number.{byte_at, has_bit, IsImage}
 use Rattle.pci_spec.specs.Slot.{Slot}
 use Rattle.pci_spec.specs.Header.{vendor_id, command, class_code, layout, bridge_control}
-use Rattle.pci_spec.specs.System.{System, Function, IsSystem, is_bridge}
-use Rattle.pci_spec.specs.Fault.{NoVendor, HeaderKind, StrayProbe, LoneFunction, PaletteSnoop, VgaEnable, IsaEnable, Subtractive, InReset, IsIn, SomeAt, has_no_vendor, has_other_layout, is_stray, is_in_address_register, has_function_zero}
+use Rattle.pci_spec.specs.System.{System, Function, IsSystem}
+use Rattle.pci_spec.specs.Fault.{NoVendor, HeaderKind, StrayProbe, LoneFunction, IsIn, SomeAt, has_no_vendor, has_other_layout, is_stray, is_in_address_register, has_function_zero}
 use Rattle.plan_spec.specs.Plan.{IsMoved}
-use Rattle.plan_spec.proofs.Planning.Moved.{low_same, rest_same, layout_same, bridge_same, no_early_field}
+use Rattle.plan_spec.proofs.Planning.Moved.{low_same, rest_same, layout_same, no_early_field}
 use Rattle.plan_spec.proofs.Planning.Kept.{images_of}
 use Rattle.pci_spec.proofs.Pairs.{member_back}
 use Rattle.plan_spec.proofs.Planning.Writes.{command_bit}
@@ -74,24 +74,3 @@ module _ (roots : List ℕ) (s t : System) (system : IsSystem s) (pairs : AllZip
   pub lone_before : (slot : Slot) → IsIn roots t (LoneFunction slot) → IsIn roots s (LoneFunction slot)
   lone_before slot there = some_before s t system pairs slot (λ f. (0 < slot.function) × IsTrue (not (has_function_zero s slot))) (λ f. (0 < slot.function) × IsTrue (not (has_function_zero t slot)))
       (λ f g m is h. (h.0, sym (ap not (zero_same s t pairs slot)) ∙ h.1)) there
-
-  pub snoop_before : (slot : Slot) → IsIn roots t (PaletteSnoop slot) → IsIn roots s (PaletteSnoop slot)
-  snoop_before slot there = some_before s t system pairs slot (λ f. IsTrue (has_bit (command f.image) 5)) (λ f. IsTrue (has_bit (command f.image) 5))
-      (λ f g m is h. sym (snoop_same f g m is) ∙ h) there
-
-  control_before : (bit : ℕ) (slot : Slot) → SomeAt t slot (λ f. IsTrue (is_bridge f && has_bit (bridge_control f.image) bit)) → SomeAt s slot (λ f. IsTrue (is_bridge f && has_bit (bridge_control f.image) bit))
-  control_before bit slot there = some_before s t system pairs slot (λ f. IsTrue (is_bridge f && has_bit (bridge_control f.image) bit)) (λ f. IsTrue (is_bridge f && has_bit (bridge_control f.image) bit))
-      (λ f g m is h. sym (ap (λ b. b && has_bit (bridge_control g.image) bit) (bridge_same f g m is) ∙ ap (λ c. is_bridge f && has_bit c bit) (control_same f g m is)) ∙ h) there
-
-  pub vga_before : (slot : Slot) → IsIn roots t (VgaEnable slot) → IsIn roots s (VgaEnable slot)
-  vga_before slot there = control_before 3 slot there
-
-  pub isa_before : (slot : Slot) → IsIn roots t (IsaEnable slot) → IsIn roots s (IsaEnable slot)
-  isa_before slot there = control_before 2 slot there
-
-  pub reset_before : (slot : Slot) → IsIn roots t (InReset slot) → IsIn roots s (InReset slot)
-  reset_before slot there = control_before 6 slot there
-
-  pub subtractive_before : (slot : Slot) → IsIn roots t (Subtractive slot) → IsIn roots s (Subtractive slot)
-  subtractive_before slot there = some_before s t system pairs slot (λ f. IsTrue (is_bridge f && class_code f.image == 0x060401)) (λ f. IsTrue (is_bridge f && class_code f.image == 0x060401))
-      (λ f g m is h. sym (ap (λ b. b && class_code g.image == 0x060401) (bridge_same f g m is) ∙ ap (λ c. is_bridge f && c == 0x060401) (class_same f g m is)) ∙ h) there

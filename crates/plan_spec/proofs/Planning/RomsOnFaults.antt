@@ -7,27 +7,28 @@ use Rattle.std.proofs.lemmas.Bool.{cases_Bool, cases_eq, both_ways, eqb-true}
 use Rattle.std.proofs.lemmas.List.Elements.{All-contains, All-contains_itself, All-weaker}
 use Rattle.pci_spec.specs.Number.{byte_at, has_bit, IsImage}
 use Rattle.pci_spec.specs.Slot.{Slot}
-use Rattle.pci_spec.specs.Header.{command, class_code, layout, bridge_control, rom_register}
+use Rattle.pci_spec.specs.Header.{layout, rom_register}
 use Rattle.pci_spec.specs.Bar.{BarFault, bar_fault}
 use Rattle.pci_spec.specs.Bar as bars
 use Rattle.pci_spec.specs.Rom.{rom_at}
 use Rattle.pci_spec.specs.Capability.{HasChain}
 use Rattle.pci_spec.specs.Decoded.{IsDecodable}
-use Rattle.pci_spec.specs.System.{System, Function, IsSystem, is_bridge}
+use Rattle.pci_spec.specs.System.{System, Function, IsSystem}
 use Rattle.pci_spec.specs.Bus.{IsNested}
-use Rattle.pci_spec.specs.Fault.{NoVendor, HeaderKind, BarType, BarMask, BarPair, RomMask, WindowMask, CapRange, CapLoop, CapCut, SlotsDiffer, StrayProbe, LoneFunction, PaletteSnoop, VgaEnable, IsaEnable, Subtractive, InReset, PowerState, BusRange, Orphan, Unreached, Clash, Split, SomeAt, IsNotInD0, HasBarFault, has_function_zero, is_stray, is_in_address_register}
+use Rattle.pci_spec.specs.Fault.{NoVendor, HeaderKind, BarType, BarMask, BarPair, RomMask, WindowMask, CapRange, CapLoop, CapCut, SlotsDiffer, StrayProbe, LoneFunction, OfProfile, BusRange, Orphan, Unreached, Clash, Split, SomeAt, ProfileFault, HasProfileFault, HasBarFault, has_function_zero, is_stray, is_in_address_register}
 use Rattle.pci_spec.specs.Machine.{in_fields, address_fields}
 use Rattle.pci_spec.specs.Sound.{HasChains, IsInProfile}
 use Rattle.plan_spec.specs.Plan.{IsMoved}
 use Rattle.plan_spec.specs.PlanPromise.{with_rom_on}
 use Rattle.pci_spec.proofs.Bits.{bit_of_false, quotients-agree}
 use Rattle.pci_spec.proofs.Members.{in_head, in_tail, in_map_to, IsMade}
+use Rattle.pci_spec.proofs.ProfileFaults.{profile_kept}
 use Rattle.plan_spec.proofs.Planning.Moved.{kind_fields, chain_same}
 use Rattle.plan_spec.proofs.Planning.Kept.{IsSameBridge, images_of, nested_kept}
 use Rattle.plan_spec.proofs.Planning.Registers.{register_bit}
-use Rattle.plan_spec.proofs.Planning.Asleep.{asleep_before}
+use Rattle.plan_spec.proofs.Planning.ShownSame.{shows_same}
 use Rattle.plan_spec.proofs.Planning.RomsOn.{IsRomOn, rom_on}
-use Rattle.plan_spec.proofs.Planning.RomsOnRegisters.{low_number, later_number, layout_kept, bridge_kept, same_bridge, decodable_kept}
+use Rattle.plan_spec.proofs.Planning.RomsOnRegisters.{layout_kept, same_bridge, decodable_kept}
 
 -- ---- one function
 
@@ -74,14 +75,8 @@ module _ (f g : Function) (h : IsRomOn f g) (is : IsImage f.image) where
   pub chain_kept : HasChain f.image → HasChain g.image
   chain_kept chain = (chain.0, chain_same (record f { probe = g.image }) (record g { probe = g.image }) as_moved is chain.0 chain.1)
 
-  asleep_off : HasChain f.image → IsNotInD0 g.image → IsNotInD0 f.image
-  asleep_off chain = asleep_before (record f { probe = g.image }) (record g { probe = g.image }) as_moved is chain
-
-  control_kept : (bit : ℕ) → (is_bridge g && has_bit (bridge_control g.image) bit) ≡ (is_bridge f && has_bit (bridge_control f.image) bit)
-  control_kept bit = let bridge = bridge_kept f g h in let control = later_number f g h 0x3e 2 (omega arith) in λ i. bridge i && has_bit (control i) bit
-
-  subtractive_kept : (is_bridge g && class_code g.image == 0x060401) ≡ (is_bridge f && class_code f.image == 0x060401)
-  subtractive_kept = let bridge = bridge_kept f g h in let class = low_number f g h 0x09 3 (omega arith) in λ i. bridge i && class i == 0x060401
+  profile_off : HasChain f.image → (fault : ProfileFault) → HasProfileFault g.image fault → HasProfileFault f.image fault
+  profile_off chain = profile_kept f.image g.image (shows_same (record f { probe = g.image }) (record g { probe = g.image }) as_moved is chain)
 
   stray_kept : (offset : ℕ) → is_stray g.image g.probe offset ≡ is_stray f.image f.probe offset
   stray_kept offset = let kind = layout_kept f g h in λ i. nat_lt offset 256 && not (byte_at (h.probe i) offset == 0) && not (is_in_address_register (kind i) offset)
@@ -141,10 +136,6 @@ module _ (roots : List ℕ) (t : System) (system : IsSystem t) (decodable : All 
       (was.from, (old.0, old.1, old.2), sym was.on.slot ∙ at, back was.from g old was.image was.on there)
 
   module _ (chains : HasChains t) (profile : IsInProfile roots t) where
-    control_none : (bit : ℕ) (slot : Slot) → SomeAt (map with_rom_on t) slot (λ f. IsTrue (is_bridge f && has_bit (bridge_control f.image) bit)) → SomeAt t slot (λ f. IsTrue (is_bridge f && has_bit (bridge_control f.image) bit))
-    control_none bit slot there = some_off slot (λ f. IsTrue (is_bridge f && has_bit (bridge_control f.image) bit)) (λ f. IsTrue (is_bridge f && has_bit (bridge_control f.image) bit))
-        (λ f g listed is on h. sym (control_kept f g on is bit) ∙ h) there
-
     pub profile_on : IsInProfile roots (map with_rom_on t)
     profile_on (NoVendor slot) k (g, listed, at, there) = both_ways _ (decodes_on g listed).vendor there
     profile_on (HeaderKind slot) k (g, listed, at, there) = both_ways _ (decodes_on g listed).header there
@@ -161,15 +152,8 @@ module _ (roots : List ℕ) (t : System) (system : IsSystem t) (decodable : All 
         (λ f g listed is on h. sym (stray_kept f g on is offset) ∙ h) there)
     profile_on (LoneFunction slot) k there = profile (LoneFunction slot) refl (some_off slot (λ f. (0 < slot.function) × IsTrue (not (has_function_zero t slot))) (λ f. (0 < slot.function) × IsTrue (not (has_function_zero (map with_rom_on t) slot)))
         (λ f g listed is on h. (h.0, sym (ap not (zero_kept t (images_of t system) slot)) ∙ h.1)) there)
-    profile_on (PaletteSnoop slot) k there = profile (PaletteSnoop slot) refl (some_off slot (λ f. IsTrue (has_bit (command f.image) 5)) (λ f. IsTrue (has_bit (command f.image) 5))
-        (λ f g listed is on h. sym (ap (λ c. has_bit c 5) (low_number f g on 4 2 (omega arith))) ∙ h) there)
-    profile_on (VgaEnable slot) k there = profile (VgaEnable slot) refl (control_none 3 slot there)
-    profile_on (IsaEnable slot) k there = profile (IsaEnable slot) refl (control_none 2 slot there)
-    profile_on (Subtractive slot) k there = profile (Subtractive slot) refl (some_off slot (λ f. IsTrue (is_bridge f && class_code f.image == 0x060401)) (λ f. IsTrue (is_bridge f && class_code f.image == 0x060401))
-        (λ f g listed is on h. sym (subtractive_kept f g on is) ∙ h) there)
-    profile_on (InReset slot) k there = profile (InReset slot) refl (control_none 6 slot there)
-    profile_on (PowerState slot) k there = profile (PowerState slot) refl (some_off slot (λ f. IsNotInD0 f.image) (λ f. IsNotInD0 f.image)
-        (λ f g listed is on h. asleep_off f g on is (chains f listed) h) there)
+    profile_on (OfProfile fault slot) k there = profile (OfProfile fault slot) refl (some_off slot (λ f. HasProfileFault f.image fault) (λ f. HasProfileFault f.image fault)
+        (λ f g listed is on h. profile_off f g on is (chains f listed) fault h) there)
     profile_on (BusRange slot) k there = both_ways false refl k
     profile_on (Orphan slot) k there = both_ways false refl k
     profile_on (Unreached slot register space address bridge) k there = both_ways false refl k
