@@ -9,7 +9,7 @@ use Rattle.pci_spec.specs.Slot.{Slot, same_slot}
 use Rattle.pci_spec.specs.System.{System, Function, Space, IsSystem, IsFunction, Leads, is_prefetchable_part, is_window}
 use Rattle.pci_spec.specs.System as system
 use Rattle.pci_spec.specs.Bus.{IsNested}
-use Rattle.pci_spec.specs.Fault.{NoVendor, HeaderKind, BarType, BarMask, BarPair, RomMask, WindowMask, CapRange, CapLoop, CapCut, SlotsDiffer, StrayProbe, LoneFunction, PaletteSnoop, VgaEnable, IsaEnable, Subtractive, InReset, PowerState, BusRange, Orphan, Unreached, Clash, Split, address_in, named_region}
+use Rattle.pci_spec.specs.Fault.{NoVendor, HeaderKind, BarType, BarMask, BarPair, RomMask, WindowMask, CapRange, CapLoop, CapCut, SlotsDiffer, StrayProbe, LoneFunction, OfProfile, BusRange, Orphan, Unreached, Clash, Split, address_in, named_region}
 use Rattle.pci_spec.specs.Fault as plain
 use Rattle.pci_spec.specs.Sound as sound
 use Rattle.pci_spec.proofs.BusRanges.{all_gives, all_from}
@@ -222,12 +222,7 @@ module _ (given : Given) (roots : List ℕ) (s : System) (system : IsSystem s) w
   none_known sound (SlotsDiffer slot) there = there
   none_known sound (StrayProbe slot offset) there = sound.profile (StrayProbe slot offset) refl there
   none_known sound (LoneFunction slot) there = sound.profile (LoneFunction slot) refl there
-  none_known sound (PaletteSnoop slot) there = sound.profile (PaletteSnoop slot) refl there
-  none_known sound (VgaEnable slot) there = sound.profile (VgaEnable slot) refl there
-  none_known sound (IsaEnable slot) there = sound.profile (IsaEnable slot) refl there
-  none_known sound (Subtractive slot) there = sound.profile (Subtractive slot) refl there
-  none_known sound (InReset slot) there = sound.profile (InReset slot) refl there
-  none_known sound (PowerState slot) there = sound.profile (PowerState slot) refl there
+  none_known sound (OfProfile fault slot) there = sound.profile (OfProfile fault slot) refl there
 
   none_there : IsSound given roots s → (fault : Fault) → IsIn given roots s fault → ⊥
   none_there sound (Known fault) there = none_known sound fault there
@@ -252,12 +247,7 @@ module _ (given : Given) (roots : List ℕ) (s : System) (system : IsSystem s) w
     | SlotsDiffer slot ↦ λ number. none (Known (SlotsDiffer slot))
     | StrayProbe slot offset ↦ λ number. none (Known (StrayProbe slot offset))
     | LoneFunction slot ↦ λ number. none (Known (LoneFunction slot))
-    | PaletteSnoop slot ↦ λ number. none (Known (PaletteSnoop slot))
-    | VgaEnable slot ↦ λ number. none (Known (VgaEnable slot))
-    | IsaEnable slot ↦ λ number. none (Known (IsaEnable slot))
-    | Subtractive slot ↦ λ number. none (Known (Subtractive slot))
-    | InReset slot ↦ λ number. none (Known (InReset slot))
-    | PowerState slot ↦ λ number. none (Known (PowerState slot))
+    | OfProfile fault slot ↦ λ number. none (Known (OfProfile fault slot))
     | BusRange slot ↦ λ number. none (Known (BusRange slot))
     | Orphan slot ↦ λ number. none (Known (Orphan slot))
   ] number

@@ -4,7 +4,7 @@ use Rattle.std.proofs.lemmas.Bool.{both_ways}
 use Rattle.pci_spec.specs.Slot.{Slot}
 use Rattle.pci_spec.specs.Text.{Block}
 use Rattle.pci_spec.specs.System.{system_of}
-use Rattle.pci_spec.specs.Fault.{Fault, NoVendor, HeaderKind, BarType, BarMask, BarPair, RomMask, WindowMask, CapRange, CapLoop, CapCut, SlotsDiffer, StrayProbe, LoneFunction, PaletteSnoop, VgaEnable, IsaEnable, Subtractive, InReset, PowerState, BusRange, Orphan, Unreached, Clash, Split, IsThere}
+use Rattle.pci_spec.specs.Fault.{Fault, NoVendor, HeaderKind, BarType, BarMask, BarPair, RomMask, WindowMask, CapRange, CapLoop, CapCut, SlotsDiffer, StrayProbe, LoneFunction, OfProfile, BusRange, Orphan, Unreached, Clash, Split, IsThere}
 use Rattle.pci_spec.specs.FaultLines.{IsLine}
 use Rattle.pci_spec.specs.Order.{precedes, looking_key, is_before, phase_of, image_at}
 use Rattle.pci_spec.proofs.FirstLines.{less_precedes}
@@ -54,12 +54,7 @@ key_length image_of (CapCut slot place) = omega arith
 key_length image_of (SlotsDiffer slot) = omega arith
 key_length image_of (StrayProbe slot offset) = omega arith
 key_length image_of (LoneFunction slot) = omega arith
-key_length image_of (PaletteSnoop slot) = omega arith
-key_length image_of (VgaEnable slot) = omega arith
-key_length image_of (IsaEnable slot) = omega arith
-key_length image_of (Subtractive slot) = omega arith
-key_length image_of (InReset slot) = omega arith
-key_length image_of (PowerState slot) = omega arith
+key_length image_of (OfProfile fault slot) = omega arith
 key_length image_of (BusRange slot) = omega arith
 key_length image_of (Orphan slot) = omega arith
 key_length image_of (Unreached slot register space address bridge) = omega arith

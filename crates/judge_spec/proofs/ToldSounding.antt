@@ -5,7 +5,7 @@ use Rattle.std.proofs.lemmas.List.Elements.{All-contains}
 use Rattle.pci_spec.specs.Number.{IsImage}
 use Rattle.pci_spec.specs.Slot.{Slot}
 use Rattle.pci_spec.specs.System.{System, Function, IsSystem, IsFunction}
-use Rattle.pci_spec.specs.Fault.{NoVendor, HeaderKind, BarType, BarMask, BarPair, RomMask, WindowMask, CapRange, CapLoop, CapCut, SlotsDiffer, StrayProbe, LoneFunction, PaletteSnoop, VgaEnable, IsaEnable, Subtractive, InReset, PowerState, BusRange, Orphan, Unreached, Clash, Split, address_in, named_region, named_regions}
+use Rattle.pci_spec.specs.Fault.{NoVendor, HeaderKind, BarType, BarMask, BarPair, RomMask, WindowMask, CapRange, CapLoop, CapCut, SlotsDiffer, StrayProbe, LoneFunction, OfProfile, BusRange, Orphan, Unreached, Clash, Split, address_in, named_region, named_regions}
 use Rattle.pci_spec.specs.Fault as plain
 use Rattle.pci_spec.proofs.Nesting.{no_bus_fault_where_nested}
 use Rattle.pci_spec.proofs.Chains.{chain_without_faults}
@@ -70,12 +70,7 @@ module _ (told : Told) (given : Given) (roots : List ℕ) (s : System) (is_told 
   none_plain sound (SlotsDiffer slot) there = there
   none_plain sound (StrayProbe slot offset) there = sound.profile (StrayProbe slot offset) refl there
   none_plain sound (LoneFunction slot) there = sound.profile (LoneFunction slot) refl there
-  none_plain sound (PaletteSnoop slot) there = sound.profile (PaletteSnoop slot) refl there
-  none_plain sound (VgaEnable slot) there = sound.profile (VgaEnable slot) refl there
-  none_plain sound (IsaEnable slot) there = sound.profile (IsaEnable slot) refl there
-  none_plain sound (Subtractive slot) there = sound.profile (Subtractive slot) refl there
-  none_plain sound (InReset slot) there = sound.profile (InReset slot) refl there
-  none_plain sound (PowerState slot) there = sound.profile (PowerState slot) refl there
+  none_plain sound (OfProfile fault slot) there = sound.profile (OfProfile fault slot) refl there
 
   none_there : IsSound told given roots s → (fault : Fault) → IsIn told given roots s fault → ⊥
   none_there sound (Known (untold_fault.Known fault)) there = none_plain sound fault there

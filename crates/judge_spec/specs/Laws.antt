@@ -140,19 +140,19 @@ LineWhereOutside =
 abbrev pub NoVgaEnable : Type 0
 NoVgaEnable =
     (roots : List ℕ) (s : System) (slot : Slot) → IsSystem s
-    → plain.IsIn roots (taken_by_vga s) (plain.VgaEnable slot) → ⊥
+    → plain.IsIn roots (taken_by_vga s) (plain.OfProfile plain.VgaEnable slot) → ⊥
 
 -- Functions that are taken by the other word have no 53.
 abbrev pub NoIsaEnable : Type 0
 NoIsaEnable =
     (roots : List ℕ) (s : System) (slot : Slot) → IsSystem s
-    → plain.IsIn roots (taken_by_isa s) (plain.IsaEnable slot) → ⊥
+    → plain.IsIn roots (taken_by_isa s) (plain.OfProfile plain.IsaEnable slot) → ⊥
 
 -- Those taken by a third have no 51,
 abbrev pub NoPaletteSnoop : Type 0
 NoPaletteSnoop =
     (roots : List ℕ) (s : System) (slot : Slot) → IsSystem s
-    → plain.IsIn roots (taken_by_snoop s) (plain.PaletteSnoop slot) → ⊥
+    → plain.IsIn roots (taken_by_snoop s) (plain.OfProfile plain.PaletteSnoop slot) → ⊥
 
 -- and a bridge that is alone of its class on its bus has no 54 by a fourth.
 abbrev pub AloneIsNotSubtractive : Type 0

@@ -9,7 +9,7 @@ use Rattle.pci_spec.specs.Rom.{breaks_rom_rule}
 use Rattle.pci_spec.specs.Window.{IoWindow, MemoryWindow, PrefetchWindow}
 use Rattle.pci_spec.specs.Capability.{ComesTo, ComesTwiceTo, body_length, pointer, pointer_at, power_state}
 use Rattle.pci_spec.specs.System.{Function}
-use Rattle.pci_spec.specs.Fault.{IsIn, IsNotInD0, SomeAt, HasBarFault, HasWindowFault, has_no_vendor, has_other_layout, is_stray, NoVendor, HeaderKind, BarType, BarMask, BarPair, RomMask, WindowMask, CapRange, CapLoop, CapCut, SlotsDiffer, StrayProbe, LoneFunction, PaletteSnoop, VgaEnable, IsaEnable, Subtractive, InReset, PowerState, BusRange, Orphan, Unreached, Clash, Split}
+use Rattle.pci_spec.specs.Fault.{IsIn, IsNotInD0, SomeAt, HasBarFault, HasWindowFault, has_no_vendor, has_other_layout, is_stray, NoVendor, HeaderKind, BarType, BarMask, BarPair, RomMask, WindowMask, CapRange, CapLoop, CapCut, SlotsDiffer, StrayProbe, LoneFunction, OfProfile, BusRange, Orphan, Unreached, Clash, Split}
 use Rattle.pci_spec.specs.Order.{Profile}
 use Rattle.pci_spec.proofs.Examples.Samples.{bridge, device, slot}
 use Rattle.pci_spec.proofs.Examples.Sound.{no_stray, some_of_none}
@@ -65,12 +65,7 @@ plain_has_none f is (CapCut at r) low h = only_one _ f at (λ x. let e = one_pla
 plain_has_none f is (SlotsDiffer at) low h = h
 plain_has_none f is (StrayProbe at r) low h = only_one _ f at (no_stray f.image f.probe is.stray r) h
 plain_has_none f is (LoneFunction at) low h = absurd (omega (arith, low))
-plain_has_none f is (PaletteSnoop at) low h = absurd (omega (arith, low))
-plain_has_none f is (VgaEnable at) low h = absurd (omega (arith, low))
-plain_has_none f is (IsaEnable at) low h = absurd (omega (arith, low))
-plain_has_none f is (Subtractive at) low h = absurd (omega (arith, low))
-plain_has_none f is (InReset at) low h = absurd (omega (arith, low))
-plain_has_none f is (PowerState at) low h = absurd (omega (arith, low))
+plain_has_none f is (OfProfile fault at) low h = absurd (omega (arith, low))
 plain_has_none f is (BusRange at) low h = absurd (omega (arith, low))
 plain_has_none f is (Orphan at) low h = absurd (omega (arith, low))
 plain_has_none f is (Unreached at r sp a br) low h = absurd (omega (arith, low))

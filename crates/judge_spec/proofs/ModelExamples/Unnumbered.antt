@@ -5,7 +5,7 @@ use Rattle.pci_spec.specs.System.{Function, is_bridge}
 use Rattle.pci_spec.specs.Bar.{Memory32}
 use Rattle.pci_spec.specs.Decoded.{record_of}
 use Rattle.pci_spec.specs.Registers.{VGA_ENABLE}
-use Rattle.pci_spec.specs.Fault.{IsIn, IsaEnable, controls_bridge, fault_number, is_stray}
+use Rattle.pci_spec.specs.Fault.{IsIn, OfProfile, IsaEnable, controls_bridge, fault_number, is_stray}
 use Rattle.pci_spec.specs.Order.{Place}
 use Rattle.std.specs.List.{list_any, range_with_len}
 use Rattle.pci_spec.proofs.Examples.Samples.{bridge, device, slot, range, host}
@@ -96,7 +96,7 @@ left_where : (Condition : Type 0) (f changed g : Function) → IsWhere Condition
 left_where Condition f changed g (inl (holds, is)) same = is ∙ same holds
 left_where Condition f changed g (inr (fails, is)) same = is
 
-has_isa_enable : IsIn host (with_isa_enable ∷ []) (IsaEnable (slot 0 1 0))
+has_isa_enable : IsIn host (with_isa_enable ∷ []) (OfProfile IsaEnable (slot 0 1 0))
 has_isa_enable = (with_isa_enable, (0, lit< tt, refl), refl, refl)
 
 -- `unnumbered` leaves the bridge as it is, with that fault
@@ -105,7 +105,7 @@ unnumbered_leaves_it h taken =
     let same : taken.g ≡ with_isa_enable = left_where _ with_isa_enable _ taken.g taken.power (λ holds. cc holds.0) in
     taken.header ∙ left_where _ with_isa_enable _ taken.k
     (subst (λ g. IsWhere (IsTrue (may_have_parts_by unnumbered_counts (bridge_aside unnumbered_counts [] g)) × HasNoOwnFaultBefore Place (bridge_aside unnumbered_counts [] g)) (bridge_aside unnumbered_counts [] g) (parts_aside unnumbered_counts (fixed_parts_by unnumbered_counts with_isa_enable) (bridge_aside unnumbered_counts [] g)) taken.k) same taken.parts)
-    (λ holds. absurd (holds.1 (IsaEnable (slot 0 1 0)) (lit< tt) has_isa_enable))
+    (λ holds. absurd (holds.1 (OfProfile IsaEnable (slot 0 1 0)) (lit< tt) has_isa_enable))
 
-number_of_isa_enable : fault_number (IsaEnable (slot 0 1 0)) ≡ 53
+number_of_isa_enable : fault_number (OfProfile IsaEnable (slot 0 1 0)) ≡ 53
 number_of_isa_enable = refl
