@@ -2,7 +2,7 @@
 use Rattle.std.proofs.Common.{◌≡◌, ◌⊎◌, ℕ, ◌<◌, List, [], ◌∷◌, ◌++◌, drop, refl, true, ◌∙◌, subst, ap}
 use Rattle.pci_spec.specs.Slot.{Slot}
 use Rattle.pci_spec.specs.System.{Function}
-use Rattle.pci_spec.specs.Fault.{Fault, NoVendor, HeaderKind, BarType, BarMask, BarPair, RomMask, WindowMask, CapRange, CapLoop, CapCut, SlotsDiffer, StrayProbe, LoneFunction, PaletteSnoop, VgaEnable, IsaEnable, Subtractive, InReset, PowerState, BusRange, Orphan, Unreached, Clash, Split}
+use Rattle.pci_spec.specs.Fault.{Fault, NoVendor, HeaderKind, BarType, BarMask, BarPair, RomMask, WindowMask, CapRange, CapLoop, CapCut, SlotsDiffer, StrayProbe, LoneFunction, OfProfile, BusRange, Orphan, Unreached, Clash, Split}
 use Rattle.pci_spec.specs.Order.{precedes, slot_key, looking_key, phase_of, is_before, step_after}
 use Rattle.pci_spec.proofs.Looking.{key_here}
 use Rattle.pci_function.specs.Profile.{IsHere}
@@ -27,12 +27,7 @@ key_at image_of f (CapCut slot place) is same = ap (λ t. looking_key image_of (
 key_at image_of f (SlotsDiffer slot) is same = absurd is
 key_at image_of f (StrayProbe slot offset) is same = ap (λ t. looking_key image_of (StrayProbe t offset)) is.0
 key_at image_of f (LoneFunction slot) is same = absurd is
-key_at image_of f (PaletteSnoop slot) is same = ap (λ t. looking_key image_of (PaletteSnoop t)) is.0
-key_at image_of f (VgaEnable slot) is same = ap (λ t. looking_key image_of (VgaEnable t)) is.0
-key_at image_of f (IsaEnable slot) is same = ap (λ t. looking_key image_of (IsaEnable t)) is.0
-key_at image_of f (Subtractive slot) is same = ap (λ t. looking_key image_of (Subtractive t)) is.0
-key_at image_of f (InReset slot) is same = ap (λ t. looking_key image_of (InReset t)) is.0
-key_at image_of f (PowerState slot) is same = ap (λ t. looking_key image_of (PowerState t)) is.0
+key_at image_of f (OfProfile fault slot) is same = ap (λ t. looking_key image_of (OfProfile fault t)) is.0
 key_at image_of f (BusRange slot) is same = absurd is
 key_at image_of f (Orphan slot) is same = absurd is
 key_at image_of f (Unreached slot register space address bridge) is same = absurd is

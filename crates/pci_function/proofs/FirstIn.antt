@@ -6,11 +6,12 @@ use Rattle.std.proofs.lemmas.List.{get_or_default, get_or-take, length-take-le}
 use Rattle.pci_spec.specs.Slot.{slot_number}
 use Rattle.pci_spec.specs.Bar.{BarFault}
 use Rattle.pci_spec.specs.System.{System, Function, IsSystem}
-use Rattle.pci_spec.specs.Fault.{Fault, NoVendor, HeaderKind, BarType, BarMask, BarPair, RomMask, WindowMask, CapRange, CapLoop, CapCut, SlotsDiffer, StrayProbe, LoneFunction, PaletteSnoop, VgaEnable, IsaEnable, Subtractive, InReset, PowerState, BusRange, Orphan, Unreached, Clash, Split, IsIn}
+use Rattle.pci_spec.specs.Fault.{Fault, NoVendor, HeaderKind, BarType, BarMask, BarPair, RomMask, WindowMask, CapRange, CapLoop, CapCut, SlotsDiffer, StrayProbe, LoneFunction, OfProfile, BusRange, Orphan, Unreached, Clash, Split, IsIn}
 use Rattle.pci_spec.specs.Order.{precedes, slot_key, looking_key, phase_of, is_before, image_at}
 use Rattle.pci_spec.proofs.Firsts.{slot_of}
 use Rattle.pci_spec.proofs.Looking.{key_cases, phase_le, image_at_is}
 use Rattle.pci_spec.proofs.Nesting.{earlier_is_lower, one_function}
+use Rattle.pci_spec.proofs.ProfileFaults.{none_of_plain}
 use Rattle.pci_spec.proofs.Walks.{chain-no_low_place, chain-no_loop, chain-no_cut_body}
 use Rattle.pci_function.specs.Profile.{IsHere, IsClearBefore, IsFirstOf}
 use Rattle.pci_function.proofs.FirstHere.{rest_of, key_at, key_is}
@@ -35,12 +36,7 @@ in_here roots s (CapCut slot place) low (g, has, named, is) = record { g = g; ha
 in_here roots s (SlotsDiffer slot) low is = absurd is
 in_here roots s (StrayProbe slot offset) low (g, has, named, is) = record { g = g; has = has; here = (sym named, is) }
 in_here roots s (LoneFunction slot) low is = absurd (let no : ⊥ = omega (arith, low) in no)
-in_here roots s (PaletteSnoop slot) low (g, has, named, is) = record { g = g; has = has; here = (sym named, is) }
-in_here roots s (VgaEnable slot) low (g, has, named, is) = record { g = g; has = has; here = (sym named, is) }
-in_here roots s (IsaEnable slot) low (g, has, named, is) = record { g = g; has = has; here = (sym named, is) }
-in_here roots s (Subtractive slot) low (g, has, named, is) = record { g = g; has = has; here = (sym named, is) }
-in_here roots s (InReset slot) low (g, has, named, is) = record { g = g; has = has; here = (sym named, is) }
-in_here roots s (PowerState slot) low (g, has, named, is) = record { g = g; has = has; here = (sym named, is) }
+in_here roots s (OfProfile fault slot) low (g, has, named, is) = record { g = g; has = has; here = (sym named, is) }
 in_here roots s (BusRange slot) low is = absurd (let no : ⊥ = omega (arith, low) in no)
 in_here roots s (Orphan slot) low is = absurd (let no : ⊥ = omega (arith, low) in no)
 in_here roots s (Unreached slot register space address bridge) low is = absurd (let no : ⊥ = omega (arith, low) in no)
@@ -62,12 +58,7 @@ here_in roots s f (CapCut slot place) has is = (f, has, sym is.0, is.1)
 here_in roots s f (SlotsDiffer slot) has is = absurd is
 here_in roots s f (StrayProbe slot offset) has is = (f, has, sym is.0, is.1)
 here_in roots s f (LoneFunction slot) has is = absurd is
-here_in roots s f (PaletteSnoop slot) has is = (f, has, sym is.0, is.1)
-here_in roots s f (VgaEnable slot) has is = (f, has, sym is.0, is.1)
-here_in roots s f (IsaEnable slot) has is = (f, has, sym is.0, is.1)
-here_in roots s f (Subtractive slot) has is = (f, has, sym is.0, is.1)
-here_in roots s f (InReset slot) has is = (f, has, sym is.0, is.1)
-here_in roots s f (PowerState slot) has is = (f, has, sym is.0, is.1)
+here_in roots s f (OfProfile fault slot) has is = (f, has, sym is.0, is.1)
 here_in roots s f (BusRange slot) has is = absurd is
 here_in roots s f (Orphan slot) has is = absurd is
 here_in roots s f (Unreached slot register space address bridge) has is = absurd is
@@ -92,12 +83,7 @@ here_not_clear g (CapCut slot place) n less clear is = chain-no_cut_body g.image
 here_not_clear g (SlotsDiffer slot) n less clear is = absurd is
 here_not_clear g (StrayProbe slot offset) n less clear is = both_ways _ ((clear.answers less).probe offset) is.1
 here_not_clear g (LoneFunction slot) n less clear is = absurd is
-here_not_clear g (PaletteSnoop slot) n less clear is = both_ways _ (clear.profile less).palette is.1
-here_not_clear g (VgaEnable slot) n less clear is = both_ways _ (clear.profile less).bridge.vga is.1
-here_not_clear g (IsaEnable slot) n less clear is = both_ways _ (clear.profile less).bridge.isa is.1
-here_not_clear g (Subtractive slot) n less clear is = both_ways _ (clear.profile less).bridge.subtractive is.1
-here_not_clear g (InReset slot) n less clear is = both_ways _ (clear.profile less).bridge.reset is.1
-here_not_clear g (PowerState slot) n less clear is = (clear.profile less).awake is.1
+here_not_clear g (OfProfile fault slot) n less clear is = none_of_plain g.image (clear.profile less) fault is.1
 here_not_clear g (BusRange slot) n less clear is = absurd is
 here_not_clear g (Orphan slot) n less clear is = absurd is
 here_not_clear g (Unreached slot register space address bridge) n less clear is = absurd is
@@ -119,12 +105,7 @@ early_phase f (CapCut slot place) is = omega arith
 early_phase f (SlotsDiffer slot) is = absurd is
 early_phase f (StrayProbe slot offset) is = omega arith
 early_phase f (LoneFunction slot) is = absurd is
-early_phase f (PaletteSnoop slot) is = omega arith
-early_phase f (VgaEnable slot) is = omega arith
-early_phase f (IsaEnable slot) is = omega arith
-early_phase f (Subtractive slot) is = omega arith
-early_phase f (InReset slot) is = omega arith
-early_phase f (PowerState slot) is = omega arith
+early_phase f (OfProfile fault slot) is = omega arith
 early_phase f (BusRange slot) is = absurd is
 early_phase f (Orphan slot) is = absurd is
 early_phase f (Unreached slot register space address bridge) is = absurd is

@@ -1,14 +1,11 @@
 -- What is looked for in one function: its identity and its probe, its registers and capabilities list, and its profile.
-use Rattle.std.specs.Prelude.{◌≡◌, ℕ, ◌<◌, IsTrue, IsFalse, List}
-use Rattle.pci_spec.specs.Number.{has_bit}
-use Rattle.pci_spec.specs.Registers.{PALETTE_SNOOP, ISA_ENABLE, VGA_ENABLE, SECONDARY_BUS_RESET}
-use Rattle.pci_spec.specs.Header.{command}
+use Rattle.std.specs.Prelude.{◌≡◌, ℕ, ◌<◌, IsTrue, IsFalse}
 use Rattle.pci_spec.specs.Bar as bars
 use Rattle.pci_spec.specs.Capability.{ComesTwiceTo, HasLowPlace, HasCutBody, HasChain}
 use Rattle.pci_spec.specs.System.{Function}
 use Rattle.pci_spec.specs.Decoded.{IsDecodable}
 use Rattle.pci_spec.specs.Order.{is_before, phase_of}
-use Rattle.pci_spec.specs.Fault.{Fault, NoVendor, HeaderKind, BarType, BarMask, BarPair, RomMask, WindowMask, CapRange, CapLoop, CapCut, SlotsDiffer, StrayProbe, LoneFunction, PaletteSnoop, VgaEnable, IsaEnable, Subtractive, InReset, PowerState, BusRange, Orphan, Unreached, Clash, Split, has_no_vendor, has_other_layout, is_stray, HasBarFault, HasRomFault, HasWindowFault, controls_bridge, is_subtractive_bridge, IsNotInD0}
+use Rattle.pci_spec.specs.Fault.{Fault, NoVendor, HeaderKind, BarType, BarMask, BarPair, RomMask, WindowMask, CapRange, CapLoop, CapCut, SlotsDiffer, StrayProbe, LoneFunction, OfProfile, BusRange, Orphan, Unreached, Clash, Split, has_no_vendor, has_other_layout, is_stray, HasBarFault, HasRomFault, HasWindowFault, HasProfileFault, IsPlainImage}
 use Rattle.pci_function.specs.declared.record.Record.{Record}
 use Rattle.pci_function.specs.Decoding.{IsRecordOf}
 
@@ -17,19 +14,6 @@ pub record IsAnswering (f : Function) : Type 0 where
   pub vendor : IsFalse (has_no_vendor f.image)
   pub header : IsFalse (has_other_layout f.image)
   pub probe : (offset : ℕ) → IsFalse (is_stray f.image f.probe offset)
-
--- a bridge, where the image is one, passes no VGA or ISA accesses of its own, decodes its windows alone, and isn't in reset
-pub record IsPlainBridge (image : List ℕ) : Type 0 where
-  pub vga : IsFalse (controls_bridge image VGA_ENABLE)
-  pub isa : IsFalse (controls_bridge image ISA_ENABLE)
-  pub subtractive : IsFalse (is_subtractive_bridge image)
-  pub reset : IsFalse (controls_bridge image SECONDARY_BUS_RESET)
-
--- the profile of a function
-pub record IsPlain (image : List ℕ) : Type 0 where
-  pub palette : IsFalse (has_bit (command image) PALETTE_SNOOP)
-  pub bridge : IsPlainBridge image
-  pub awake : IsNotInD0 image → ⊥
 
 -- the fault is one of the function by itself
 abbrev pub IsHere : Function → Fault → Type 0
@@ -49,12 +33,7 @@ IsHere f (CapCut slot place) = (slot ≡ f.slot) × HasCutBody f.image place
 IsHere f (SlotsDiffer slot) = ⊥
 IsHere f (StrayProbe slot offset) = (slot ≡ f.slot) × IsTrue (is_stray f.image f.probe offset)
 IsHere f (LoneFunction slot) = ⊥
-IsHere f (PaletteSnoop slot) = (slot ≡ f.slot) × IsTrue (has_bit (command f.image) PALETTE_SNOOP)
-IsHere f (VgaEnable slot) = (slot ≡ f.slot) × IsTrue (controls_bridge f.image VGA_ENABLE)
-IsHere f (IsaEnable slot) = (slot ≡ f.slot) × IsTrue (controls_bridge f.image ISA_ENABLE)
-IsHere f (Subtractive slot) = (slot ≡ f.slot) × IsTrue (is_subtractive_bridge f.image)
-IsHere f (InReset slot) = (slot ≡ f.slot) × IsTrue (controls_bridge f.image SECONDARY_BUS_RESET)
-IsHere f (PowerState slot) = (slot ≡ f.slot) × IsNotInD0 f.image
+IsHere f (OfProfile fault slot) = (slot ≡ f.slot) × HasProfileFault f.image fault
 IsHere f (BusRange slot) = ⊥
 IsHere f (Orphan slot) = ⊥
 IsHere f (Unreached slot register space address bridge) = ⊥
@@ -76,7 +55,7 @@ IsFirstOf phase f fault =
 pub record IsClearBefore (phase : ℕ) (f : Function) : Type 0 where
   pub answers : 1 < phase → IsAnswering f
   pub registers : 2 < phase → IsDecodable f × HasChain f.image
-  pub profile : 3 < phase → IsPlain f.image
+  pub profile : 3 < phase → IsPlainImage f.image
 
 -- the record is the function's, and nothing is wrong with it by itself
 pub record IsExamined (f : Function) (r : Record) : Type 0 where

@@ -3,10 +3,10 @@ ghost use Rattle.std.specs.Prelude.{◌≡◌, ◌+◌, ◌≤◌, ◌↔◌, �
 ghost use Rattle.pci_spec.specs.Number.{has_bit};
 ghost use Rattle.pci_spec.specs.Header.{command};
 ghost use Rattle.pci_spec.specs.Capability.{body_length, IsChain};
-ghost use Rattle.pci_spec.specs.Fault.{controls_bridge, is_subtractive_bridge, IsNotInD0, IsNotInD0At};
+ghost use Rattle.pci_spec.specs.Fault.{controls_bridge, is_subtractive_bridge, IsNotInD0, IsNotInD0At, IsPlainBridge, IsPlainImage};
 ghost use Rattle.pci_spec.specs.Order.{phase_key, Identity, Profile};
 ghost use Rattle.pci_function.specs.Fault.{fault_of};
-ghost use Rattle.pci_function.specs.Profile.{IsAnswering, IsPlainBridge, IsPlain, IsHereIn, IsFirstOf};
+ghost use Rattle.pci_function.specs.Profile.{IsAnswering, IsHereIn, IsFirstOf};
 
 use super::fault::Fault;
 use super::stray::stray_byte;
@@ -149,7 +149,7 @@ pub fn is_not_in_d0(image: &Image, places: &[u8]) -> bool
 pub fn profile_fault(slot: Slot, image: &Image, probe: &Image, places: &[u8]) -> Option<Fault>
     // a place left out could hide that the function is in a lower power state
     requires { IsChain image.now.0 places.now }
-    ensures fault { MatchOption result (IsPlain image.now.0)
+    ensures fault { MatchOption result (IsPlainImage image.now.0)
         (λ e. IsHereIn (phase_key Profile) record
         { slot = slot; image = image.now.0; probe = probe.now.0 } (fault_of e)) }
     ensures first { IfSome result (λ e. IsFirstOf (phase_key Profile) record {
