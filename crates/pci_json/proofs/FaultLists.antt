@@ -7,7 +7,7 @@ use Rattle.pci_spec.specs.Slot.{Slot}
 use Rattle.pci_spec.specs.Text.{hex_byte, slot_text}
 use Rattle.pci_spec.specs.System.{Space, Io, Memory}
 use Rattle.pci_spec.specs.Line.{field, address_text, fault_text}
-use Rattle.pci_spec.specs.Fault.{Fault, NoVendor, HeaderKind, BarType, BarMask, BarPair, RomMask, WindowMask, CapRange, CapLoop, CapCut, SlotsDiffer, StrayProbe, LoneFunction, PaletteSnoop, VgaEnable, IsaEnable, Subtractive, InReset, PowerState, BusRange, Orphan, Unreached, Clash, Split}
+use Rattle.pci_spec.specs.Fault.{Fault, NoVendor, HeaderKind, BarType, BarMask, BarPair, RomMask, WindowMask, CapRange, CapLoop, CapCut, SlotsDiffer, StrayProbe, LoneFunction, OfProfile, BusRange, Orphan, Unreached, Clash, Split}
 use Rattle.judge_spec.specs.Fault as given
 use Rattle.judge_spec.specs.Line as given_line
 use Rattle.pci_json.specs.Lines.{parts_of, put_front, lines_of, content_of, is_inner, behind}
@@ -19,6 +19,7 @@ use Rattle.pci_json.specs.FaultValues.{all_given_values}
 use Rattle.pci_json.specs.FaultLaws.{HasEachFault}
 use Rattle.pci_json.proofs.Words.{lacks, append_lacks, byte_lacks, slot_lacks, address_lacks}
 use Rattle.pci_json.proofs.FaultMembers.{has_given_fault_members}
+use Rattle.pci_json.proofs.ProfileTexts.{profile_line}
 
 -- ---- a fault is one line
 
@@ -61,12 +62,7 @@ known (NoVendor s) = slot s
 known (HeaderKind s) = slot s
 known (SlotsDiffer s) = slot s
 known (LoneFunction s) = slot s
-known (PaletteSnoop s) = slot s
-known (VgaEnable s) = slot s
-known (IsaEnable s) = slot s
-known (Subtractive s) = slot s
-known (InReset s) = slot s
-known (PowerState s) = slot s
+known (OfProfile fault s) = (profile_line fault s).one_line
 known (BusRange s) = slot s
 known (Orphan s) = slot s
 known (BarType s r) = region s r
@@ -103,12 +99,7 @@ of_known (NoVendor s) = record { is = refl; content = refl; outer = refl }
 of_known (HeaderKind s) = record { is = refl; content = refl; outer = refl }
 of_known (SlotsDiffer s) = record { is = refl; content = refl; outer = refl }
 of_known (LoneFunction s) = record { is = refl; content = refl; outer = refl }
-of_known (PaletteSnoop s) = record { is = refl; content = refl; outer = refl }
-of_known (VgaEnable s) = record { is = refl; content = refl; outer = refl }
-of_known (IsaEnable s) = record { is = refl; content = refl; outer = refl }
-of_known (Subtractive s) = record { is = refl; content = refl; outer = refl }
-of_known (InReset s) = record { is = refl; content = refl; outer = refl }
-of_known (PowerState s) = record { is = refl; content = refl; outer = refl }
+of_known (OfProfile fault s) = record { is = (profile_line fault s).is; content = (profile_line fault s).content; outer = (profile_line fault s).outer }
 of_known (BusRange s) = record { is = refl; content = refl; outer = refl }
 of_known (Orphan s) = record { is = refl; content = refl; outer = refl }
 of_known (BarType s r) = record { is = refl; content = refl; outer = refl }

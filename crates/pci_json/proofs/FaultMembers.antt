@@ -7,7 +7,7 @@ use Rattle.pci_spec.specs.Slot.{Slot}
 use Rattle.pci_spec.specs.Text.{hex_byte, slot_text}
 use Rattle.pci_spec.specs.System.{Space, Io, Memory}
 use Rattle.pci_spec.specs.Line.{space_text, address_text, fault_name, fault_text}
-use Rattle.pci_spec.specs.Fault.{Fault, fault_number, NoVendor, HeaderKind, BarType, BarMask, BarPair, RomMask, WindowMask, CapRange, CapLoop, CapCut, SlotsDiffer, StrayProbe, LoneFunction, PaletteSnoop, VgaEnable, IsaEnable, Subtractive, InReset, PowerState, BusRange, Orphan, Unreached, Clash, Split}
+use Rattle.pci_spec.specs.Fault.{Fault, fault_number, NoVendor, HeaderKind, BarType, BarMask, BarPair, RomMask, WindowMask, CapRange, CapLoop, CapCut, SlotsDiffer, StrayProbe, LoneFunction, OfProfile, BusRange, Orphan, Unreached, Clash, Split}
 use Rattle.judge_spec.specs.Fault as given
 use Rattle.judge_spec.specs.Line as given_line
 use Rattle.pci_json.specs.Lines.{behind, word}
@@ -15,6 +15,7 @@ use Rattle.pci_json.specs.Members.{hex, count, object_of, array_of, line_number,
 use Rattle.pci_json.specs.Faults.{slot_members, unreached_members, clash_members, split_members, outside_members}
 use Rattle.pci_json.specs.FaultValues.{slot_value, region_values, address_values, two_region_values}
 use Rattle.pci_json.specs.FaultLaws.{HasFaultMembers, HasGivenFaultMembers}
+use Rattle.pci_json.proofs.ProfileTexts.{profile_line}
 use Rattle.pci_json.proofs.Words.{AreWords, tail_of, words_of, no_blank, no_plus, byte_ok, slot_ok, space_ok, address_ok}
 
 -- a word behind the number and the name
@@ -161,12 +162,7 @@ has_fault_members (NoVendor slot) = of_slot (NoVendor slot) slot refl
 has_fault_members (HeaderKind slot) = of_slot (HeaderKind slot) slot refl
 has_fault_members (SlotsDiffer slot) = of_slot (SlotsDiffer slot) slot refl
 has_fault_members (LoneFunction slot) = of_slot (LoneFunction slot) slot refl
-has_fault_members (PaletteSnoop slot) = of_slot (PaletteSnoop slot) slot refl
-has_fault_members (VgaEnable slot) = of_slot (VgaEnable slot) slot refl
-has_fault_members (IsaEnable slot) = of_slot (IsaEnable slot) slot refl
-has_fault_members (Subtractive slot) = of_slot (Subtractive slot) slot refl
-has_fault_members (InReset slot) = of_slot (InReset slot) slot refl
-has_fault_members (PowerState slot) = of_slot (PowerState slot) slot refl
+has_fault_members (OfProfile fault slot) = (profile_line fault slot).members ∙ of_slot (OfProfile fault slot) slot (profile_line fault slot).rest
 has_fault_members (BusRange slot) = of_slot (BusRange slot) slot refl
 has_fault_members (Orphan slot) = of_slot (Orphan slot) slot refl
 has_fault_members (BarType slot register) = of_region (BarType slot register) slot register refl

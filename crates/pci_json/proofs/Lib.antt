@@ -8,6 +8,7 @@ pub mod Choices
 pub mod ReadBack
 mod Values
 mod Words
+mod ProfileTexts
 pub mod Texts
 pub mod FaultMembers
 pub mod FaultLists

@@ -6,7 +6,7 @@ use Rattle.pci_spec.specs.Slot.{Slot}
 use Rattle.pci_spec.specs.Text.{hex_byte, slot_text}
 use Rattle.pci_spec.specs.System.{Space, Io, Memory}
 use Rattle.pci_spec.specs.Line.{field, address_text}
-use Rattle.pci_spec.specs.Fault.{Fault, NoVendor, HeaderKind, BarType, BarMask, BarPair, RomMask, WindowMask, CapRange, CapLoop, CapCut, SlotsDiffer, StrayProbe, LoneFunction, PaletteSnoop, VgaEnable, IsaEnable, Subtractive, InReset, PowerState, BusRange, Orphan, Unreached, Clash, Split}
+use Rattle.pci_spec.specs.Fault.{Fault, NoVendor, HeaderKind, BarType, BarMask, BarPair, RomMask, WindowMask, CapRange, CapLoop, CapCut, SlotsDiffer, StrayProbe, LoneFunction, OfProfile, BusRange, Orphan, Unreached, Clash, Split}
 use Rattle.judge_spec.specs.Fault as given
 use Rattle.judge_spec.specs.ToldFault as told
 use Rattle.judge_spec.specs.ToldLine.{register_text, region_text, fault_text, fault_line}
@@ -43,12 +43,7 @@ plain (NoVendor s) names = known (NoVendor s)
 plain (HeaderKind s) names = known (HeaderKind s)
 plain (SlotsDiffer s) names = known (SlotsDiffer s)
 plain (LoneFunction s) names = known (LoneFunction s)
-plain (PaletteSnoop s) names = known (PaletteSnoop s)
-plain (VgaEnable s) names = known (VgaEnable s)
-plain (IsaEnable s) names = known (IsaEnable s)
-plain (Subtractive s) names = known (Subtractive s)
-plain (InReset s) names = known (InReset s)
-plain (PowerState s) names = known (PowerState s)
+plain (OfProfile fault s) names = known (OfProfile fault s)
 plain (BusRange s) names = known (BusRange s)
 plain (Orphan s) names = known (Orphan s)
 plain (BarType s r) names = known (BarType s r)
@@ -91,12 +86,7 @@ of_plain (NoVendor s) = of_known (NoVendor s)
 of_plain (HeaderKind s) = of_known (HeaderKind s)
 of_plain (SlotsDiffer s) = of_known (SlotsDiffer s)
 of_plain (LoneFunction s) = of_known (LoneFunction s)
-of_plain (PaletteSnoop s) = of_known (PaletteSnoop s)
-of_plain (VgaEnable s) = of_known (VgaEnable s)
-of_plain (IsaEnable s) = of_known (IsaEnable s)
-of_plain (Subtractive s) = of_known (Subtractive s)
-of_plain (InReset s) = of_known (InReset s)
-of_plain (PowerState s) = of_known (PowerState s)
+of_plain (OfProfile fault s) = of_known (OfProfile fault s)
 of_plain (BusRange s) = of_known (BusRange s)
 of_plain (Orphan s) = of_known (Orphan s)
 of_plain (BarType s r) = of_known (BarType s r)

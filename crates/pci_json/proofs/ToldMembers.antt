@@ -6,7 +6,7 @@ use Rattle.pci_spec.specs.Slot.{Slot}
 use Rattle.pci_spec.specs.Text.{hex_byte, slot_text}
 use Rattle.pci_spec.specs.System.{Space, Io, Memory}
 use Rattle.pci_spec.specs.Line.{field, space_text, address_text}
-use Rattle.pci_spec.specs.Fault.{Fault, NoVendor, HeaderKind, BarType, BarMask, BarPair, RomMask, WindowMask, CapRange, CapLoop, CapCut, SlotsDiffer, StrayProbe, LoneFunction, PaletteSnoop, VgaEnable, IsaEnable, Subtractive, InReset, PowerState, BusRange, Orphan, Unreached, Clash, Split}
+use Rattle.pci_spec.specs.Fault.{Fault, NoVendor, HeaderKind, BarType, BarMask, BarPair, RomMask, WindowMask, CapRange, CapLoop, CapCut, SlotsDiffer, StrayProbe, LoneFunction, OfProfile, BusRange, Orphan, Unreached, Clash, Split}
 use Rattle.judge_spec.specs.Fault as given
 use Rattle.judge_spec.specs.ToldFault as told
 use Rattle.judge_spec.specs.ToldLine.{register_text, fault_text}
@@ -86,12 +86,7 @@ plain (NoVendor slot) names = has_fault_members (NoVendor slot)
 plain (HeaderKind slot) names = has_fault_members (HeaderKind slot)
 plain (SlotsDiffer slot) names = has_fault_members (SlotsDiffer slot)
 plain (LoneFunction slot) names = has_fault_members (LoneFunction slot)
-plain (PaletteSnoop slot) names = has_fault_members (PaletteSnoop slot)
-plain (VgaEnable slot) names = has_fault_members (VgaEnable slot)
-plain (IsaEnable slot) names = has_fault_members (IsaEnable slot)
-plain (Subtractive slot) names = has_fault_members (Subtractive slot)
-plain (InReset slot) names = has_fault_members (InReset slot)
-plain (PowerState slot) names = has_fault_members (PowerState slot)
+plain (OfProfile fault slot) names = has_fault_members (OfProfile fault slot)
 plain (BusRange slot) names = has_fault_members (BusRange slot)
 plain (Orphan slot) names = has_fault_members (Orphan slot)
 plain (BarType slot register) names = has_fault_members (BarType slot register)

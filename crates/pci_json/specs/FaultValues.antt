@@ -5,7 +5,7 @@ use Rattle.pci_spec.specs.Slot.{Slot}
 use Rattle.pci_spec.specs.Text.{hex_byte, slot_text}
 use Rattle.pci_spec.specs.System.{Space}
 use Rattle.pci_spec.specs.Line.{space_text, address_text, fault_name, fault_text}
-use Rattle.pci_spec.specs.Fault.{Fault, fault_number, NoVendor, HeaderKind, BarType, BarMask, BarPair, RomMask, WindowMask, CapRange, CapLoop, CapCut, SlotsDiffer, StrayProbe, LoneFunction, PaletteSnoop, VgaEnable, IsaEnable, Subtractive, InReset, PowerState, BusRange, Orphan, Unreached, Clash, Split}
+use Rattle.pci_spec.specs.Fault.{Fault, fault_number, NoVendor, HeaderKind, BarType, BarMask, BarPair, RomMask, WindowMask, CapRange, CapLoop, CapCut, SlotsDiffer, StrayProbe, LoneFunction, OfProfile, BusRange, Orphan, Unreached, Clash, Split}
 use Rattle.judge_spec.specs.Fault as given
 use Rattle.judge_spec.specs.Line as given_line
 use Rattle.judge_spec.specs.ToldFault as told
@@ -40,12 +40,7 @@ fault_values (CapCut slot place) = region_values slot place
 fault_values (SlotsDiffer slot) = slot_value (codes "slot") slot
 fault_values (StrayProbe slot offset) = region_values slot offset
 fault_values (LoneFunction slot) = slot_value (codes "slot") slot
-fault_values (PaletteSnoop slot) = slot_value (codes "slot") slot
-fault_values (VgaEnable slot) = slot_value (codes "slot") slot
-fault_values (IsaEnable slot) = slot_value (codes "slot") slot
-fault_values (Subtractive slot) = slot_value (codes "slot") slot
-fault_values (InReset slot) = slot_value (codes "slot") slot
-fault_values (PowerState slot) = slot_value (codes "slot") slot
+fault_values (OfProfile fault slot) = slot_value (codes "slot") slot
 fault_values (BusRange slot) = slot_value (codes "slot") slot
 fault_values (Orphan slot) = slot_value (codes "slot") slot
 fault_values (Unreached slot register space address bridge) =
