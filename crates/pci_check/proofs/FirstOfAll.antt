@@ -5,7 +5,7 @@ use Rattle.pci_spec.specs.Slot.{Slot}
 use Rattle.pci_spec.specs.System.{System, system_of}
 use Rattle.pci_spec.specs.Bus.{IsNested}
 use Rattle.pci_spec.specs.Sound.{IsInProfile, HasChains}
-use Rattle.pci_spec.specs.Fault.{Fault, IsIn, NoVendor, HeaderKind, BarType, BarMask, BarPair, RomMask, WindowMask, CapRange, CapLoop, CapCut, SlotsDiffer, StrayProbe, LoneFunction, PaletteSnoop, VgaEnable, IsaEnable, Subtractive, InReset, PowerState, BusRange, Orphan, Unreached, Clash, Split}
+use Rattle.pci_spec.specs.Fault.{Fault, IsIn, NoVendor, HeaderKind, BarType, BarMask, BarPair, RomMask, WindowMask, CapRange, CapLoop, CapCut, SlotsDiffer, StrayProbe, LoneFunction, OfProfile, BusRange, Orphan, Unreached, Clash, Split}
 use Rattle.pci_spec.specs.Order.{IsFirst, IsFirstThere, precedes, looking_key, judging_key, phase_of, image_at}
 use Rattle.pci_spec.proofs.Looking.{phase_le}
 use Rattle.pci_spec.proofs.Nesting.{no_bus_fault_where_nested}
@@ -30,12 +30,7 @@ module _ (roots : List ℕ) (s : System) (nested : IsNested roots s) (profile : 
   none_early (SlotsDiffer slot) early is = profile (SlotsDiffer slot) refl is
   none_early (StrayProbe slot offset) early is = profile (StrayProbe slot offset) refl is
   none_early (LoneFunction slot) early is = profile (LoneFunction slot) refl is
-  none_early (PaletteSnoop slot) early is = profile (PaletteSnoop slot) refl is
-  none_early (VgaEnable slot) early is = profile (VgaEnable slot) refl is
-  none_early (IsaEnable slot) early is = profile (IsaEnable slot) refl is
-  none_early (Subtractive slot) early is = profile (Subtractive slot) refl is
-  none_early (InReset slot) early is = profile (InReset slot) refl is
-  none_early (PowerState slot) early is = profile (PowerState slot) refl is
+  none_early (OfProfile fault slot) early is = profile (OfProfile fault slot) refl is
   none_early (BusRange slot) early is = (no_bus_fault_where_nested roots s nested slot).0 is
   none_early (Orphan slot) early is = (no_bus_fault_where_nested roots s nested slot).1 is
   none_early (Unreached slot register space address bridge) early is = let no : ⊥ = omega (arith, early) in no

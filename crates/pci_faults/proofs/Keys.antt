@@ -4,7 +4,7 @@ use Rattle.std.specs.Prelude.{slice_index_or}
 use Rattle.std.proofs.lemmas.Bool.{both_ways, cases_order}
 use Rattle.pci_spec.specs.Slot.{Slot, IsSlot, slot_number}
 use Rattle.pci_spec.specs.System.{Function}
-use Rattle.pci_spec.specs.Fault.{Fault, NoVendor, HeaderKind, BarType, BarMask, BarPair, RomMask, WindowMask, CapRange, CapLoop, CapCut, SlotsDiffer, StrayProbe, LoneFunction, PaletteSnoop, VgaEnable, IsaEnable, Subtractive, InReset, PowerState, BusRange, Orphan, Unreached, Clash, Split}
+use Rattle.pci_spec.specs.Fault.{Fault, NoVendor, HeaderKind, BarType, BarMask, BarPair, RomMask, WindowMask, CapRange, CapLoop, CapCut, SlotsDiffer, StrayProbe, LoneFunction, OfProfile, BusRange, Orphan, Unreached, Clash, Split}
 use Rattle.pci_spec.specs.Order.{precedes, slot_key, looking_key, phase_of, is_before}
 use Rattle.pci_spec.specs.FaultLines.{subject}
 use Rattle.pci_spec.proofs.Regions.{precedes-cases}
@@ -87,12 +87,7 @@ subject_here f (CapCut slot place) is = ap (λ t. subject (CapCut t place)) is.0
 subject_here f (SlotsDiffer slot) is = absurd is
 subject_here f (StrayProbe slot offset) is = ap (λ t. subject (StrayProbe t offset)) is.0
 subject_here f (LoneFunction slot) is = absurd is
-subject_here f (PaletteSnoop slot) is = ap (λ t. subject (PaletteSnoop t)) is.0
-subject_here f (VgaEnable slot) is = ap (λ t. subject (VgaEnable t)) is.0
-subject_here f (IsaEnable slot) is = ap (λ t. subject (IsaEnable t)) is.0
-subject_here f (Subtractive slot) is = ap (λ t. subject (Subtractive t)) is.0
-subject_here f (InReset slot) is = ap (λ t. subject (InReset t)) is.0
-subject_here f (PowerState slot) is = ap (λ t. subject (PowerState t)) is.0
+subject_here f (OfProfile fault slot) is = ap (λ t. subject (OfProfile fault t)) is.0
 subject_here f (BusRange slot) is = absurd is
 subject_here f (Orphan slot) is = absurd is
 subject_here f (Unreached slot register space address bridge) is = absurd is

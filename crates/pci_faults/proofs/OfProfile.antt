@@ -1,15 +1,13 @@
 -- The lines of a function's profile.
-use Rattle.std.proofs.Common.{◌≡◌, ℕ, zero, suc, ◌<◌, List, [], ◌∷◌, get_or, refl, Bool, arith, sym, ◌∙◌, ap, subst, Option, None}
+use Rattle.std.proofs.Common.{◌≡◌, ℕ, ◌<◌, List, get_or, length, refl, Bool, arith, sym, ◌∙◌, ap, subst, Option, None}
 use Rattle.std.specs.Prelude.{IsTrue, ◌↔◌}
 use Rattle.std.specs.Bool.{then_some}
-use Rattle.pci_spec.specs.Number.{has_bit}
-use Rattle.pci_spec.specs.Registers.{PALETTE_SNOOP, ISA_ENABLE, VGA_ENABLE, SECONDARY_BUS_RESET}
-use Rattle.pci_spec.specs.Header.{command}
 use Rattle.pci_spec.specs.System.{Function}
-use Rattle.pci_spec.specs.Fault.{Fault, CapRange, CapLoop, CapCut, PaletteSnoop, VgaEnable, IsaEnable, Subtractive, InReset, PowerState, controls_bridge, is_subtractive_bridge, IsNotInD0}
+use Rattle.pci_spec.specs.Fault.{Fault, ProfileFault, profile_key, HasProfileFault, CapRange, CapLoop, CapCut, OfProfile}
 use Rattle.pci_spec.specs.Order.{phase_of}
+use Rattle.pci_spec.proofs.ProfileFaults.{in_order, fault_at, at_its_key, key_within, key_at}
 use Rattle.pci_function.specs.declared.fault.Fault.{Fault as FaultOfCode}
-use Rattle.pci_function.specs.declared.fault.Fault.TheVariants as codes
+use Rattle.pci_function.specs.Fault.{fault_of}
 use Rattle.pci_function.specs.Profile.{IsHere}
 use Rattle.pci_image.specs.declared.fault.ImageFault.{ImageFault}
 use Rattle.pci_image.specs.declared.fault.ImageFault.TheVariants as images
@@ -33,61 +31,50 @@ own_profile f e phase here = record {
   first = λ other same before there. late_alone (λ slot. f.image) other e (omega (arith, phase)) same before;
 }
 
--- what the fault of a check says
-abbrev ProfileIs : Function → ℕ → Fault → Type 0
-ProfileIs f zero e = (e ≡ PaletteSnoop f.slot) × IsTrue (has_bit (command f.image) PALETTE_SNOOP)
-ProfileIs f (suc zero) e = (e ≡ VgaEnable f.slot) × IsTrue (controls_bridge f.image VGA_ENABLE)
-ProfileIs f (suc (suc zero)) e = (e ≡ IsaEnable f.slot) × IsTrue (controls_bridge f.image ISA_ENABLE)
-ProfileIs f (suc (suc (suc zero))) e = (e ≡ Subtractive f.slot) × IsTrue (is_subtractive_bridge f.image)
-ProfileIs f (suc (suc (suc (suc zero)))) e = (e ≡ InReset f.slot) × IsTrue (controls_bridge f.image SECONDARY_BUS_RESET)
-ProfileIs f (suc (suc (suc (suc (suc k))))) e = (e ≡ PowerState f.slot) × IsNotInD0 f.image
+-- the fault of a line, by its key
+record IsProfileLine (f : Function) (e : Fault) : Type 0 where
+  fault : ProfileFault
+  is : e ≡ OfProfile fault f.slot
+  key : check_of f e ≡ profile_key fault
+  there : HasProfileFault f.image fault
 
-profile_is : (f : Function) (e : Fault) → IsOwnLine 3 f e → ProfileIs f (check_of f e) e
-profile_is f (PaletteSnoop slot) own = (ap PaletteSnoop own.here.0, own.here.1)
-profile_is f (VgaEnable slot) own = (ap VgaEnable own.here.0, own.here.1)
-profile_is f (IsaEnable slot) own = (ap IsaEnable own.here.0, own.here.1)
-profile_is f (Subtractive slot) own = (ap Subtractive own.here.0, own.here.1)
-profile_is f (InReset slot) own = (ap InReset own.here.0, own.here.1)
-profile_is f (PowerState slot) own = (ap PowerState own.here.0, own.here.1)
+profile_is : (f : Function) (e : Fault) → IsOwnLine 3 f e → IsProfileLine f e
+profile_is f (OfProfile fault slot) own = record { fault = fault; is = ap (OfProfile fault) own.here.0; key = refl; there = own.here.1 }
 profile_is f _ own = absurd (let phase = own.phase_is in let no : ⊥ = omega (arith, phase) in no)
 
-profile_within : (f : Function) (e : Fault) → IsOwnLine 3 f e → check_of f e < 6
-profile_within f (PaletteSnoop slot) own = omega arith
-profile_within f (VgaEnable slot) own = omega arith
-profile_within f (IsaEnable slot) own = omega arith
-profile_within f (Subtractive slot) own = omega arith
-profile_within f (InReset slot) own = omega arith
-profile_within f (PowerState slot) own = omega arith
-profile_within f _ own = absurd (let phase = own.phase_is in let no : ⊥ = omega (arith, phase) in no)
+-- what is listed for a fault: the code's, where its test says so
+pub record IsItem (f : Function) (fault : ProfileFault) (item : Option FaultOfCode) : Type 0 where
+  pub test : Bool
+  pub code : FaultOfCode
+  pub is : item ≡ then_some test code
+  pub named : fault_of code ≡ OfProfile fault f.slot
+  pub tells : IsTrue test ↔ HasProfileFault f.image fault
 
-module _ (f : Function) (palette vga isa subtractive reset asleep : Bool)
-    (palette_is : palette ≡ has_bit (command f.image) PALETTE_SNOOP) (vga_is : vga ≡ controls_bridge f.image VGA_ENABLE) (isa_is : isa ≡ controls_bridge f.image ISA_ENABLE)
-    (subtractive_is : subtractive ≡ is_subtractive_bridge f.image) (reset_is : reset ≡ controls_bridge f.image SECONDARY_BUS_RESET) (asleep_is : IsTrue asleep ↔ IsNotInD0 f.image) where
-  abbrev profile_list : List (Option FaultOfCode)
-  profile_list = then_some palette (codes.PaletteSnoop f.slot) ∷ then_some vga (codes.VgaEnable f.slot) ∷ then_some isa (codes.IsaEnable f.slot)
-      ∷ then_some subtractive (codes.Subtractive f.slot) ∷ then_some reset (codes.InReset f.slot) ∷ then_some asleep (codes.PowerState f.slot) ∷ []
-
+module _ (f : Function) where
   abbrev IsAt : ℕ → Fault → Type 0
   IsAt k e = IsOwnLine 3 f e × (check_of f e ≡ k)
 
-  said_at : (k : ℕ) (e : Fault) → IsAt k e → ProfileIs f k e
-  said_at k e is = subst (λ n. ProfileIs f n e) is.1 (profile_is f e is.0)
+  own_at : (fault : ProfileFault) → HasProfileFault f.image fault → IsAt (profile_key fault) (OfProfile fault f.slot)
+  own_at fault there = (own_profile f (OfProfile fault f.slot) refl (refl, there), refl)
 
-  only_at : (j : ℕ) → j < 6 → IsOnly (IsAt j) (get_or profile_list j None)
-  only_at zero less = only_if (IsAt 0) palette (codes.PaletteSnoop f.slot) (λ is. (own_profile f (PaletteSnoop f.slot) refl (refl, sym palette_is ∙ is), refl))
-      (λ e is. (let said = said_at 0 e is in (said.0, palette_is ∙ said.1)))
-  only_at (suc zero) less = only_if (IsAt 1) vga (codes.VgaEnable f.slot) (λ is. (own_profile f (VgaEnable f.slot) refl (refl, sym vga_is ∙ is), refl))
-      (λ e is. (let said = said_at 1 e is in (said.0, vga_is ∙ said.1)))
-  only_at (suc (suc zero)) less = only_if (IsAt 2) isa (codes.IsaEnable f.slot) (λ is. (own_profile f (IsaEnable f.slot) refl (refl, sym isa_is ∙ is), refl))
-      (λ e is. (let said = said_at 2 e is in (said.0, isa_is ∙ said.1)))
-  only_at (suc (suc (suc zero))) less = only_if (IsAt 3) subtractive (codes.Subtractive f.slot) (λ is. (own_profile f (Subtractive f.slot) refl (refl, sym subtractive_is ∙ is), refl))
-      (λ e is. (let said = said_at 3 e is in (said.0, subtractive_is ∙ said.1)))
-  only_at (suc (suc (suc (suc zero)))) less = only_if (IsAt 4) reset (codes.InReset f.slot) (λ is. (own_profile f (InReset f.slot) refl (refl, sym reset_is ∙ is), refl))
-      (λ e is. (let said = said_at 4 e is in (said.0, reset_is ∙ said.1)))
-  only_at (suc (suc (suc (suc (suc zero))))) less = only_if (IsAt 5) asleep (codes.PowerState f.slot) (λ is. (own_profile f (PowerState f.slot) refl (refl, asleep_is.0 is), refl))
-      (λ e is. (let said = said_at 5 e is in (said.0, asleep_is.1 said.1)))
-  only_at (suc (suc (suc (suc (suc (suc j)))))) less = absurd (let no : ⊥ = omega (arith, less) in no)
+  only_this : (fault : ProfileFault) (e : Fault) → IsAt (profile_key fault) e → (e ≡ OfProfile fault f.slot) × HasProfileFault f.image fault
+  only_this fault e at =
+      let line = profile_is f e at.0 in
+      let same : line.fault ≡ fault = sym (at_its_key line.fault) ∙ ap fault_at (sym line.key ∙ at.1) ∙ at_its_key fault in
+      (line.is ∙ ap (λ g. OfProfile g f.slot) same, subst (λ g. HasProfileFault f.image g) same line.there)
 
-  pub profile_lines : AreOwnLines 3 f profile_list
-  profile_lines =
-      told_by_place (IsBeforeIn f) (IsOwnLine 3 f) (check_of f) (λ a b is_a is_b less. check_rises 3 f a b is_a is_b less) profile_list (profile_within f) only_at
+  only_item : (fault : ProfileFault) (item : Option FaultOfCode) → IsItem f fault item → IsOnly (IsAt (profile_key fault)) item
+  only_item fault item i =
+      subst (λ o. IsOnly (IsAt (profile_key fault)) o) (sym i.is)
+      (only_if (IsAt (profile_key fault)) i.test i.code (λ is. subst (λ x. IsAt (profile_key fault) x) (sym i.named) (own_at fault (i.tells.0 is)))
+      (λ e at. (let only = only_this fault e at in (only.0 ∙ sym i.named, i.tells.1 only.1))))
+
+  -- one item for each fault, in their order, lists all of them
+  pub profile_lines : (items : List (Option FaultOfCode)) → length items ≡ length in_order → ((fault : ProfileFault) → IsItem f fault (get_or items (profile_key fault) None)) → AreOwnLines 3 f items
+  profile_lines items long each =
+      told_by_place (IsBeforeIn f) (IsOwnLine 3 f) (check_of f) (λ a b is_a is_b less. check_rises 3 f a b is_a is_b less) items
+      (λ e own. (let line = profile_is f e own in let key = line.key in let within = key_within line.fault in omega (arith, key, within, long)))
+      (λ j less. (
+      let within : j < length in_order = omega (arith, less, long) in
+      subst (λ k. IsOnly (IsAt k) (get_or items k None)) (key_at j within) (only_item (fault_at j) (get_or items (profile_key (fault_at j)) None) (each (fault_at j)))
+      ))

@@ -4,8 +4,9 @@ use Rattle.std.specs.Fmt.{decimal}
 use Rattle.std.proofs.lemmas.Fmt.{length-decimal-le}
 use Rattle.std.proofs.lemmas.List.{length-append}
 use Rattle.pci_spec.specs.System.{Io, Memory}
-use Rattle.pci_spec.specs.Fault.{Fault, NoVendor, HeaderKind, BarType, BarMask, BarPair, RomMask, WindowMask, CapRange, CapLoop, CapCut, SlotsDiffer, StrayProbe, LoneFunction, PaletteSnoop, VgaEnable, IsaEnable, Subtractive, InReset, PowerState, BusRange, Orphan, Unreached, Clash, Split}
-use Rattle.pci_spec.specs.Line.{verdict_line, fault_text, field}
+use Rattle.pci_spec.specs.Fault.{Fault, profile_name, NoVendor, HeaderKind, BarType, BarMask, BarPair, RomMask, WindowMask, CapRange, CapLoop, CapCut, SlotsDiffer, StrayProbe, LoneFunction, OfProfile, BusRange, Orphan, Unreached, Clash, Split}
+use Rattle.pci_spec.specs.Line.{verdict_line, fault_text, field, slot_field}
+use Rattle.pci_spec.proofs.ProfileFaults.{short_name}
 use Rattle.pci_dump.specs.declared.read_fault.ReadFault.{ReadFault}
 use Rattle.pci_dump.specs.declared.read_fault.ReadFault.TheVariants as faults
 use Rattle.pci_dump.specs.ReadFault.{read_fault_text}
@@ -38,12 +39,7 @@ fault_short (CapCut slot place) = short (CapCut slot place) 20 refl (omega arith
 fault_short (SlotsDiffer slot) = short (SlotsDiffer slot) 22 refl (omega arith)
 fault_short (StrayProbe slot offset) = short (StrayProbe slot offset) 24 refl (omega arith)
 fault_short (LoneFunction slot) = short (LoneFunction slot) 23 refl (omega arith)
-fault_short (PaletteSnoop slot) = short (PaletteSnoop slot) 23 refl (omega arith)
-fault_short (VgaEnable slot) = short (VgaEnable slot) 20 refl (omega arith)
-fault_short (IsaEnable slot) = short (IsaEnable slot) 20 refl (omega arith)
-fault_short (Subtractive slot) = short (Subtractive slot) 22 refl (omega arith)
-fault_short (InReset slot) = short (InReset slot) 18 refl (omega arith)
-fault_short (PowerState slot) = short (PowerState slot) 21 refl (omega arith)
+fault_short (OfProfile fault slot) = let name = short_name fault in let both = length-append (profile_name fault) (slot_field slot) in omega (arith, name, both)
 fault_short (BusRange slot) = short (BusRange slot) 19 refl (omega arith)
 fault_short (Orphan slot) = short (Orphan slot) 17 refl (omega arith)
 fault_short (Unreached slot register Io address bridge) = short (Unreached slot register Io address bridge) 50 refl (omega arith)

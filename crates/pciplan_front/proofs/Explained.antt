@@ -1,5 +1,7 @@
 -- The laws of what is explained, case by case.
 use Rattle.std.proofs.Common.{refl}
+use Rattle.pci_spec.specs.Slot.{Slot}
+use Rattle.pci_spec.specs.Line.{fault_text}
 use Rattle.pci_spec.specs.ProbeOf as probes
 use Rattle.pci_spec.specs.Fault as plain
 use Rattle.judge_spec.specs.Fault.{Known, Outside}
@@ -8,7 +10,7 @@ use Rattle.plan_spec.specs.Plan as plans
 use Rattle.pciplan_front.specs.declared.fault.Fault.TheVariants as faults
 use Rattle.pciplan_front.specs.declared.command.Command.TheVariants as commands
 use Rattle.pciplan_front.specs.Explained.{named_fault, names_fault, named_command}
-use Rattle.pciplan_front.specs.Laws.{NumbersName, NamesName, FaultsHaveHeadings, ToldFaultsHaveHeadings, ProbeFaultsHaveHeadings, PlanFaultsHaveHeadings}
+use Rattle.pciplan_front.specs.Laws.{HasHeading, NumbersName, NamesName, FaultsHaveHeadings, ToldFaultsHaveHeadings, ProbeFaultsHaveHeadings, PlanFaultsHaveHeadings}
 
 pub numbers_name : NumbersName
 unfolding named_fault names_fault
@@ -78,6 +80,14 @@ names_name commands.Picture = refl
 names_name commands.Explain = refl
 names_name commands.Version = refl
 
+profile_has_heading : (fault : plain.ProfileFault) (slot : Slot) → HasHeading (fault_text (plain.OfProfile fault slot))
+profile_has_heading plain.PaletteSnoop slot = record { fault = faults.PaletteSnoop; begins = refl }
+profile_has_heading plain.VgaEnable slot = record { fault = faults.VgaEnable; begins = refl }
+profile_has_heading plain.IsaEnable slot = record { fault = faults.IsaEnable; begins = refl }
+profile_has_heading plain.Subtractive slot = record { fault = faults.Subtractive; begins = refl }
+profile_has_heading plain.InReset slot = record { fault = faults.InReset; begins = refl }
+profile_has_heading plain.PowerState slot = record { fault = faults.PowerState; begins = refl }
+
 pub faults_have_headings : FaultsHaveHeadings
 faults_have_headings (Known (plain.NoVendor slot)) = record { fault = faults.NoVendor; begins = refl }
 faults_have_headings (Known (plain.HeaderKind slot)) = record { fault = faults.HeaderKind; begins = refl }
@@ -92,12 +102,7 @@ faults_have_headings (Known (plain.CapCut slot place)) = record { fault = faults
 faults_have_headings (Known (plain.SlotsDiffer slot)) = record { fault = faults.SlotsDiffer; begins = refl }
 faults_have_headings (Known (plain.StrayProbe slot offset)) = record { fault = faults.StrayProbe; begins = refl }
 faults_have_headings (Known (plain.LoneFunction slot)) = record { fault = faults.LoneFunction; begins = refl }
-faults_have_headings (Known (plain.PaletteSnoop slot)) = record { fault = faults.PaletteSnoop; begins = refl }
-faults_have_headings (Known (plain.VgaEnable slot)) = record { fault = faults.VgaEnable; begins = refl }
-faults_have_headings (Known (plain.IsaEnable slot)) = record { fault = faults.IsaEnable; begins = refl }
-faults_have_headings (Known (plain.Subtractive slot)) = record { fault = faults.Subtractive; begins = refl }
-faults_have_headings (Known (plain.InReset slot)) = record { fault = faults.InReset; begins = refl }
-faults_have_headings (Known (plain.PowerState slot)) = record { fault = faults.PowerState; begins = refl }
+faults_have_headings (Known (plain.OfProfile fault slot)) = profile_has_heading fault slot
 faults_have_headings (Known (plain.BusRange slot)) = record { fault = faults.BusRange; begins = refl }
 faults_have_headings (Known (plain.Orphan slot)) = record { fault = faults.Orphan; begins = refl }
 faults_have_headings (Known (plain.Unreached slot register space address bridge)) = record { fault = faults.Unreached; begins = refl }
@@ -119,12 +124,7 @@ told_faults_have_headings (told.Known (Known (plain.CapCut slot place))) = recor
 told_faults_have_headings (told.Known (Known (plain.SlotsDiffer slot))) = record { fault = faults.SlotsDiffer; begins = refl }
 told_faults_have_headings (told.Known (Known (plain.StrayProbe slot offset))) = record { fault = faults.StrayProbe; begins = refl }
 told_faults_have_headings (told.Known (Known (plain.LoneFunction slot))) = record { fault = faults.LoneFunction; begins = refl }
-told_faults_have_headings (told.Known (Known (plain.PaletteSnoop slot))) = record { fault = faults.PaletteSnoop; begins = refl }
-told_faults_have_headings (told.Known (Known (plain.VgaEnable slot))) = record { fault = faults.VgaEnable; begins = refl }
-told_faults_have_headings (told.Known (Known (plain.IsaEnable slot))) = record { fault = faults.IsaEnable; begins = refl }
-told_faults_have_headings (told.Known (Known (plain.Subtractive slot))) = record { fault = faults.Subtractive; begins = refl }
-told_faults_have_headings (told.Known (Known (plain.InReset slot))) = record { fault = faults.InReset; begins = refl }
-told_faults_have_headings (told.Known (Known (plain.PowerState slot))) = record { fault = faults.PowerState; begins = refl }
+told_faults_have_headings (told.Known (Known (plain.OfProfile fault slot))) = profile_has_heading fault slot
 told_faults_have_headings (told.Known (Known (plain.BusRange slot))) = record { fault = faults.BusRange; begins = refl }
 told_faults_have_headings (told.Known (Known (plain.Orphan slot))) = record { fault = faults.Orphan; begins = refl }
 told_faults_have_headings (told.Known (Known (plain.Unreached slot register space address bridge))) = record { fault = faults.Unreached; begins = refl }

@@ -11,7 +11,7 @@ use Rattle.pci_spec.specs.Rom.{breaks_rom_rule, is_rom_size, rom_at}
 use Rattle.pci_spec.specs.Window.{WindowKind, bounds_at, breaks_window_rule, is_optional, is_zero, shows_window}
 use Rattle.pci_spec.specs.Capability.{HasChain, HasCutBody, HasLowPlace, ComesTwiceTo, IsChain, body_length, pointer, pointer_at, power_state}
 use Rattle.pci_spec.specs.Slot.{Slot}
-use Rattle.pci_spec.specs.Fault.{NoVendor, HeaderKind, BarType, BarMask, BarPair, RomMask, WindowMask, CapRange, CapLoop, CapCut, SlotsDiffer, StrayProbe, LoneFunction, PaletteSnoop, VgaEnable, IsaEnable, Subtractive, InReset, PowerState, BusRange, Orphan, Unreached, Clash, Split, HasBarFault, HasRomFault, HasWindowFault, IsNotInD0, SomeAt, controls_bridge, has_no_vendor, has_other_layout, is_in_address_register, is_stray}
+use Rattle.pci_spec.specs.Fault.{NoVendor, HeaderKind, BarType, BarMask, BarPair, RomMask, WindowMask, CapRange, CapLoop, CapCut, SlotsDiffer, StrayProbe, LoneFunction, OfProfile, BusRange, Orphan, Unreached, Clash, Split, HasBarFault, HasRomFault, HasWindowFault, IsNotInD0, SomeAt, controls_bridge, has_no_vendor, has_other_layout, is_in_address_register, is_stray}
 use Rattle.pci_spec.specs.Order.{Profile}
 use Rattle.pci_spec.specs.System.{Function}
 use Rattle.pci_spec.proofs.Chains.{chain_without_faults}
@@ -161,12 +161,7 @@ module _ (x y : Function) (but : IsButInterface x y) where
     own_but (SlotsDiffer slot) early there = there
     own_but (StrayProbe slot offset) early there = none (StrayProbe slot offset) early (some_but slot (λ f. IsTrue (is_stray f.image f.probe offset)) (λ f. IsTrue (is_stray f.image f.probe offset)) (λ h. sym (stray_but offset) ∙ h) there)
     own_but (LoneFunction slot) early there = omega (arith, early)
-    own_but (PaletteSnoop slot) early there = omega (arith, early)
-    own_but (VgaEnable slot) early there = omega (arith, early)
-    own_but (IsaEnable slot) early there = omega (arith, early)
-    own_but (Subtractive slot) early there = omega (arith, early)
-    own_but (InReset slot) early there = omega (arith, early)
-    own_but (PowerState slot) early there = omega (arith, early)
+    own_but (OfProfile fault slot) early there = omega (arith, early)
     own_but (BusRange slot) early there = omega (arith, early)
     own_but (Orphan slot) early there = omega (arith, early)
     own_but (Unreached slot register space address bridge) early there = omega (arith, early)

@@ -14,8 +14,9 @@ use Rattle.pci_spec.specs.System as system
 use Rattle.pci_spec.specs.Bus.{IsNested, LeadsTo, is_led_to, is_root, secondary}
 use Rattle.pci_spec.specs.Sound.{HasChains, IsInProfile}
 use Rattle.pci_spec.specs.Capability.{HasChain}
-use Rattle.pci_spec.specs.Fault.{Address, RegionName, address_in, NoVendor, HeaderKind, BarType, BarMask, BarPair, RomMask, WindowMask, CapRange, CapLoop, CapCut, SlotsDiffer, StrayProbe, LoneFunction, PaletteSnoop, VgaEnable, IsaEnable, Subtractive, InReset, PowerState, BusRange, Orphan, Unreached, Clash, Split, SomeAt, HasBarFault, HasRomFault, HasWindowFault, IsNotInD0, controls_bridge, has_function_zero, has_no_vendor, has_other_layout, is_in_address_register, is_stray, is_subtractive_bridge}
+use Rattle.pci_spec.specs.Fault.{Address, RegionName, address_in, NoVendor, HeaderKind, BarType, BarMask, BarPair, RomMask, WindowMask, CapRange, CapLoop, CapCut, SlotsDiffer, StrayProbe, LoneFunction, OfProfile, BusRange, Orphan, Unreached, Clash, Split, SomeAt, HasBarFault, HasRomFault, HasWindowFault, HasProfileFault, has_function_zero, has_no_vendor, has_other_layout, is_in_address_register, is_stray}
 use Rattle.pci_spec.proofs.Pairs.{member_back, member_forth}
+use Rattle.pci_spec.proofs.ProfileFaults.{profile_kept}
 use Rattle.judge_spec.specs.Given.{Given, is_legacy_at, is_palette_at}
 use Rattle.judge_spec.specs.Claims.{Part, Own, Legacy, Palette, Claims, Gets, IsPassedTo}
 use Rattle.judge_spec.specs.Told.{ToldRange}
@@ -23,7 +24,7 @@ use Rattle.judge_spec.specs.ToldClaims.{Told, ClaimsOnBus, RangeClaims, is_aslee
 use Rattle.judge_spec.specs.ToldSound.{IsSound}
 use Rattle.pci_model_settle.specs.OffDevices.{is_off_device}
 use Rattle.settle_answer_laws.specs.LeftOutLaws.{HasLawfulRegisters}
-use Rattle.settle_answer_laws.proofs.WithoutRegisters.{AgreeBeside, asleep_beside, beside_or_in, chain_beside}
+use Rattle.settle_answer_laws.proofs.WithoutRegisters.{AgreeBeside, beside_or_in, chain_beside, shows_beside}
 
 -- ---- a device that decodes nothing
 
@@ -64,9 +65,6 @@ module _ (g : Function) (off : IsOff g.image) where
   no_part_claims given (Own part) space a claims = no_claim part space a claims.claims
   no_part_claims given Legacy space a claims = both_ways _ (and_left (is_bridge g && is_space_on g space) (list_any (is_legacy_at g space a) given.legacy) (and_left _ _ no_bridge)) claims.claims
   no_part_claims given Palette space a claims = both_ways _ (and_left (is_bridge g && is_space_on g space) (list_any (is_palette_at g space a) given.palette) (and_left _ _ no_bridge)) claims.claims
-
-  controls_nothing : (bit : ℕ) → controls_bridge g.image bit ≡ false
-  controls_nothing bit = and_left _ _ no_bridge
 
 -- two of them that differ in their address registers alone, and those of the second are lawful
 pub record IsBare (f g : Function) : Type 0 where
@@ -236,10 +234,6 @@ module _ (s t : System) (pairs : AllZip IsSameOrBare s t) where
     bar_was slot register fault there = some_was slot (λ f. HasBarFault f.image f.probe register fault) (λ f. HasBarFault f.image f.probe register fault) (λ g h. h)
         (λ f g has bare h. absurd (both (bar_fault g.image g.probe h.0) fault (bare.lawful.bars h.0 h.1) h.3)) there
 
-    control_was : (bit : ℕ) (slot : Slot) → SomeAt t slot (λ f. IsTrue (controls_bridge f.image bit)) → SomeAt s slot (λ f. IsTrue (controls_bridge f.image bit))
-    control_was bit slot there = some_was slot (λ f. IsTrue (controls_bridge f.image bit)) (λ f. IsTrue (controls_bridge f.image bit)) (λ g h. h)
-        (λ f g has bare h. absurd (both_ways _ (controls_nothing g bare.after bit) h)) there
-
     module _ (chains : HasChains s) (profile : IsInProfile roots s) where
       profile_is : IsInProfile roots t
       profile_is (NoVendor slot) k there = profile (NoVendor slot) refl (some_was slot (λ f. IsTrue (has_no_vendor f.image)) (λ f. IsTrue (has_no_vendor f.image)) (λ g h. h)
@@ -261,15 +255,8 @@ module _ (s t : System) (pairs : AllZip IsSameOrBare s t) where
           (λ f g has bare h. stray_was f g bare offset h) there)
       profile_is (LoneFunction slot) k there = profile (LoneFunction slot) refl (some_was slot (λ f. (0 < slot.function) × IsTrue (not (has_function_zero s slot))) (λ f. (0 < slot.function) × IsTrue (not (has_function_zero t slot)))
           (λ g h. (h.0, ap not (sym (zero_same slot)) ∙ h.1)) (λ f g has bare h. (h.0, ap not (sym (zero_same slot)) ∙ h.1)) there)
-      profile_is (PaletteSnoop slot) k there = profile (PaletteSnoop slot) refl (some_was slot (λ f. IsTrue (has_bit (command f.image) 5)) (λ f. IsTrue (has_bit (command f.image) 5)) (λ g h. h)
-          (λ f g has bare h. ap (λ c. has_bit c 5) (sym (command_same f g bare)) ∙ h) there)
-      profile_is (VgaEnable slot) k there = profile (VgaEnable slot) refl (control_was 3 slot there)
-      profile_is (IsaEnable slot) k there = profile (IsaEnable slot) refl (control_was 2 slot there)
-      profile_is (Subtractive slot) k there = profile (Subtractive slot) refl (some_was slot (λ f. IsTrue (is_subtractive_bridge f.image)) (λ f. IsTrue (is_subtractive_bridge f.image)) (λ g h. h)
-          (λ f g has bare h. absurd (both_ways _ (and_left _ _ (no_bridge g bare.after)) h)) there)
-      profile_is (InReset slot) k there = profile (InReset slot) refl (control_was 6 slot there)
-      profile_is (PowerState slot) k there = profile (PowerState slot) refl (some_was slot (λ f. IsNotInD0 f.image) (λ f. IsNotInD0 f.image) (λ g h. h)
-          (λ f g has bare h. asleep_beside f.image g.image bare.image (chains f has) h) there)
+      profile_is (OfProfile fault slot) k there = profile (OfProfile fault slot) refl (some_was slot (λ f. HasProfileFault f.image fault) (λ f. HasProfileFault f.image fault) (λ g h. h)
+          (λ f g has bare h. profile_kept f.image g.image (shows_beside f.image g.image bare.image (λ bridge. both_ways _ (no_bridge g bare.after) (ap (λ n. n == 1) bridge)) (chains f has)) fault h) there)
       profile_is (BusRange slot) k there = both_ways false refl k
       profile_is (Orphan slot) k there = both_ways false refl k
       profile_is (Unreached slot register space address bridge) k there = both_ways false refl k

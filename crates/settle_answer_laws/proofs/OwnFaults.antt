@@ -4,18 +4,19 @@ use Rattle.std.specs.List.{Contains}
 use Rattle.std.proofs.lemmas.Bool.{both_ways, cases_Bool}
 use Rattle.pci_spec.specs.Number.{IsImage}
 use Rattle.pci_spec.specs.Capability.{ComesTwiceTo, HasChain, HasCutBody, HasLowPlace}
-use Rattle.pci_spec.specs.Fault.{Fault, NoVendor, HeaderKind, BarType, BarMask, BarPair, RomMask, WindowMask, CapRange, CapLoop, CapCut, SlotsDiffer, StrayProbe, LoneFunction, PaletteSnoop, VgaEnable, IsaEnable, Subtractive, InReset, PowerState, BusRange, Orphan, Unreached, Clash, Split, IsIn}
+use Rattle.pci_spec.specs.Fault.{Fault, NoVendor, HeaderKind, BarType, BarMask, BarPair, RomMask, WindowMask, CapRange, CapLoop, CapCut, SlotsDiffer, StrayProbe, LoneFunction, OfProfile, PowerState, BusRange, Orphan, Unreached, Clash, Split, IsIn}
 use Rattle.pci_spec.specs.Order.{Phase, Profile, phase_key, phase_of}
 use Rattle.pci_spec.specs.Sound.{is_of_profile, HasChains}
 use Rattle.pci_spec.specs.Machine.{in_fields}
 use Rattle.pci_spec.specs.System.{Function, IsFunction, IsSystem}
 use Rattle.pci_spec.proofs.Chains.{chain_without_faults}
 use Rattle.pci_spec.proofs.Members.{in_cons_cases, in_head, in_nil}
+use Rattle.pci_spec.proofs.ProfileFaults.{profile_kept}
 use Rattle.pci_spec.proofs.Walks.{chain-no_cut_body, chain-no_loop, chain-no_low_place}
 use Rattle.plan_spec.specs.Plan.{IsMoved}
-use Rattle.plan_spec.proofs.Planning.Asleep.{asleep_before}
 use Rattle.plan_spec.proofs.Planning.Faults.{fault_before}
 use Rattle.plan_spec.proofs.Planning.Moved.{chain_same, layout_same}
+use Rattle.plan_spec.proofs.Planning.ShownSame.{shows_same}
 use Rattle.judge_spec.specs.Taken.{HasNoOwnFaultBefore, IsAsleep}
 use Rattle.settle_answer_laws.proofs.Along.{fields_same}
 
@@ -70,12 +71,7 @@ module _ (p : Phase) (from : 3 ≤ phase_key p) (to : phase_key p ≤ 4) (x y : 
   other (SlotsDiffer slot) of early there = there
   other (StrayProbe slot offset) of early there = both_ways true of refl
   other (LoneFunction slot) of early there = both_ways true of refl
-  other (PaletteSnoop slot) of early there = both_ways true of refl
-  other (VgaEnable slot) of early there = both_ways true of refl
-  other (IsaEnable slot) of early there = both_ways true of refl
-  other (Subtractive slot) of early there = both_ways true of refl
-  other (InReset slot) of early there = both_ways true of refl
-  other (PowerState slot) of early there = both_ways true of refl
+  other (OfProfile fault slot) of early there = both_ways true of refl
   other (BusRange slot) of early there = omega (arith, early, to)
   other (Orphan slot) of early there = omega (arith, early, to)
   other (Unreached slot register space address bridge) of early there = omega (arith, early, to)
@@ -93,4 +89,4 @@ pub asleep_later : (x y : Function) → IsFunction x → IsFunction y → IsMove
 asleep_later x y is_x is_y m (none, state) =
     let back = moves_back x y is_x.image m in
     let sleeps = own_later Profile (omega arith) (omega arith) y x is_y back none in
-    (sleeps, asleep_before x y m is_x.image (chain Profile (omega arith) (omega arith) x y is_x m sleeps) state)
+    (sleeps, profile_kept x.image y.image (shows_same x y m is_x.image (chain Profile (omega arith) (omega arith) x y is_x m sleeps)) PowerState state)

@@ -1,19 +1,19 @@
 -- What a header keeps without its address registers.
-use Rattle.std.proofs.Common.{◌≡◌, ℕ, zero, suc, ◌+◌, ◌*◌, ◌/◌, ◌^◌, ◌%◌, ◌<◌, ◌≤◌, List, length, set, true, false, ◌&&◌, not, None, inl, inr, refl, sym, ◌∙◌, ap, arith, lit<, lit≤}
+use Rattle.std.proofs.Common.{◌≡◌, ℕ, zero, suc, ◌+◌, ◌*◌, ◌/◌, ◌<◌, ◌≤◌, List, length, set, true, false, ◌&&◌, not, None, inl, inr, refl, sym, ◌∙◌, ap, arith, lit<, lit≤}
 use Rattle.std.specs.Prelude.{◌⊎◌}
 use Rattle.std.specs.Bool.{◌==◌, if◌then◌else◌}
 use Rattle.std.proofs.lemmas.Bool.{and_left, and_from, cases_lt, cond_both, le-leb, lt-ltb}
 use Rattle.std.proofs.lemmas.List.{get_or-set_other, get_or-set_same, get_or_past, length-set}
 use Rattle.pci_spec.specs.Number.{byte_at, number_at, has_bit}
 use Rattle.pci_spec.specs.Registers.{BASE_ADDRESS, EXPANSION_ROM}
-use Rattle.pci_spec.specs.Header.{address_registers, bar_count, bar_register, is_in_register, layout, rom_register, status}
+use Rattle.pci_spec.specs.Header.{address_registers, bar_count, bar_register, is_in_register, layout, command, rom_register, status}
 use Rattle.pci_spec.specs.Bar.{BarReading, bar_at, bar_reading, first_broken, starts_bar}
 use Rattle.pci_spec.specs.Rom.{has_rom, rom_at}
-use Rattle.pci_spec.specs.Capability.{HasChain, IsChain, body_length, pointer, pointer_at, power_state}
-use Rattle.pci_spec.specs.Fault.{IsNotInD0, is_in_address_register}
+use Rattle.pci_spec.specs.Capability.{HasChain, IsChain, body_length, pointer, pointer_at}
+use Rattle.pci_spec.specs.Fault.{is_in_address_register}
 use Rattle.pci_spec.specs.System.{Function}
 use Rattle.pci_spec.proofs.BusRanges.{any_from}
-use Rattle.pci_spec.proofs.Walks.{pointer-ended}
+use Rattle.pci_spec.proofs.ProfileFaults.{ShowsSame}
 use Rattle.judge_spec.specs.Bytes.{cleared, without_registers}
 use Rattle.settle_answer_laws.specs.LeftOutLaws.{HasLawfulRegisters}
 
@@ -178,20 +178,15 @@ module _ (image other : List ℕ) (agree : AgreeBeside image other) where
   pub chain_beside : HasChain image → HasChain other
   chain_beside (places, chain) = (places, chain_same places chain)
 
-  pub asleep_beside : HasChain image → IsNotInD0 other → IsNotInD0 image
-  asleep_beside (places, chain) (place, (n, at, some), (id, state)) =
-      let count = length places in
-      let ended : pointer other count ≡ 0 = pointer_same places chain count (omega arith) ∙ chain.end in
-      elim (cases_lt n count) [
-        | inr past ↦ absurd (some (sym at ∙ pointer-ended other count n past ended))
-        | inl before ↦
-            let was : pointer image n ≡ place = sym (pointer_same places chain n (omega (arith, before))) ∙ at in
-            let range = chain.in_range n before in
-            let low = range.0 in
-            let id_was : byte_at image place ≡ 1 = sym (behind_same place (omega (arith, low, was))) ∙ id in
-            let four = behind_same (place + 4 + 0) (omega (arith, low, was)) in
-            let five = behind_same (place + 4 + 1) (omega (arith, low, was)) in
-            let states : power_state other place ≡ power_state image place =
-            ap (λ a. (0 + a * 256 ^ 0 + byte_at other (place + 4 + 1) * 256 ^ 1) % 4) four ∙ ap (λ b. (0 + byte_at image (place + 4 + 0) * 256 ^ 0 + b * 256 ^ 1) % 4) five in
-            (place, (n, was, some), (id_was, λ e. state (states ∙ e)))
-      ]
+  command_same : command other ≡ command image
+  command_same = let low = agree 4 (inl (lit< tt)) in let high = agree 5 (inl (lit< tt)) in omega (arith, low, high)
+
+  -- a device shows what a fault of the profile looks at as it did
+  pub shows_beside : (layout other ≡ 1 → ⊥) → HasChain image → ShowsSame image other
+  shows_beside device (places, chain) = record {
+    command_bits = λ bit low high. ap (λ c. has_bit c bit) command_same;
+    bridge = λ bridge. absurd (device bridge);
+    chain = (places, chain);
+    walk = λ n within. pointer_same places chain n within;
+    behind = λ place low inside. behind_same place low;
+  }

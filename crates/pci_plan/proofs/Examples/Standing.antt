@@ -4,7 +4,7 @@ use Rattle.std.proofs.lemmas.Bool.{both_ways}
 use Rattle.pci_spec.specs.Number.{byte_at, number_at, has_bit}
 use Rattle.pci_spec.specs.Header.{command}
 use Rattle.pci_spec.specs.System.{System, Function}
-use Rattle.pci_spec.specs.Fault.{PaletteSnoop}
+use Rattle.pci_spec.specs.Fault.{OfProfile, PaletteSnoop}
 use Rattle.pci_spec.specs.Sound.{IsSound}
 use Rattle.pci_spec.specs.Machine.{Target, Write, number_of_bits, written, writable_bits, clearing_bits, target_of}
 use Rattle.pci_spec.proofs.Members.{in_head}
@@ -40,7 +40,7 @@ first_snoops (t ∷ targets) = snoops t
 
 it_is_not_sound : (s : System) → first_snoops (map target_of s) ≡ true → IsSound host s → ⊥
 it_is_not_sound [] e sound = both_ways true (sym e) refl
-it_is_not_sound (f ∷ s) e sound = sound.profile (PaletteSnoop f.slot) refl (f, in_head f s, refl, e)
+it_is_not_sound (f ∷ s) e sound = sound.profile (OfProfile PaletteSnoop f.slot) refl (f, in_head f s, refl, e)
 
 so_its_target_is_not : AreSoundTargets host (target_of snooping ∷ []) → ⊥
 so_its_target_is_not (now, sound, e) = it_is_not_sound now (ap first_snoops (sym e)) sound
