@@ -6,13 +6,12 @@ use Rattle.std.proofs.lemmas.Bool.{both_ways, cases_lt, and_from, not-true, eqb-
 use Rattle.std.proofs.lemmas.List.Elements.{All-contains, Contains-get_or}
 use Rattle.pci_spec.specs.Slot.{Slot}
 use Rattle.pci_spec.specs.System.{System, Function}
-use Rattle.pci_spec.specs.Fault.{Fault, NoVendor, HeaderKind, BarType, BarMask, BarPair, RomMask, WindowMask, CapRange, CapLoop, CapCut, SlotsDiffer, StrayProbe, LoneFunction, PaletteSnoop, VgaEnable, IsaEnable, Subtractive, InReset, PowerState, BusRange, Orphan, Unreached, Clash, Split, IsIn, has_no_vendor, has_other_layout, is_stray, has_function_zero, controls_bridge, is_subtractive_bridge}
+use Rattle.pci_spec.specs.Fault.{Fault, NoVendor, HeaderKind, BarType, BarMask, BarPair, RomMask, WindowMask, CapRange, CapLoop, CapCut, SlotsDiffer, StrayProbe, LoneFunction, OfProfile, BusRange, Orphan, Unreached, Clash, Split, IsIn, has_no_vendor, has_other_layout, is_stray, has_function_zero, IsPlainImage}
 use Rattle.pci_spec.specs.Bar as bars
 use Rattle.pci_spec.specs.Bar.{BarFault}
 use Rattle.pci_spec.specs.Window.{breaks_window_rule}
 use Rattle.pci_spec.specs.Rom.{breaks_rom_rule}
-use Rattle.pci_spec.specs.Header.{layout, command}
-use Rattle.pci_spec.specs.Number.{has_bit}
+use Rattle.pci_spec.specs.Header.{layout}
 use Rattle.pci_spec.specs.Sound.{IsInProfile}
 use Rattle.pci_spec.specs.Decoded.{IsDecodable, HasRecords}
 use Rattle.pci_spec.proofs.BusRanges.{any_from}
@@ -28,7 +27,8 @@ use Rattle.pci_function.specs.Values.{record_value}
 use Rattle.pci_tree.specs.Ways.{slots_of}
 use Rattle.pci_tree.specs.Outline.{RiseBySlot, Tree}
 use Rattle.pci_tree.specs.BusNumbers.{IsInPlace, first_function}
-use Rattle.pci_function.specs.Profile.{IsAnswering, IsPlain, IsClearBefore}
+use Rattle.pci_spec.proofs.ProfileFaults.{none_of_plain}
+use Rattle.pci_function.specs.Profile.{IsAnswering, IsClearBefore}
 use Rattle.pci_tree.specs.Survey.{Surveyed, phase_noted, IsSurveyOf, IsOutlineOf, IsRefusedBy}
 use Rattle.pci_tree.proofs.Lifting.{Has}
 use Rattle.pci_tree.proofs.Faces.{SameFace, HaveFaces, faces_of}
@@ -68,7 +68,7 @@ module _ (roots : List ℕ) (s : System) (clear : (f : Function) → Contains s 
   decodes : (f : Function) → Contains s f → IsDecodable f
   decodes f has = ((clear f has).registers (omega arith)).0
 
-  plain : (f : Function) → Contains s f → IsPlain f.image
+  plain : (f : Function) → Contains s f → IsPlainImage f.image
   plain f has = (clear f has).profile (omega arith)
 
   -- no fault of the profile is there, where no function is lone
@@ -86,12 +86,7 @@ module _ (roots : List ℕ) (s : System) (clear : (f : Function) → Contains s 
   profile_holds lone (SlotsDiffer slot) n is = absurd is
   profile_holds lone (StrayProbe slot offset) n (f, has, e, is) = both_ways (is_stray f.image f.probe offset) ((answering f has).probe offset) is
   profile_holds lone (LoneFunction slot) n is = lone slot is
-  profile_holds lone (PaletteSnoop slot) n (f, has, e, is) = both_ways (has_bit (command f.image) 5) (plain f has).palette is
-  profile_holds lone (VgaEnable slot) n (f, has, e, is) = both_ways (controls_bridge f.image 3) (plain f has).bridge.vga is
-  profile_holds lone (IsaEnable slot) n (f, has, e, is) = both_ways (controls_bridge f.image 2) (plain f has).bridge.isa is
-  profile_holds lone (Subtractive slot) n (f, has, e, is) = both_ways (is_subtractive_bridge f.image) (plain f has).bridge.subtractive is
-  profile_holds lone (InReset slot) n (f, has, e, is) = both_ways (controls_bridge f.image 6) (plain f has).bridge.reset is
-  profile_holds lone (PowerState slot) n (f, has, e, is) = (plain f has).awake is
+  profile_holds lone (OfProfile fault slot) n (f, has, e, is) = none_of_plain f.image (plain f has) fault is
   profile_holds lone (BusRange slot) n is = both_ways false refl n
   profile_holds lone (Orphan slot) n is = both_ways false refl n
   profile_holds lone (Unreached slot register space address bridge) n is = both_ways false refl n

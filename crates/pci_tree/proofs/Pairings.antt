@@ -9,7 +9,7 @@ use Rattle.pci_spec.specs.Slot.{Slot, IsRising, slot_number}
 use Rattle.pci_spec.specs.Stops.{IsAboveLast}
 use Rattle.pci_spec.specs.Text.{Block, IsDump, slots_of}
 use Rattle.pci_spec.specs.System.{System, Function, function_of, system_of}
-use Rattle.pci_spec.specs.Fault.{Fault, NoVendor, HeaderKind, BarType, BarMask, BarPair, RomMask, WindowMask, CapRange, CapLoop, CapCut, SlotsDiffer, StrayProbe, LoneFunction, PaletteSnoop, VgaEnable, IsaEnable, Subtractive, InReset, PowerState, BusRange, Orphan, Unreached, Clash, Split, IsIn, IsThere}
+use Rattle.pci_spec.specs.Fault.{Fault, NoVendor, HeaderKind, BarType, BarMask, BarPair, RomMask, WindowMask, CapRange, CapLoop, CapCut, SlotsDiffer, StrayProbe, LoneFunction, OfProfile, BusRange, Orphan, Unreached, Clash, Split, IsIn, IsThere}
 use Rattle.pci_spec.proofs.Pairing.{same_length, slots-system_of, IsSystem-of_dumps, there-of_in, in-of_there}
 use Rattle.pci_spec.specs.Order.{phase_of, IsFirstThere}
 use Rattle.pci_function.specs.Profile.{IsHere}
@@ -61,12 +61,7 @@ here_is_of_a_function f (CapCut slot place) is z = omega (arith, z)
 here_is_of_a_function f (SlotsDiffer slot) is z = absurd is
 here_is_of_a_function f (StrayProbe slot offset) is z = omega (arith, z)
 here_is_of_a_function f (LoneFunction slot) is z = absurd is
-here_is_of_a_function f (PaletteSnoop slot) is z = omega (arith, z)
-here_is_of_a_function f (VgaEnable slot) is z = omega (arith, z)
-here_is_of_a_function f (IsaEnable slot) is z = omega (arith, z)
-here_is_of_a_function f (Subtractive slot) is z = omega (arith, z)
-here_is_of_a_function f (InReset slot) is z = omega (arith, z)
-here_is_of_a_function f (PowerState slot) is z = omega (arith, z)
+here_is_of_a_function f (OfProfile fault slot) is z = omega (arith, z)
 here_is_of_a_function f (BusRange slot) is z = absurd is
 here_is_of_a_function f (Orphan slot) is z = absurd is
 here_is_of_a_function f (Unreached slot register space address bridge) is z = absurd is

@@ -15,7 +15,7 @@ use Rattle.pci_spec.proofs.BusRanges.{any_gives}
 use Rattle.pci_spec.proofs.Members.{in_map_from}
 use Rattle.pci_spec.proofs.Nesting.{nested}
 use Rattle.pci_function.specs.declared.fault.Fault.{Fault}
-use Rattle.pci_function.specs.declared.fault.Fault.TheVariants.{NoVendor, HeaderKind, BarType, BarMask, BarPair, RomMask, WindowMask, CapRange, CapLoop, CapCut, SlotsDiffer, StrayProbe, LoneFunction, PaletteSnoop, VgaEnable, IsaEnable, Subtractive, InReset, PowerState, BusRange, Orphan, Unreached, Clash, Split}
+use Rattle.pci_function.specs.declared.fault.Fault.TheVariants.{LoneFunction, BusRange, Orphan}
 use Rattle.pci_function.specs.declared.record.Bridge.{Bridge}
 use Rattle.pci_function.specs.declared.record.Record.{Record}
 use Rattle.pci_function.specs.Values.{record_value}
@@ -94,27 +94,7 @@ fault_in roots s rs r f (Orphan slot) faces listed has face is =
     subst (λ x. IsIn roots s (faults.Orphan x)) (sym is.0) (f, listed, sym face.slot, orphan_in roots s rs r.slot.bus faces is.1)
 fault_in roots s rs r f (BusRange slot) faces listed has face is =
     subst (λ x. IsIn roots s (faults.BusRange x)) (sym is.0) (f, listed, sym face.slot, buses_in roots s rs f r is.1.0 faces face has is.1.1 is.1.2)
-fault_in roots s rs r f (NoVendor slot) faces listed has face is = absurd is
-fault_in roots s rs r f (HeaderKind slot) faces listed has face is = absurd is
-fault_in roots s rs r f (BarType slot reg) faces listed has face is = absurd is
-fault_in roots s rs r f (BarMask slot reg) faces listed has face is = absurd is
-fault_in roots s rs r f (BarPair slot reg) faces listed has face is = absurd is
-fault_in roots s rs r f (RomMask slot reg) faces listed has face is = absurd is
-fault_in roots s rs r f (WindowMask slot reg) faces listed has face is = absurd is
-fault_in roots s rs r f (CapRange slot place) faces listed has face is = absurd is
-fault_in roots s rs r f (CapLoop slot place) faces listed has face is = absurd is
-fault_in roots s rs r f (CapCut slot place) faces listed has face is = absurd is
-fault_in roots s rs r f (SlotsDiffer slot) faces listed has face is = absurd is
-fault_in roots s rs r f (StrayProbe slot offset) faces listed has face is = absurd is
-fault_in roots s rs r f (PaletteSnoop slot) faces listed has face is = absurd is
-fault_in roots s rs r f (VgaEnable slot) faces listed has face is = absurd is
-fault_in roots s rs r f (IsaEnable slot) faces listed has face is = absurd is
-fault_in roots s rs r f (Subtractive slot) faces listed has face is = absurd is
-fault_in roots s rs r f (InReset slot) faces listed has face is = absurd is
-fault_in roots s rs r f (PowerState slot) faces listed has face is = absurd is
-fault_in roots s rs r f (Unreached slot reg space address bridge) faces listed has face is = absurd is
-fault_in roots s rs r f (Clash bus space address first first_reg second second_reg) faces listed has face is = absurd is
-fault_in roots s rs r f (Split space address first first_reg second second_reg) faces listed has face is = absurd is
+fault_in roots s rs r f _ faces listed has face is = absurd is
 
 -- the fault of some record's place is one of each system with the records
 pub place_fault_in : (roots : List ℕ) (s : System) (rs : List Record) (fault : Fault) → Has s rs → IsSomePlaceFault roots rs fault → IsIn roots s (fault_of fault)
