@@ -1,12 +1,12 @@
 -- The faults of the profile: their numbers and names, and where none of them is there. What goes through all faults has
 -- one row for them, by these lemmas.
 use Rattle.std.proofs.Common.{◌≡◌, ℕ, zero, suc, ◌+◌, ◌*◌, ◌%◌, ◌^◌, ◌<◌, ◌≤◌, inl, inr, List, refl, false, ◌&&◌, arith, sym, ◌∙◌, ap, length, [], ◌∷◌, get_or}
-use Rattle.std.specs.Bool.{IsTrue, nat_eq, ◌==◌, if◌then◌else◌}
+use Rattle.std.specs.Bool.{IsTrue, nat_eq, ◌==◌}
 use Rattle.std.proofs.lemmas.Bool.{and_parts, and_right, both_ways, cases_lt, cond-true, eq-eqb, eqb-true}
 use Rattle.pci_spec.specs.Number.{byte_at, has_bit}
 use Rattle.pci_spec.specs.Registers.{PALETTE_SNOOP, ISA_ENABLE, VGA_ENABLE, SECONDARY_BUS_RESET}
 use Rattle.pci_spec.specs.Header.{command, class_code, layout, bridge_control}
-use Rattle.pci_spec.specs.Capability.{pointer, ComesTo, HasChain, IsChain, body_length, msi_length, message_control, power_state}
+use Rattle.pci_spec.specs.Capability.{pointer, ComesTo, HasChain, IsChain, body_length, power_state}
 use Rattle.pci_spec.specs.Fault.{ProfileFault, PaletteSnoop, VgaEnable, IsaEnable, Subtractive, InReset, PowerState, profile_number, profile_name, profile_key, HasProfileFault, IsPlainImage, controls_bridge, is_subtractive_bridge, IsNotInD0}
 use Rattle.pci_spec.specs.ProbeLaws.{is_reading_number}
 use Rattle.pci_spec.proofs.Walks.{pointer-ended}
@@ -157,7 +157,7 @@ module _ (image other : List ℕ) (same : ShowsSame image other) where
             let id_was : byte_at image place ≡ 1 = sym (same.behind place (omega (arith, low, was)) (omega (arith, high, was))) ∙ id in
             let body = chain.bodies n before in
             let eight : body_length image (pointer image n) ≡ 8 =
-            ap (body_length image) was ∙ ap (λ b. if b == 1 then 8 else if b == 5 then msi_length (message_control image place) else 4) id_was in
+            ap (body_length image) was ∙ cond-true (nat_eq (byte_at image place) 1) _ _ (eq-eqb (byte_at image place) 1 id_was) in
             let four = same.behind (place + 4 + 0) (omega (arith, low, was)) (omega (arith, body, eight, was)) in
             let five = same.behind (place + 4 + 1) (omega (arith, low, was)) (omega (arith, body, eight, was)) in
             let states : power_state other place ≡ power_state image place =

@@ -38,7 +38,7 @@ pointer_below_4_ends_the_list = refl
 power_management_has_8_bytes : body_length (with_list ((0x40, 1) ∷ [])) 0x40 ≡ 8
 power_management_has_8_bytes = refl
 
-others_are_read_for_4_bytes : body_length (with_list ((0x40, 0x11) ∷ (0x42, 0x80) ∷ [])) 0x40 ≡ 4
+others_are_read_for_4_bytes : body_length (with_list ((0x40, 0xff) ∷ (0x42, 0x80) ∷ [])) 0x40 ≡ 4
 others_are_read_for_4_bytes = refl
 
 msi_of_32_bits : body_length (with_list ((0x40, 5) ∷ (0x42, 0x0c) ∷ [])) 0x40 ≡ 10
