@@ -20,7 +20,7 @@ use Rattle.pci_tree.proofs.Surveys.{survey_more}
 use Rattle.pci_spec.proofs.Pairing.{same_length, system_last}
 use Rattle.pci_tree.proofs.Pairings.{open_more}
 use Rattle.pci_check.specs.Audits.{IsDumpOf, IsReadFaultOf}
-use Rattle.pci_check.specs.SideBySide.{Texts, IsTaken, IsRest, IsOpen, IsSurveyOfBoth, IsSurveyOfTexts, IsBeside, IsDecided, IsBesideOrDecided, IsTakenBySurvey}
+use Rattle.pci_check.specs.SideBySide.{Texts, IsReadSoFar, IsRest, IsOpen, IsSurveyOfBoth, IsSurveyOfTexts, IsSideBySide, IsDecided, IsBesideOrDecided, IsTakenBySurvey}
 
 -- ---- one text
 
@@ -30,7 +30,7 @@ stages_are stages.Done = inr (inl refl)
 stages_are (stages.Failed fault) = inr (inr (fault, refl))
 
 -- up to a block's end
-pub taken_open : (left : Option (List ℕ)) (failures : ℕ) (state : State) (blocks : List Block) → IsRead left failures state blocks → IsTaken left failures state blocks
+pub taken_open : (left : Option (List ℕ)) (failures : ℕ) (state : State) (blocks : List Block) → IsRead left failures state blocks → IsReadSoFar left failures state blocks
 taken_open left failures state blocks r = record {
   dump = r.dump;
   going = λ e. r;
@@ -45,7 +45,7 @@ dump_at_end left failures old new blocks r t = record {
 }
 
 -- up to its end
-pub taken_end : (left : Option (List ℕ)) (failures : ℕ) (old new : State) (blocks : List Block) → IsRead left failures old blocks → TakesNone old new → IsTaken left failures new blocks
+pub taken_end : (left : Option (List ℕ)) (failures : ℕ) (old new : State) (blocks : List Block) → IsRead left failures old blocks → TakesNone old new → IsReadSoFar left failures new blocks
 taken_end left failures old new blocks r t = record {
   dump = r.dump;
   going = λ e. absurd (let done_now = t.progress in cc);
@@ -62,7 +62,7 @@ fault_of_text left failures old new blocks fault r t = record {
 }
 
 -- up to a fault
-pub taken_fault : (left : Option (List ℕ)) (failures : ℕ) (old new : State) (blocks : List Block) (fault : ReadFault) → IsRead left failures old blocks → TakesFault old new fault → IsTaken left failures new blocks
+pub taken_fault : (left : Option (List ℕ)) (failures : ℕ) (old new : State) (blocks : List Block) (fault : ReadFault) → IsRead left failures old blocks → TakesFault old new fault → IsReadSoFar left failures new blocks
 taken_fault left failures old new blocks fault r t = record {
   dump = r.dump;
   going = λ e. absurd (let failed_now = t.progress in cc);
@@ -75,13 +75,13 @@ taken_fault left failures old new blocks fault r t = record {
 -- of a text just blocks were taken since, and none where it was at its end or at a fault
 pub record IsReadOn (old new : State) : Type 0 where
   pub same_stage : new.progress ≡ old.progress
-  pub each : (left : Option (List ℕ)) (failures : ℕ) (blocks : List Block) → IsTaken left failures old blocks
-      → (more : List Block) × IsTaken left failures new (blocks ++ more) × (old.progress ≢ stages.Open → more ≡ [])
+  pub each : (left : Option (List ℕ)) (failures : ℕ) (blocks : List Block) → IsReadSoFar left failures old blocks
+      → (more : List Block) × IsReadSoFar left failures new (blocks ++ more) × (old.progress ≢ stages.Open → more ≡ [])
 
 pub read_on_none : (s : State) → IsReadOn s s
 read_on_none s = record {
   same_stage = refl;
-  each = λ left failures blocks is. ([], subst (IsTaken left failures s) (sym (append-nil blocks)) is, λ closed. refl);
+  each = λ left failures blocks is. ([], subst (IsReadSoFar left failures s) (sym (append-nil blocks)) is, λ closed. refl);
 }
 
 pub read_on_block : (old now new : State) (b : Block) → IsReadOn old now → TakesBlock now new b → IsReadOn old new
@@ -101,7 +101,7 @@ read_on_block old now new b on t = record {
 
 -- to its end
 pub read_out_rest : (old now new : State) → IsReadOn old now → TakesNone now new → ((fault : ReadFault) → now.progress ≡ stages.Failed fault → ⊥)
-    → (left : Option (List ℕ)) (failures : ℕ) (blocks : List Block) → IsTaken left failures old blocks
+    → (left : Option (List ℕ)) (failures : ℕ) (blocks : List Block) → IsReadSoFar left failures old blocks
     → (more : List Block) × IsRest old blocks more × IsDumpOf left (blocks ++ more) × (new.failures ≡ failures)
 read_out_rest old now new on t no_fault left failures blocks is =
     let more = on.each left failures blocks is in
@@ -119,7 +119,7 @@ read_out_rest old now new on t no_fault left failures blocks is =
 -- to a fault
 pub read_out_fault : (old now new : State) (fault : ReadFault) → IsReadOn old now → TakesFault now new fault → (now.progress ≡ stages.Done → ⊥)
     → ((other : ReadFault) → now.progress ≡ stages.Failed other → fault ≡ other) → (now.progress ≢ stages.Open → new.failures ≡ now.failures)
-    → (left : Option (List ℕ)) (failures : ℕ) (blocks : List Block) → IsTaken left failures old blocks → IsReadFaultOf left failures new.failures fault
+    → (left : Option (List ℕ)) (failures : ℕ) (blocks : List Block) → IsReadSoFar left failures old blocks → IsReadFaultOf left failures new.failures fault
 read_out_fault old now new fault on t not_done again untouched left failures blocks is =
     let more = on.each left failures blocks is in
     elim (stages_are now.progress) [
@@ -153,7 +153,7 @@ no_more ds ms e = sym (ap (λ xs. ds ++ xs) e ∙ append-nil ds)
 -- ---- two texts
 
 -- the dump's fault
-pub decided_by_dump : (texts : Texts) (buses : List ℕ) (d e p : State) (v : Surveyed) (fault : ReadFault) → IsBeside texts buses d p v → TakesFault d e fault → IsDecided texts buses e p v
+pub decided_by_dump : (texts : Texts) (buses : List ℕ) (d e p : State) (v : Surveyed) (fault : ReadFault) → IsSideBySide texts buses d p v → TakesFault d e fault → IsDecided texts buses e p v
 decided_by_dump texts buses d e p v fault s t = record {
   dump = s.dump;
   probe = s.probe;
@@ -165,7 +165,7 @@ decided_by_dump texts buses d e p v fault s t = record {
 
 module _ (texts : Texts) (buses : List ℕ) (d e p q : State) (v : Surveyed) where
   -- a block more of each
-  pub beside_more : (w : Surveyed) (b c : Block) → IsBeside texts buses d p v → TakesBlock d e b → TakesBlock p q c → c.slot ≡ b.slot → IsAdded v w (function_of b c) → IsBeside texts buses e q w
+  pub beside_more : (w : Surveyed) (b c : Block) → IsSideBySide texts buses d p v → TakesBlock d e b → TakesBlock p q c → c.slot ≡ b.slot → IsAdded v w (function_of b c) → IsSideBySide texts buses e q w
   beside_more w b c s tb tc slot added = record {
     dump = s.dump ++ b ∷ [];
     probe = s.probe ++ c ∷ [];
@@ -179,7 +179,7 @@ module _ (texts : Texts) (buses : List ℕ) (d e p q : State) (v : Surveyed) whe
   }
 
   -- the probe's, whatever was taken of the dump
-  pub decided_by_probe : (fault : ReadFault) (b : Block) (taken : Bool) → IsBeside texts buses d p v → TakesBlockOrNone taken d e b → TakesFault p q fault → IsDecided texts buses e q v
+  pub decided_by_probe : (fault : ReadFault) (b : Block) (taken : Bool) → IsSideBySide texts buses d p v → TakesBlockOrNone taken d e b → TakesFault p q fault → IsDecided texts buses e q v
   decided_by_probe fault b false s td t = record {
     dump = s.dump;
     probe = s.probe;
@@ -198,7 +198,7 @@ module _ (texts : Texts) (buses : List ℕ) (d e p q : State) (v : Surveyed) whe
   }
 
   -- both ends
-  pub decided_at_ends : IsBeside texts buses d p v → TakesNone d e → TakesNone p q → IsDecided texts buses e q v
+  pub decided_at_ends : IsSideBySide texts buses d p v → TakesNone d e → TakesNone p q → IsDecided texts buses e q v
   decided_at_ends s td tp = record {
     dump = s.dump;
     probe = s.probe;
@@ -211,7 +211,7 @@ module _ (texts : Texts) (buses : List ℕ) (d e p q : State) (v : Surveyed) whe
   }
 
   -- a slot that the dump has alone, behind all of the probe's
-  pub decided_behind_probe : (w : Surveyed) (b : Block) → IsBeside texts buses d p v → TakesBlock d e b → TakesNone p q → w.roots ≡ v.roots → w.fault ≡ Some (SlotsDiffer b.slot) → IsDecided texts buses e q w
+  pub decided_behind_probe : (w : Surveyed) (b : Block) → IsSideBySide texts buses d p v → TakesBlock d e b → TakesNone p q → w.roots ≡ v.roots → w.fault ≡ Some (SlotsDiffer b.slot) → IsDecided texts buses e q w
   decided_behind_probe w b s td tp roots noted = record {
     dump = s.dump ++ b ∷ [];
     probe = s.probe;
@@ -235,7 +235,7 @@ module _ (texts : Texts) (buses : List ℕ) (d e p q : State) (v : Surveyed) whe
   }
 
   -- a slot that the probe has alone, behind all of the dump's
-  pub decided_behind_dump : (w : Surveyed) (c : Block) → IsBeside texts buses d p v → TakesNone d e → TakesBlock p q c → w.roots ≡ v.roots → w.fault ≡ Some (SlotsDiffer c.slot) → IsDecided texts buses e q w
+  pub decided_behind_dump : (w : Surveyed) (c : Block) → IsSideBySide texts buses d p v → TakesNone d e → TakesBlock p q c → w.roots ≡ v.roots → w.fault ≡ Some (SlotsDiffer c.slot) → IsDecided texts buses e q w
   decided_behind_dump w c s td tp roots noted = record {
     dump = s.dump;
     probe = s.probe ++ c ∷ [];
@@ -259,7 +259,7 @@ module _ (texts : Texts) (buses : List ℕ) (d e p q : State) (v : Surveyed) whe
   }
 
   -- two slots that differ
-  pub decided_apart : (w : Surveyed) (b c : Block) → IsBeside texts buses d p v → TakesBlock d e b → TakesBlock p q c → IsTakenBySurvey v w b c false → IsDecided texts buses e q w
+  pub decided_apart : (w : Surveyed) (b c : Block) → IsSideBySide texts buses d p v → TakesBlock d e b → TakesBlock p q c → IsTakenBySurvey v w b c false → IsDecided texts buses e q w
   decided_apart w b c s td tp noted = record {
     dump = s.dump ++ b ∷ [];
     probe = s.probe ++ c ∷ [];
@@ -295,7 +295,7 @@ module _ (texts : Texts) (buses : List ℕ) (d e p q : State) (v : Surveyed) whe
 
 -- two blocks
 pub two_blocks : {E : Type 0} (r : Result Bool E) (d e p q : State) (v w : Surveyed) (b c : Block) → IfOk r (λ same. IsTakenBySurvey v w b c same) → TakesBlock d e b → TakesBlock p q c
-    → IfOk r (λ taken. (texts : Texts) (buses : List ℕ) → IsBeside texts buses d p v → IsBesideOrDecided taken texts buses e q w)
+    → IfOk r (λ taken. (texts : Texts) (buses : List ℕ) → IsSideBySide texts buses d p v → IsBesideOrDecided taken texts buses e q w)
 two_blocks (Ok true) d e p q v w b c is td tp = λ texts buses s. beside_more texts buses d e p q v w b c s td tp is.0 is.1
 two_blocks (Ok false) d e p q v w b c is td tp = λ texts buses s. decided_apart texts buses d e p q v w b c s td tp is
 two_blocks (Err x) d e p q v w b c is td tp = tt
@@ -321,7 +321,7 @@ read_nothing left failures = record {
 }
 
 pub beside_first : (texts : Texts) (buses : List ℕ) (d p : Ahead) (v : Surveyed) → d ≡ fresh → p ≡ fresh → v ≡ record { roots = buses; records = []; fault = None; last = None } → IsSurveyOf v []
-    → IsBeside texts buses (state_of d texts.dump_left texts.dump_failures) (state_of p texts.probe_left texts.probe_failures) v
+    → IsSideBySide texts buses (state_of d texts.dump_left texts.dump_failures) (state_of p texts.probe_left texts.probe_failures) v
 beside_first texts buses d p v hd hp is taken = record {
   dump = [];
   probe = [];

@@ -17,7 +17,7 @@ use Rattle.pci_tree.specs.Outline.{Tree, IsReachTo}
 use Rattle.pci_tree.specs.Trees.{HasTree}
 use Rattle.pci_tree.proofs.Orders.{own_of_rising}
 use Rattle.pci_check.specs.Sweep.{AreDistinct, IsUnshared, IsFirstOverlap}
-use Rattle.pci_check.specs.Stops.{Reaches, ranges_at, AreReachesOf, AreListed}
+use Rattle.pci_check.specs.Stops.{Reaches, ranges_at, AreReachesOf, AreBusRegionsOfTree}
 use Rattle.pci_check.specs.Clashes.{AreRegionsOn, NoneClashOn, IsClashFaultOn, IsClashFaultOnBus, NoneClash, IsClashFault}
 use Rattle.pci_check.proofs.Overlaps.{claims_of, one_claims, differ, least, next_least}
 
@@ -35,7 +35,7 @@ pub allowed_at : (t : Tree) (reaches : Reaches) (space : Space) (bus : ℕ) (all
     → (s : System) → HasTree t s → IsReachTo t.roots s space true bus allowed
 allowed_at t reaches space bus allowed small same reached s tree = subst (λ (ranges : List Range). IsReachTo t.roots s space true bus ranges) (sym same) (reached s tree space true bus small)
 
-module _ (t : Tree) (bus : ℕ) (space : Space) (regions : List Region) (allowed : List Range) (listed : AreListed t bus space regions)
+module _ (t : Tree) (bus : ℕ) (space : Space) (regions : List Region) (allowed : List Range) (listed : AreBusRegionsOfTree t bus space regions)
     (reached : (s : System) → HasTree t s → IsReachTo t.roots s space true bus allowed) where
   abbrev IsThis : ℕ → Type 0
   IsThis b = b ≡ bus

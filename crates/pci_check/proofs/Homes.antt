@@ -22,7 +22,7 @@ use Rattle.pci_tree.specs.Outline.{Tree, IsPathTo}
 use Rattle.pci_tree.specs.Trees.{HasTree}
 use Rattle.pci_check.specs.Homes.{AreHomeBelow, IsHomeOn, IsHomeBelow}
 use Rattle.pci_check.specs.Judgement.{AreHome}
-use Rattle.pci_check.specs.Stops.{Reaches, AreReachesOf, AlwaysNested, IsWholeAt, IsReachedAt, IsFirstOutside, IsOutsideAnswer, IsWholeBehind, IsFirstStop, IsUnreachedFault, IsUnreachedFaultOn, IsWholeInEach, AreHomeInEach, AreListed}
+use Rattle.pci_check.specs.Stops.{Reaches, AreReachesOf, AlwaysNested, IsWholeAt, IsReachedAt, IsFirstOutside, IsOutsideAnswer, IsWholeBehind, IsFirstStopOnPath, IsUnreachedFault, IsUnreachedFaultOn, IsWholeInEach, AreHomeInEach, AreBusRegionsOfTree}
 use Rattle.pci_tree.proofs.RegionOrder.{number_same}
 use Rattle.pci_tree.proofs.RegionParts.{window_named}
 use Rattle.pci_check.proofs.Stops.{first_stop, whole_without_stop}
@@ -49,7 +49,7 @@ module _ (t : Tree) (reaches : Reaches) (reached : AreReachesOf t reaches) (nest
 
   -- where one stops it
   module _ (space : Space) (r : Region) (path : List Slot) (k address : ℕ) (bridge : Slot) (paths : (s : System) → HasTree t s → IsPathTo t.roots s path r.slot.bus)
-      (stop : IsFirstStop reaches space path r k address) (named : bridge ≡ get_or path k bridge)
+      (stop : IsFirstStopOnPath reaches space path r k address) (named : bridge ≡ get_or path k bridge)
       (s : System) (tree : HasTree t s) (bus : ℕ) (on : IsRegionOn s bus space r) (no_window : is_of_window r.part ≡ false) where
     stops_first : StopsFirst t.roots s (named_region r.slot r.reg) (address_in space address) bridge
     stops_first = subst (λ (x : Slot). StopsFirst t.roots s (named_region r.slot r.reg) (address_in space address) x) (sym named)
@@ -118,7 +118,7 @@ module _ (t : Tree) (reaches : Reaches) (reached : AreReachesOf t reaches) (nest
   all_home home s tree f p space a listed no_window claims = home f.slot.bus (bus_fits s tree f listed) s tree space f p a listed refl no_window claims
 
   -- the first unreached region of a bus, found in one of its two lists
-  module _ (bus : ℕ) (io memory : List Region) (are_io : AreListed t bus Io io) (are_memory : AreListed t bus Memory memory) where
+  module _ (bus : ℕ) (io memory : List Region) (are_io : AreBusRegionsOfTree t bus Io io) (are_memory : AreBusRegionsOfTree t bus Memory memory) where
     -- where neither list has one
     pub none_outside : All (IsReachedAt reaches Io bus) io → All (IsReachedAt reaches Memory bus) memory → AreHomeInEach t bus
     none_outside all_io all_memory s tree Io = home_on s tree bus Io io (are_io s tree.records) all_io
@@ -128,7 +128,7 @@ module _ (t : Tree) (reaches : Reaches) (reached : AreReachesOf t reaches) (nest
     on_bus s space regions k r are within is = are.each r (subst (Contains regions) (sym is) (Contains-get_or regions k r within))
 
     -- what is found at the first region that is outside, the other list's being no lesser
-    found : (space : Space) (regions : List Region) (k : ℕ) (r : Region) (o : Option Fault) → AreListed t bus space regions → IsFirstOutside reaches space bus regions k → r ≡ get_or regions k r
+    found : (space : Space) (regions : List Region) (k : ℕ) (r : Region) (o : Option Fault) → AreBusRegionsOfTree t bus space regions → IsFirstOutside reaches space bus regions k → r ≡ get_or regions k r
         → ((s : System) → HasTree t s → IsHomeBelow t.roots s bus Io (number_of r)) → ((s : System) → HasTree t s → IsHomeBelow t.roots s bus Memory (number_of r))
         → MatchOption o (IsWholeInEach t reaches space r) (λ fault. IsUnreachedFault t space r fault)
         → MatchOption o (AreHomeInEach t bus) (λ fault. IsUnreachedFaultOn t bus fault)

@@ -21,7 +21,7 @@ use Rattle.pci_tree.specs.Regions.{IsRegionOn, region_number as number_of}
 use Rattle.pci_tree.specs.Trees.{HasTree}
 use Rattle.pci_tree.proofs.Orders.{own_of_rising}
 use Rattle.pci_check.specs.Sweep.{AreDistinct, IsUnshared, IsFirstOverlap}
-use Rattle.pci_check.specs.Stops.{AreListed}
+use Rattle.pci_check.specs.Stops.{AreBusRegionsOfTree}
 use Rattle.pci_check.specs.Clashes.{AreRegionsOn, AreRootsListed, NoneSplitIn, IsSplitFaultIn, NoneSplit, IsSplitFault}
 use Rattle.pci_check.proofs.Overlaps.{claims_of, one_claims, differ, least, next_least}
 use Rattle.pci_check.proofs.Clashing.{gets_of_passed, io_is_not_memory}
@@ -67,7 +67,7 @@ lower_number s system space b c x y on_x on_y less =
     let bus_y : y.slot.bus ≡ c = ap (λ (z : Slot). z.bus) on_y.is.slot ∙ on_y.on_bus in
     omega (arith, slot_x, low, register, bus_x, bus_y, less)
 
-pub roots_more : (t : Tree) (space : Space) (bus : ℕ) (items regions : List Region) → Contains t.roots bus → AreRootsListedBelow t space bus items → AreListed t bus space regions
+pub roots_more : (t : Tree) (space : Space) (bus : ℕ) (items regions : List Region) → Contains t.roots bus → AreRootsListedBelow t space bus items → AreBusRegionsOfTree t bus space regions
     → AreRootsListedBelow t space (bus + 1) (items ++ regions)
 roots_more t space bus items regions root below listed_on s tree =
     let are = below s tree in

@@ -16,7 +16,7 @@ use Rattle.pci_tree.specs.Ranges.{Covers}
 use Rattle.pci_tree.specs.Regions.{IsRegionOn, is_of_window}
 use Rattle.pci_tree.specs.Outline.{IsPathTo, IsReachTo}
 use Rattle.pci_tree.proofs.RegionParts.{window_named}
-use Rattle.pci_check.specs.Stops.{Reaches, ranges_at, IsWholeAt, IsBusBehind, IsWholeBehind, IsFirstStop}
+use Rattle.pci_check.specs.Stops.{Reaches, ranges_at, IsWholeAt, IsBusBehind, IsWholeBehind, IsFirstStopOnPath}
 
 -- ---- parts of a way
 
@@ -131,7 +131,7 @@ module _ (roots : List ℕ) (s : System) (system : IsSystem s) (nested : IsNeste
       subst (λ (b : Function). passes space (is_prefetchable_part f part) a b ≡ true) is
       (passes_behind m c (omega (arith, lt, within)) a (passed_behind m c (omega (arith, lt, within)) (whole m lt) a claims))
 
-  module _ (no_window : is_of_window r.part ≡ false) (k address : ℕ) (stop : IsFirstStop reaches space path r k address) (d : Slot) where
+  module _ (no_window : is_of_window r.part ≡ false) (k address : ℕ) (stop : IsFirstStopOnPath reaches space path r k address) (d : Slot) where
     in_bridges : k < length is_path.bridges
     in_bridges = let n = long in let within = stop.within in omega (arith, n, within)
 

@@ -9,7 +9,7 @@ use Rattle.pci_base.specs.declared.range.Range.{Range}
 use Rattle.pci_tree.specs.declared.region.Region.{Region}
 use Rattle.pci_tree.specs.Ranges.{Covers}
 use Rattle.pci_tree.specs.Regions.{region_number as number_of}
-use Rattle.pci_check.specs.Sweep.{Spans, Reaches, IsLeastMet, IsTwiceBelow, IsTwice, IsLeastTwice, Follows, IsClaimant, IsLeastClaimant, IsLesser, AreTwoLeast}
+use Rattle.pci_check.specs.Sweep.{Spans, ReachesAddress, IsLeastMet, IsTwiceBelow, IsTwice, IsLeastTwice, Follows, IsClaimant, IsLeastClaimant, IsLesser, AreTwoLeast}
 
 -- what is known of an element at one default is known at each
 pub at_each : (P : Region → Type 0) (regions : List Region) (k : ℕ) (z : Region) → k < length regions → P (get_or regions k z) → HoldsAt P regions k
@@ -25,15 +25,15 @@ pub record IsPassed (n : ℕ) (regions : List Region) (a : ℕ) : Type 0 where
 
 -- the addresses up to the greatest last one of the regions below a place
 abbrev pub IsReached : ℕ → List Region → Option ℕ → Type 0
-IsReached n regions o = (a : ℕ) → Reaches o a ↔ IsPassed n regions a
+IsReached n regions o = (a : ℕ) → ReachesAddress o a ↔ IsPassed n regions a
 
 pub reached_none : (regions : List Region) → IsReached 0 regions None
 reached_none regions a = (λ (h : ⊥). absurd h, λ (p : IsPassed 0 regions a). (let b : p.k < 0 = p.below in omega arith))
 
 pub reached_more : (i : ℕ) (regions : List Region) (o p : Option ℕ) (z : Region) → i < length regions → IsReached i regions o
-    → ((a : ℕ) → Reaches p a ↔ (Reaches o a ⊎ (a ≤ (get_or regions i z).last))) → IsReached (i + 1) regions p
+    → ((a : ℕ) → ReachesAddress p a ↔ (ReachesAddress o a ⊎ (a ≤ (get_or regions i z).last))) → IsReached (i + 1) regions p
 reached_more i regions o p z within was step a = (
-  λ (h : Reaches p a). elim ((step a).0 h) [
+  λ (h : ReachesAddress p a). elim ((step a).0 h) [
     | inl before ↦ (let q : IsPassed i regions a = (was a).0 before in record { k = q.k; below = (let b : q.k < i = q.below in omega arith); last = q.last })
     | inr here ↦ record { k = i; below = omega arith; last = at_each (λ x. a ≤ x.last) regions i z within here }
   ],
@@ -48,7 +48,7 @@ reached_more i regions o p z within was step a = (
 -- where nothing is met at a region, no address is claimed twice up to it
 pub none_more : (i : ℕ) (regions : List Region) (allowed : List Range) (o : Option ℕ) (z : Region) → i < length regions → IsReached i regions o
     → ((a : ℕ) → Covers allowed a → IsTwiceBelow i regions a → ⊥)
-    → ((a : ℕ) → Spans (get_or regions i z) a → Reaches o a → Covers allowed a → ⊥)
+    → ((a : ℕ) → Spans (get_or regions i z) a → ReachesAddress o a → Covers allowed a → ⊥)
     → (a : ℕ) → Covers allowed a → IsTwiceBelow (i + 1) regions a → ⊥
 none_more i regions allowed o z within was none met a cov t =
     let b : t.j < i + 1 = t.below in
@@ -90,16 +90,16 @@ met_least i regions allowed o z a sorted within was none met =
 -- ---- the same for an element that was read
 
 pub reached_read : (i : ℕ) (regions : List Region) (o p : Option ℕ) (x : Region) → i < length regions → x ≡ get_or regions i x → IsReached i regions o
-    → ((a : ℕ) → Reaches p a ↔ (Reaches o a ⊎ (a ≤ x.last))) → IsReached (i + 1) regions p
+    → ((a : ℕ) → ReachesAddress p a ↔ (ReachesAddress o a ⊎ (a ≤ x.last))) → IsReached (i + 1) regions p
 reached_read i regions o p x within is was step =
-    reached_more i regions o p x within was (subst (λ (y : Region). (a : ℕ) → Reaches p a ↔ (Reaches o a ⊎ (a ≤ y.last))) is step)
+    reached_more i regions o p x within was (subst (λ (y : Region). (a : ℕ) → ReachesAddress p a ↔ (ReachesAddress o a ⊎ (a ≤ y.last))) is step)
 
 pub none_read : (i : ℕ) (regions : List Region) (allowed : List Range) (o : Option ℕ) (x : Region) → i < length regions → x ≡ get_or regions i x → IsReached i regions o
     → ((a : ℕ) → Covers allowed a → IsTwiceBelow i regions a → ⊥)
-    → ((a : ℕ) → Spans x a → Reaches o a → Covers allowed a → ⊥)
+    → ((a : ℕ) → Spans x a → ReachesAddress o a → Covers allowed a → ⊥)
     → (a : ℕ) → Covers allowed a → IsTwiceBelow (i + 1) regions a → ⊥
 none_read i regions allowed o x within is was none met =
-    none_more i regions allowed o x within was none (subst (λ (y : Region). (a : ℕ) → Spans y a → Reaches o a → Covers allowed a → ⊥) is met)
+    none_more i regions allowed o x within was none (subst (λ (y : Region). (a : ℕ) → Spans y a → ReachesAddress o a → Covers allowed a → ⊥) is met)
 
 pub met_read : (i : ℕ) (regions : List Region) (allowed : List Range) (o : Option ℕ) (x : Region) (a : ℕ) → IsNonDecreasingBy (λ x. x.first) regions → i < length regions
     → x ≡ get_or regions i x → IsReached i regions o → ((b : ℕ) → Covers allowed b → IsTwiceBelow i regions b → ⊥) → IsLeastMet allowed x o a → IsLeastTwice regions allowed a

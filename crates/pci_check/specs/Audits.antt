@@ -18,20 +18,20 @@ use Rattle.pci_check.specs.declared.outcome.Outcome.{Outcome}
 use Rattle.pci_check.specs.declared.outcome.Outcome.TheVariants.{Yes, No}
 
 -- both list the same slots, and their system is sound
-abbrev pub AreSound : List ℕ → List Block → List Block → Type 0
-AreSound roots dump probe = (slots_of dump ≡ slots_of probe) × IsSound roots (system_of dump probe)
+abbrev pub ArePlainlySound : List ℕ → List Block → List Block → Type 0
+ArePlainlySound roots dump probe = (slots_of dump ≡ slots_of probe) × IsSound roots (system_of dump probe)
 
 -- the fault is there, and none that is looked for before it, the two aren't sound, and it is the first of its kind where it is one of judging
 pub record IsRefused (roots : List ℕ) (dump probe : List Block) (fault : Fault) : Type 0 where
   pub there : IsThere roots dump probe (fault_of fault)
   pub first : (fault_number (fault_of fault) < 60)
       ⊎ IsFirst roots (system_of dump probe) (fault_of fault)
-  pub unsound : AreSound roots dump probe → ⊥
+  pub unsound : ArePlainlySound roots dump probe → ⊥
   pub order : IsFirstThere roots dump probe (fault_of fault)
 
 -- yes exactly where they are sound, and no with a fault
 abbrev pub IsOutcomeOf : List ℕ → List Block → List Block → Outcome → Type 0
-IsOutcomeOf roots dump probe Yes = AreSound roots dump probe
+IsOutcomeOf roots dump probe Yes = ArePlainlySound roots dump probe
 IsOutcomeOf roots dump probe (No fault) = IsRefused roots dump probe fault
 
 -- the line that is written
@@ -63,7 +63,7 @@ pub record IsReadFaultOf (left : Option (List ℕ)) (before after : ℕ)
   pub other : fault ≢ faults.Memory
 
 -- a dump was read in which no read failed
-pub record IsRead (left : Option (List ℕ)) (before after : ℕ) : Type 0 where
+pub record IsWholeDumpRead (left : Option (List ℕ)) (before after : ℕ) : Type 0 where
   pub dump : List Block
   pub text : IsDumpOf left dump
   pub whole : after ≡ before
@@ -81,7 +81,7 @@ reading left before after = record { left = left; before = before; after = after
 abbrev pub IsTextRefusal : Reading → Reading → AuditFault → Type 0
 IsTextRefusal dump probe (Dump fault) = IsReadFaultOf dump.left dump.before dump.after fault
 IsTextRefusal dump probe (Probe fault) =
-    IsRead dump.left dump.before dump.after
+    IsWholeDumpRead dump.left dump.before dump.after
     × IsReadFaultOf probe.left probe.before probe.after fault
 IsTextRefusal dump probe Memory = Unit {0}
 IsTextRefusal dump probe Write = Unit {0}

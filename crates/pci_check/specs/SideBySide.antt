@@ -20,7 +20,7 @@ pub record Texts : Type 0 where
   pub probe_failures : ℕ
 
 -- These blocks were read of a text. Up to its end they are its dump; at a fault it has that one.
-pub record IsTaken (left : Option (List ℕ)) (failures : ℕ) (state : State)
+pub record IsReadSoFar (left : Option (List ℕ)) (failures : ℕ) (state : State)
     (blocks : List Block) : Type 0 where
   pub dump : IsDump blocks
   pub going : state.progress ≡ stages.Open → IsRead left failures state blocks
@@ -46,7 +46,7 @@ IsSurveyOfBoth v dump probe =
     × IsNoneBelow dump probe slot)
 
 -- so far both texts list the same slots, and the survey took their functions
-pub record IsBeside (texts : Texts) (buses : List ℕ) (d p : State) (v : Surveyed) : Type 0 where
+pub record IsSideBySide (texts : Texts) (buses : List ℕ) (d p : State) (v : Surveyed) : Type 0 where
   pub dump : List Block
   pub probe : List Block
   pub dump_read : IsRead texts.dump_left texts.dump_failures d dump
@@ -61,8 +61,8 @@ pub record IsBeside (texts : Texts) (buses : List ℕ) (d p : State) (v : Survey
 pub record IsDecided (texts : Texts) (buses : List ℕ) (d p : State) (v : Surveyed) : Type 0 where
   pub dump : List Block
   pub probe : List Block
-  pub dump_taken : IsTaken texts.dump_left texts.dump_failures d dump
-  pub probe_taken : IsTaken texts.probe_left texts.probe_failures p probe
+  pub dump_taken : IsReadSoFar texts.dump_left texts.dump_failures d dump
+  pub probe_taken : IsReadSoFar texts.probe_left texts.probe_failures p probe
   pub roots : v.roots ≡ buses
   pub decided : (more_dump more_probe : List Block) → IsRest d dump more_dump
       → IsRest p probe more_probe
@@ -81,12 +81,12 @@ pub record IsSurveyOfTexts (buses : List ℕ) (dump_left probe_left : Option (Li
   pub both : IsSurveyOfBoth v dump probe
 
 -- they are beside each other, whatever they were before
-abbrev pub AreBeside : State → State → Surveyed → Type 0
-AreBeside d p v = (texts : Texts) × (buses : List ℕ) × IsBeside texts buses d p v
+abbrev pub AreSideBySide : State → State → Surveyed → Type 0
+AreSideBySide d p v = (texts : Texts) × (buses : List ℕ) × IsSideBySide texts buses d p v
 
 -- a pair was taken, and they are still beside each other; or none is left to be taken
 abbrev pub IsBesideOrDecided : Bool → Texts → List ℕ → State → State → Surveyed → Type 0
-IsBesideOrDecided true texts buses d p v = IsBeside texts buses d p v
+IsBesideOrDecided true texts buses d p v = IsSideBySide texts buses d p v
 IsBesideOrDecided false texts buses d p v = IsDecided texts buses d p v
 
 -- a survey took the function of two blocks of one slot; or it noted the lesser of their two slots

@@ -85,7 +85,7 @@ pub record IsLeastLost (reaches : Reaches) (space : Space) (bus : ℕ) (r : Regi
   pub least : (b : ℕ) → b < a → Spans r b → Covers (ranges_at reaches space r.prefetch bus) b
 
 -- the first bridge of a path that stops a region, and the least address that it stops
-pub record IsFirstStop (reaches : Reaches) (space : Space) (path : List Slot) (r : Region)
+pub record IsFirstStopOnPath (reaches : Reaches) (space : Space) (path : List Slot) (r : Region)
     (k a : ℕ) : Type 0 where
   pub within : k < length path
   pub bus : ℕ
@@ -153,6 +153,6 @@ abbrev pub AreHomeInEach : Tree → ℕ → Type 0
 AreHomeInEach t bus = (s : System) → HasTree t s → (space : Space) → IsHomeOn t.roots s bus space
 
 -- the regions of a bus and space in each system with the tree
-abbrev pub AreListed : Tree → ℕ → Space → List Region → Type 0
-AreListed t bus space regions =
+abbrev pub AreBusRegionsOfTree : Tree → ℕ → Space → List Region → Type 0
+AreBusRegionsOfTree t bus space regions =
     (s : System) → HasRecords s t.records → AreRegionsOf s bus space regions

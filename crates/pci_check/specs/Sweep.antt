@@ -12,15 +12,15 @@ abbrev pub Spans : Region → ℕ → Type 0
 Spans r a = (r.first ≤ a) × (a ≤ r.last)
 
 -- no address, or one that isn't below this one
-abbrev pub Reaches : Option ℕ → ℕ → Type 0
-Reaches None a = ⊥
-Reaches (Some last) a = a ≤ last
+abbrev pub ReachesAddress : Option ℕ → ℕ → Type 0
+ReachesAddress None a = ⊥
+ReachesAddress (Some last) a = a ≤ last
 
 -- the least address of a list of ranges that a region claims, up to what is reached
 pub record IsLeastMet (allowed : List Range) (region : Region) (reached : Option ℕ)
     (a : ℕ) : Type 0 where
   pub claims : Spans region a
-  pub met : Reaches reached a
+  pub met : ReachesAddress reached a
   pub covered : Covers allowed a
   pub least : (b : ℕ) → region.first ≤ b → b < a → Covers allowed b → ⊥
 

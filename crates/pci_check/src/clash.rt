@@ -3,7 +3,7 @@ ghost use Rattle.std.specs.Prelude.{MatchOption};
 ghost use Rattle.pci_spec.specs.System.{Space as SpaceValue, Io, Memory};
 ghost use Rattle.pci_tree.specs.Outline.{Tree};
 ghost use Rattle.pci_base.specs.Space.{space_of};
-ghost use Rattle.pci_check.specs.Stops.{AreReachesOf, AreListed};
+ghost use Rattle.pci_check.specs.Stops.{AreReachesOf, AreBusRegionsOfTree};
 ghost use Rattle.pci_check.specs.Clashes.{NoneClashOn, IsClashFaultOn, IsClashFaultOnBus};
 
 use super::reached::Reached;
@@ -21,7 +21,7 @@ fn clash_in<A: Allocator + Copy>(
     regions: &mut Vec<Region, A>,
 ) -> Option<Fault>
     ensures { (t : Tree) → AreReachesOf t reached.now
-        → AreListed t bus (space_of space) regions.old.items
+        → AreBusRegionsOfTree t bus (space_of space) regions.old.items
         → MatchOption result (NoneClashOn t bus (space_of space))
         (λ fault. IsClashFaultOn t bus (space_of space) fault) }
 {
@@ -56,7 +56,7 @@ pub fn first_clash<A: Allocator + Copy>(
 ) -> Option<Fault>
     // of each tree that these belong to, as no outline is handed in
     ensures { (t : Tree) → AreReachesOf t reached.now
-        → AreListed t bus Io io.old.items → AreListed t bus Memory memory.old.items
+        → AreBusRegionsOfTree t bus Io io.old.items → AreBusRegionsOfTree t bus Memory memory.old.items
         → MatchOption result ((space : SpaceValue) → NoneClashOn t bus space)
         (λ fault. IsClashFaultOnBus t bus fault) }
 {

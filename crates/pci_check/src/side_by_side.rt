@@ -5,7 +5,7 @@ ghost use Rattle.pci_spec.specs.Stops.{IsAboveLast};
 ghost use Rattle.pci_dump.specs.State.{IsOver, state_of};
 ghost use Rattle.pci_tree.specs.Roots.{buses_of};
 ghost use Rattle.pci_check.specs.Audits.{IsDumpOf, IsReadFaultOf, IsTextRefusal, reading};
-ghost use Rattle.pci_check.specs.SideBySide.{Texts, IsTaken, IsRest, IsOpen, IsBeside, AreBeside, IsBesideOrDecided, IsTakenBySurvey, IsDecided, IsSurveyOfTexts};
+ghost use Rattle.pci_check.specs.SideBySide.{Texts, IsReadSoFar, IsRest, IsOpen, IsSideBySide, AreSideBySide, IsBesideOrDecided, IsTakenBySurvey, IsDecided, IsSurveyOfTexts};
 
 use super::outcome::AuditFault;
 use pci_base::memory::OutOfMemory;
@@ -21,14 +21,14 @@ use std::alloc::Allocator;
 fn read_out<S: Source>(ahead: &mut ReadAhead, source: &mut S) -> Result<(), ReadFault>
     requires { IsOver ahead.old (S.left source.old) }
     ensures rest { OnOk result ((left : Option (List ℕ)) (failures : ℕ) (blocks : List BlockValue)
-        → IsTaken left failures
+        → IsReadSoFar left failures
         (state_of ahead.old (S.left source.old) (S.failures source.old)) blocks
         → (more : List BlockValue)
         × IsRest (state_of ahead.old (S.left source.old) (S.failures source.old)) blocks more
         × IsDumpOf left (blocks ++ more) × (S.failures source.new ≡ failures)) }
     ensures fault { IfErr result
         (λ fault. (left : Option (List ℕ)) (failures : ℕ) (blocks : List BlockValue)
-        → IsTaken left failures
+        → IsReadSoFar left failures
         (state_of ahead.old (S.left source.old) (S.failures source.old)) blocks
         → IsReadFaultOf left failures (S.failures source.new) fault) }
 {
@@ -54,7 +54,7 @@ impl<A: Allocator> SideBySide<A> {
     /// Nothing of a dump and a probe was read.
     fn new(alloc: A, roots: Roots) -> SideBySide<A>
         ensures beside { (texts : Texts)
-            → IsBeside texts (buses_of roots)
+            → IsSideBySide texts (buses_of roots)
             (state_of result.listed texts.dump_left texts.dump_failures)
             (state_of result.read_back texts.probe_left texts.probe_failures) result.survey }
         ensures dump { result.listed.drained ≡ false }
@@ -101,14 +101,14 @@ impl<A: Allocator> SideBySide<A> {
     ) -> Result<bool, OutOfMemory>
         requires dump { IsOver self.old.listed (D.left dump.old) }
         requires probe { IsOver self.old.read_back (P.left probe.old) }
-        requires beside { AreBeside
+        requires beside { AreSideBySide
             (state_of self.old.listed (D.left dump.old) (D.failures dump.old))
             (state_of self.old.read_back (P.left probe.old) (P.failures probe.old))
             self.old.survey }
         ensures dump { IsOver self.new.listed (D.left dump.new) }
         ensures probe { IsOver self.new.read_back (P.left probe.new) }
         ensures pair { IfOk result (λ taken. (texts : Texts) (buses : List ℕ)
-            → IsBeside texts buses
+            → IsSideBySide texts buses
             (state_of self.old.listed (D.left dump.old) (D.failures dump.old))
             (state_of self.old.read_back (P.left probe.old) (P.failures probe.old)) self.old.survey
             → IsBesideOrDecided taken texts buses
@@ -149,14 +149,14 @@ impl<A: Allocator> SideBySide<A> {
     ) -> Result<(), OutOfMemory>
         requires dump { IsOver self.old.listed (D.left dump.old) }
         requires probe { IsOver self.old.read_back (P.left probe.old) }
-        requires beside { AreBeside
+        requires beside { AreSideBySide
             (state_of self.old.listed (D.left dump.old) (D.failures dump.old))
             (state_of self.old.read_back (P.left probe.old) (P.failures probe.old))
             self.old.survey }
         ensures dump { IsOver self.new.listed (D.left dump.new) }
         ensures probe { IsOver self.new.read_back (P.left probe.new) }
         ensures pairs { OnOk result ((texts : Texts) (buses : List ℕ)
-            → IsBeside texts buses
+            → IsSideBySide texts buses
             (state_of self.old.listed (D.left dump.old) (D.failures dump.old))
             (state_of self.old.read_back (P.left probe.old) (P.failures probe.old)) self.old.survey
             → IsDecided texts buses

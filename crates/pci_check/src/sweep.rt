@@ -5,7 +5,7 @@ ghost use Rattle.pci_spec.specs.JudgingLaws.{region_number};
 ghost use Rattle.pci_tree.specs.declared.region.Region.{Region};
 ghost use Rattle.pci_tree.specs.Ranges.{Covers, IsCanonical};
 ghost use Rattle.pci_tree.specs.Regions.{region_number as number_of};
-ghost use Rattle.pci_check.specs.Sweep.{Spans, Reaches, IsLeastMet, IsTwice, IsLeastTwice, Follows, IsLesser, IsClaimant, IsLeastClaimant, AreTwoLeast, StandByFirst, AreDistinct, IsUnshared, IsFirstOverlap};
+ghost use Rattle.pci_check.specs.Sweep.{Spans, ReachesAddress, IsLeastMet, IsTwice, IsLeastTwice, Follows, IsLesser, IsClaimant, IsLeastClaimant, AreTwoLeast, StandByFirst, AreDistinct, IsUnshared, IsFirstOverlap};
 
 use pci_base::range::Range;
 use pci_base::slot::Slot;
@@ -17,7 +17,7 @@ use std::alloc::Allocator;
 fn least_met(allowed: &[Range], region: &Region, reached: Option<u64>) -> Option<u64>
     requires { IsCanonical allowed.now }
     ensures { MatchOption result
-        ((a : ℕ) → Spans region.now a → Reaches reached a → Covers allowed.now a → ⊥)
+        ((a : ℕ) → Spans region.now a → ReachesAddress reached a → Covers allowed.now a → ⊥)
         (λ a. IsLeastMet allowed.now region.now reached a) }
 {
     let Some(most) = reached else {
@@ -36,7 +36,7 @@ fn least_met(allowed: &[Range], region: &Region, reached: Option<u64>) -> Option
 
 /// What is reached with one more region, which ends at `last`.
 fn extended(reached: Option<u64>, last: u64) -> Option<u64>
-    ensures { (a : ℕ) → Reaches result a ↔ (Reaches reached a ⊎ (a ≤ last)) }
+    ensures { (a : ℕ) → ReachesAddress result a ↔ (ReachesAddress reached a ⊎ (a ≤ last)) }
 {
     match reached {
         None => Some(last),

@@ -5,7 +5,7 @@ ghost use Rattle.pci_spec.specs.System.{Io, Memory};
 ghost use Rattle.pci_function.specs.declared.fault.Fault.{Fault};
 ghost use Rattle.pci_base.specs.Space.{space_of};
 ghost use Rattle.pci_tree.specs.Regions.{is_of_window};
-ghost use Rattle.pci_check.specs.Stops.{AreReachesOf, IsWholeAt, IsReachedAt, IsOutsideAnswer, IsBusBehind, IsWholeBehind, IsLeastLost, IsFirstStop, IsEarlier, IsUnreachedFault, IsLineFault, IsUnreachedFaultOn, IsWholeInEach, AreHomeInEach, AlwaysNested, AreListed};
+ghost use Rattle.pci_check.specs.Stops.{AreReachesOf, IsWholeAt, IsReachedAt, IsOutsideAnswer, IsBusBehind, IsWholeBehind, IsLeastLost, IsFirstStopOnPath, IsEarlier, IsUnreachedFault, IsLineFault, IsUnreachedFaultOn, IsWholeInEach, AreHomeInEach, AlwaysNested, AreBusRegionsOfTree};
 
 use super::reached::Reached;
 use super::sweep::is_before;
@@ -148,7 +148,7 @@ fn first_stop<A: Allocator + Copy>(
 ) -> Option<MissedAt>
     ensures { MatchOption result ((k : ℕ) → k < length path.now
         → IsWholeBehind reached.now (space_of space) path.now region.now.slot.bus region.now k)
-        (λ s. IsFirstStop reached.now
+        (λ s. IsFirstStopOnPath reached.now
         (space_of space) path.now region.now s.index s.address) }
 {
     let end = region.slot.bus();
@@ -210,8 +210,8 @@ pub fn first_unreached<A: Allocator + Copy>(
     // one way alone leads to each bus, so the bridge that is named is the one at fault
     requires nested { AlwaysNested outline.now }
     // listed by the caller, who looks for clashes in the same lists
-    requires io { AreListed outline.now bus Io io.now }
-    requires memory { AreListed outline.now bus Memory memory.now }
+    requires io { AreBusRegionsOfTree outline.now bus Io io.now }
+    requires memory { AreBusRegionsOfTree outline.now bus Memory memory.now }
     ensures { MatchOption result (AreHomeInEach outline.now bus)
         (λ fault. IsUnreachedFaultOn outline.now bus fault) }
 {

@@ -34,7 +34,7 @@ use Rattle.pci_claims.specs.BusClaims.{claim_number, AreRegisterClaimsOn, AreMor
 use Rattle.pci_claims.specs.Gathered.{IsCommon}
 use Rattle.pci_claims.specs.Reached.{IsAccessReach}
 use Rattle.pci_claims.specs.ToldOn.{AreOnIn}
-use Rattle.pci_claims.specs.AllClaims.{IsClaimWith, IsPlacedOn, AreClaimsOn, IsStretchOf, IsClaimOfRange, IsOnAt, AreRangeClaims}
+use Rattle.pci_claims.specs.AllClaims.{IsClaimWith, IsClaimOnBus, AreClaimsOn, IsStretchOf, IsClaimOfRange, IsOnAt, AreRangeClaims}
 use Rattle.pci_claims.proofs.Making.{rise_in_order}
 use Rattle.pci_claims.proofs.Rooted.{sent_there}
 
@@ -199,13 +199,13 @@ module _ (told : Told) (t : Tree) (on : List Bool) (are_on : AreOnIn told t on) 
 
     -- ---- names
 
-    register_placed : (c : Claimed) → Contains own c → IsPlacedOn bus c
+    register_placed : (c : Claimed) → Contains own c → IsClaimOnBus bus c
     register_placed c has =
         let named = registers.named c has in
         let low = named.register in
         record { slot = subst IsSlot named.slot (slot_of s tree.system named.f named.listed); on_bus = named.on_bus; register = omega (arith, low) }
 
-    range_placed : (c : Claimed) → Contains more c → IsPlacedOn bus c
+    range_placed : (c : Claimed) → Contains more c → IsClaimOnBus bus c
     range_placed c has =
         let (k, r, is, of) = ranges.each c has in
         record { slot = subst IsSlot (sym of.slot) (range_is is_told bus space stretch is_stretch reach more ranges k r is.at).line.slot; on_bus = ap (λ (x : Slot). x.bus) of.slot ∙ bus_of_range is_told bus space stretch is_stretch reach more ranges k r is; register = (high c has).1 }

@@ -16,7 +16,7 @@ use Rattle.pci_tree.proofs.Passing.{covers_push, canonical_push}
 use Rattle.pci_tree.proofs.RangeLists.{found_at}
 use Rattle.judge_spec.specs.Given.{Given, is_isa_port, is_cut}
 use Rattle.pci_claims.specs.Gathered.{IsCommon}
-use Rattle.pci_claims.specs.Isa.{cuts, is_cut_region, ArePortBlocks, ArePortsKept, AreKept}
+use Rattle.pci_claims.specs.Isa.{cuts, is_cut_region, ArePortBlocks, ArePortsKept, AreLeftByIsa}
 use Rattle.pci_claims.specs.Passed.{window_passes, ArePassedByWindows}
 use Rattle.pci_claims.specs.Claim.{AreAddressesOf, is_cut_from}
 use Rattle.pci_claims.proofs.Gathering.{none_covered, nil_canonical}
@@ -96,7 +96,7 @@ blocks_and_more last out new v high is first end e = subst (λ xs. ArePortsKept 
 
 -- ---- ranges
 
-pub nothing_kept : AreKept [] []
+pub nothing_kept : AreLeftByIsa [] []
 nothing_kept = record {
   canonical = nil_canonical;
   exact = λ a. (λ (h : Covers [] a). absurd (none_covered a h), λ (h : Covers [] a × IsFalse (is_isa_port a)). h.0);
@@ -109,7 +109,7 @@ up_to rs m z can end a (k, r, within, at, held) =
     let last = up_to_the_last rs m k z can end within in
     omega (arith, here, last)
 
-pub kept_of : (rs ports out : List Range) (m : ℕ) (z : Range) → IsCanonical rs → m + 1 ≡ length rs → ArePortsKept (get_or rs m z).last ports → IsCommon rs ports out → AreKept rs out
+pub kept_of : (rs ports out : List Range) (m : ℕ) (z : Range) → IsCanonical rs → m + 1 ≡ length rs → ArePortsKept (get_or rs m z).last ports → IsCommon rs ports out → AreLeftByIsa rs out
 kept_of rs ports out m z can end left is = record {
   canonical = is.canonical;
   exact = λ a. (
@@ -136,7 +136,7 @@ not_true false h = refl
 
 module _ (given : Given) (kind : WindowKind) (r : Record) (windows : List Range) (canonical : IsCanonical windows)
     (exact : (a : ℕ) → Covers windows a ↔ IsTrue (record_passes kind a (record_value r))) where
-  pub windows_cut : (out : List Range) → cuts given (window_space kind) r.slot ≡ true → AreKept windows out → ArePassedByWindows given kind r out
+  pub windows_cut : (out : List Range) → cuts given (window_space kind) r.slot ≡ true → AreLeftByIsa windows out → ArePassedByWindows given kind r out
   windows_cut out on are = record {
     canonical = are.canonical;
     exact = λ a. (
@@ -175,7 +175,7 @@ pub never_cut_from : (given : Given) (space : Space) (r : Region) (a : ℕ) → 
 never_cut_from given space r a off = cut_from_by given space r a ∙ ap (λ b. b && is_isa_port a) off
 
 module _ (given : Given) (space : Space) (r : Region) (whole : List Range) (canonical : IsCanonical whole) (exact : (a : ℕ) → Covers whole a ↔ ((r.first ≤ a) × (a ≤ r.last))) where
-  pub region_cut : (out : List Range) → is_cut_region given space r ≡ true → AreKept whole out → AreAddressesOf given space r out
+  pub region_cut : (out : List Range) → is_cut_region given space r ≡ true → AreLeftByIsa whole out → AreAddressesOf given space r out
   region_cut out on are = record {
     canonical = are.canonical;
     exact = λ a. (

@@ -15,7 +15,7 @@ use Rattle.judge_spec.specs.Claims.{Own, Legacy, Palette, LegacyClaims, PaletteC
 use Rattle.pci_claims.specs.declared.legacy.FixedPart.{FixedPart}
 use Rattle.pci_claims.specs.declared.legacy.FixedPart.TheVariants as fixed
 use Rattle.pci_claims.specs.Gathered.{IsCommon}
-use Rattle.pci_claims.specs.Legacy.{part_of, register_of_part}
+use Rattle.pci_claims.specs.Legacy.{fixed_part_of, register_of_part}
 use Rattle.pci_claims.specs.Passed.{AreClaimedByPart}
 use Rattle.pci_claims.specs.Claim.{IsClaimOfPart}
 use Rattle.pci_claims.proofs.Linking.{claims_by, part_same}
@@ -23,21 +23,21 @@ use Rattle.pci_claims.proofs.RegionClaims.{not_legacy, not_palette}
 
 -- ---- a part as the definitions have it
 
-pub to_claims : (given : Given) (part : FixedPart) (f : Function) (space : Space) (a : ℕ) → IsAddress space a → IsTrue (claims_by given part space a f) → Claims given f (part_of part) space a
+pub to_claims : (given : Given) (part : FixedPart) (f : Function) (space : Space) (a : ℕ) → IsAddress space a → IsTrue (claims_by given part space a f) → Claims given f (fixed_part_of part) space a
 to_claims given fixed.Legacy f space a address claims = record { address = address; claims = claims }
 to_claims given fixed.Palette f space a address claims = record { address = address; claims = claims }
 
-of_claims : (given : Given) (part : FixedPart) (f : Function) (space : Space) (a : ℕ) → Claims given f (part_of part) space a → IsTrue (claims_by given part space a f)
+of_claims : (given : Given) (part : FixedPart) (f : Function) (space : Space) (a : ℕ) → Claims given f (fixed_part_of part) space a → IsTrue (claims_by given part space a f)
 of_claims given fixed.Legacy f space a claims = claims.claims
 of_claims given fixed.Palette f space a claims = claims.claims
 
-its_register : (part : FixedPart) (f : Function) → register_of f (part_of part) ≡ register_of_part part
+its_register : (part : FixedPart) (f : Function) → register_of f (fixed_part_of part) ≡ register_of_part part
 its_register fixed.Legacy f = refl
 its_register fixed.Palette f = refl
 
 -- what its register names is the part
 part_is : (given : Given) (s : System) → IsSystem s → (part : FixedPart) (space : Space) (f : Function) (slot : Slot) → Contains s f → slot ≡ f.slot → (a : ℕ)
-    → ClaimsOnBus given s f.slot.bus (address_in space a) (named_region slot (register_of_part part)) → Claims given f (part_of part) space a
+    → ClaimsOnBus given s f.slot.bus (address_in space a) (named_region slot (register_of_part part)) → Claims given f (fixed_part_of part) space a
 part_is given s sound fixed.Legacy space f slot in_s e a (g, Own part, listed, at, there, named, claims) = absurd (not_legacy g part named)
 part_is given s sound fixed.Legacy space f slot in_s e a (g, Legacy, listed, at, there, named, claims) =
     subst (λ (x : Function). LegacyClaims given x space a) (one_function s sound g f listed in_s (ap slot_number (at ∙ e))) claims
@@ -61,7 +61,7 @@ part_claim given part space r reach own pieces are is = record {
           both.1,
           (
             f,
-            part_of part,
+            fixed_part_of part,
             in_s,
             sym (same_slot_of r f e),
             ap (λ (x : Slot). x.bus) (same_slot_of r f e),

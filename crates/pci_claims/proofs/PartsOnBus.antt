@@ -22,10 +22,10 @@ use Rattle.judge_spec.specs.Claims.{Claims, ClaimsOnBus}
 use Rattle.judge_spec.specs.Claims as spec
 use Rattle.pci_claims.specs.declared.legacy.FixedPart.{FixedPart}
 use Rattle.pci_claims.specs.declared.legacy.FixedPart.TheVariants.{Legacy, Palette}
-use Rattle.pci_claims.specs.Legacy.{part_holds, part_of, bridges_with, register_of_part}
+use Rattle.pci_claims.specs.Legacy.{part_holds, fixed_part_of, bridges_with, register_of_part}
 use Rattle.pci_claims.specs.Passed.{is_part_at, is_piece_at}
 use Rattle.pci_claims.specs.Claim.{Claimed, IsClaimAmong}
-use Rattle.pci_claims.specs.BusClaims.{HasPart, ArePartClaims, AreBridgesOf, AreClaimsOfParts}
+use Rattle.pci_claims.specs.BusClaims.{HasFixedPart, ArePartClaims, AreBridgesOf, AreClaimsOfParts}
 use Rattle.pci_claims.proofs.Linking.{claims_by, part_same}
 
 -- a bridge that claims an address by a part has it
@@ -83,7 +83,7 @@ module _ (given : Given) (t : Tree) (s : System) (tree : HasTree t s) (bus : ℕ
         let both = and_parts (is_some r.bridge && is_on r.command space) (list_any (is_part_at part r.slot space a) (bridges_with given part)) passes in
         let its = same_slot_of r named.f stands.same in
         let (c, there, (q, at, of)) = parts.complete named.f.slot named.has
-        (r, ((stands.has, its, both.0), subst (λ (x : Slot). HasPart given part x) its (has_it (λ (entry : LegacyBridge). part_holds part entry.is_wide space a) r.slot (bridges_with given part) both.1))) in
+        (r, ((stands.has, its, both.0), subst (λ (x : Slot). HasFixedPart given part x) its (has_it (λ (entry : LegacyBridge). part_holds part entry.is_wide space a) r.slot (bridges_with given part) both.1))) in
         (c, there, of.slot ∙ at.0.1 ∙ named.slot_is, of.register ∙ sym named.register_is)
 
   -- ---- both parts
@@ -109,7 +109,7 @@ module _ (given : Given) (t : Tree) (s : System) (tree : HasTree t s) (bus : ℕ
       | inr one ↦ part_claims_it Palette palettes palette c one
     ]
 
-    one_of : (f : Function) (part : FixedPart) (a : ℕ) → Contains s f → f.slot.bus ≡ bus → Claims given f (part_of part) space a
+    one_of : (f : Function) (part : FixedPart) (a : ℕ) → Contains s f → f.slot.bus ≡ bus → Claims given f (fixed_part_of part) space a
         → (c : Claimed) × Contains (legacies ++ palettes) c × (c.slot ≡ f.slot) × (c.register ≡ register_of_part part)
     one_of f Legacy a listed at it =
         let (c, there, slot, register) = part_has Legacy legacies legacy f.slot (register_of_part Legacy) a (named f Legacy a listed at it.claims) in
@@ -122,14 +122,14 @@ module _ (given : Given) (t : Tree) (s : System) (tree : HasTree t s) (bus : ℕ
     parts_made = record { each = each_is; complete = one_of }
 
 -- what a part claims it claims by its name
-pub part_named : (given : Given) (s : System) (bus : ℕ) (f : Function) (part : FixedPart) (space : Space) (a : ℕ) → Contains s f → f.slot.bus ≡ bus → Claims given f (part_of part) space a
+pub part_named : (given : Given) (s : System) (bus : ℕ) (f : Function) (part : FixedPart) (space : Space) (a : ℕ) → Contains s f → f.slot.bus ≡ bus → Claims given f (fixed_part_of part) space a
     → ClaimsOnBus given s bus (address_in space a) (named_region f.slot (register_of_part part))
 part_named given s bus f Legacy space a listed on_bus it = (f, spec.Legacy, listed, refl, on_bus, refl, it)
 part_named given s bus f Palette space a listed on_bus it = (f, spec.Palette, listed, refl, on_bus, refl, it)
 
 -- ---- where no bridge has a part
 
-none_of : (given : Given) (f : Function) (part : FixedPart) (space : Space) (a : ℕ) → given.legacy ≡ [] → given.palette ≡ [] → Claims given f (part_of part) space a → ⊥
+none_of : (given : Given) (f : Function) (part : FixedPart) (space : Space) (a : ℕ) → given.legacy ≡ [] → given.palette ≡ [] → Claims given f (fixed_part_of part) space a → ⊥
 none_of given f Legacy space a no_legacy no_palette it =
     let some = (and_parts (is_bridge f && is_space_on f space) (list_any (is_piece_at f.slot space a) given.legacy) it.claims).1 in
     let no : false ≡ true = subst (λ (l : List LegacyBridge). list_any (is_piece_at f.slot space a) l ≡ true) no_legacy some in

@@ -18,7 +18,7 @@ use Rattle.judge_spec.specs.Told.{IsTold, IsToldRange}
 use Rattle.judge_spec.specs.ToldClaims.{Told, ClaimsOnBus}
 use Rattle.pci_claims.specs.Claim.{Claimed}
 use Rattle.pci_claims.specs.BusClaims.{claim_number}
-use Rattle.pci_claims.specs.AllClaims.{IsPlacedOn, AreClaimsOn, AreClaimsInEach}
+use Rattle.pci_claims.specs.AllClaims.{IsClaimOnBus, AreClaimsOn, AreClaimsInEach}
 use Rattle.pci_claims.specs.RootClaims.{IsClaimSent, AreClaimsOver, AreRootClaimsInEach}
 
 -- a root below a bus
@@ -29,7 +29,7 @@ abbrev pub AreRootClaimsBelow : Told → Given → Tree → Space → ℕ → Li
 AreRootClaimsBelow told given t space n claims = (s : System) → HasTree t s → AreClaimsOver told given (IsRootBelow t.roots n) s space claims
 
 -- a claim of a lower bus has a lower number
-lower_number : (c d : Claimed) → IsPlacedOn c.slot.bus c → c.slot.bus < d.slot.bus → claim_number c < claim_number d
+lower_number : (c d : Claimed) → IsClaimOnBus c.slot.bus c → c.slot.bus < d.slot.bus → claim_number c < claim_number d
 lower_number c d placed less =
     let slot = placed.slot in
     let register = placed.register in

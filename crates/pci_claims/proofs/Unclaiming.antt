@@ -38,7 +38,7 @@ use Rattle.pci_claims.proofs.PartsOnBus.{part_named}
 use Rattle.pci_claims.proofs.RegionClaims.{region_claims_it, left_of_own}
 use Rattle.pci_claims.specs.declared.legacy.FixedPart.{FixedPart}
 use Rattle.pci_claims.specs.declared.legacy.FixedPart.TheVariants.{Legacy, Palette}
-use Rattle.pci_claims.specs.Legacy.{part_of, register_of_part}
+use Rattle.pci_claims.specs.Legacy.{fixed_part_of, register_of_part}
 use Rattle.pci_claims.specs.Isa.{is_cut_region}
 use Rattle.pci_tree.specs.declared.region.Region.{Region}
 use Rattle.pci_tree.specs.Regions.{AreRegionsOf}
@@ -124,7 +124,7 @@ module _ (told : Told) (t : Tree) (on : List Bool) (are_on : AreOnIn told t on) 
     | inr range ↦ inr (range_claims_it told t on are_on s tree is_told bus space stretch is_stretch whole more ranges c range a covered).1
   ]
 
-  part_has_claim : (f : Function) (part : FixedPart) (a : ℕ) → Contains s f → f.slot.bus ≡ bus → untold.Claims given f (part_of part) space a → OneHas IsAnswered (fixed ++ more) a
+  part_has_claim : (f : Function) (part : FixedPart) (a : ℕ) → Contains s f → f.slot.bus ≡ bus → untold.Claims given f (fixed_part_of part) space a → OneHas IsAnswered (fixed ++ more) a
   part_has_claim f part a listed on_bus it =
       let (c, has, at, named) = parts.complete f part a listed on_bus it in
       let region = part_named given s bus f part space a listed on_bus it in (

@@ -25,7 +25,7 @@ IsClaimWith told given roots s bus space c =
     (named_region c.slot c.register))
 
 -- the claim has a slot of the bus, and the offset of a register or the number of a told range
-pub record IsPlacedOn (bus : ℕ) (c : Claimed) : Type 0 where
+pub record IsClaimOnBus (bus : ℕ) (c : Claimed) : Type 0 where
   pub slot : IsSlot c.slot
   pub on_bus : c.slot.bus ≡ bus
   pub register : c.register < 8192
@@ -39,7 +39,7 @@ pub record AreClaimsOn (told : Told) (given : Given) (roots : List ℕ) (s : Sys
       → (c : Claimed) × Contains claims c × (c.slot ≡ slot) × (c.register ≡ register)
   pub rising : AllPairs (λ c d. claim_number c < claim_number d) claims
   -- also of a claim that answers no address
-  pub placed : (c : Claimed) → Contains claims c → IsPlacedOn bus c
+  pub placed : (c : Claimed) → Contains claims c → IsClaimOnBus bus c
   pub held : (c : Claimed) → Contains claims c → c.held ≡ is_held told c.register
   -- no bridge leads to a root bus, so what gets there is what the host sends to it
   pub sent : Contains roots bus → (c : Claimed) → Contains claims c → (a : ℕ) → Covers c.pieces a
@@ -51,7 +51,7 @@ AreClaimsInEach told given t bus space claims =
     (s : System) → HasTree t s → AreClaimsOn told given t.roots s bus space claims
 
 -- what claims are looked for in: ranges of a text with whether each is on, and the slots of all bridges
-pub record IsBoard (told : Told) (t : Tree) (on : List Bool) (bridges : List Slot) : Type 0 where
+pub record IsClaimsBoard (told : Told) (t : Tree) (on : List Bool) (bridges : List Slot) : Type 0 where
   pub lawful : IsTold told.ranges
   pub each_on : AreOnIn told t on
   pub all_bridges : AreBridgesOf t bridges

@@ -18,7 +18,7 @@ use Rattle.judge_spec.specs.Given.{Given, starts}
 use Rattle.judge_spec.specs.Claims.{Claims, ClaimsOnBus}
 use Rattle.judge_spec.specs.ToldAllFaults.{region_number}
 use Rattle.pci_claims.specs.declared.legacy.FixedPart.{FixedPart}
-use Rattle.pci_claims.specs.Legacy.{bridges_with, part_of, register_of_part}
+use Rattle.pci_claims.specs.Legacy.{bridges_with, fixed_part_of, register_of_part}
 use Rattle.pci_claims.specs.Claim.{Claimed, IsClaimOn, IsClaimAmong, IsClaimOfRegion, IsClaimOfPart}
 use Rattle.pci_claims.specs.Made.{AreOneEach}
 
@@ -70,7 +70,7 @@ pub record AreClaimsOfParts (given : Given) (s : System) (bus : ℕ) (space : Sp
     (reach : List Range) (claims : List Claimed) : Type 0 where
   pub each : (c : Claimed) → Contains claims c → IsClaimAmong given s bus space reach c
   pub complete : (f : Function) (part : FixedPart) (a : ℕ) → Contains s f → f.slot.bus ≡ bus
-      → Claims given f (part_of part) space a
+      → Claims given f (fixed_part_of part) space a
       → (c : Claimed) × Contains claims c × (c.slot ≡ f.slot) × (c.register ≡ register_of_part part)
 
 -- the regions of a bus and a space that address registers show, and of some bridges those of the bus
@@ -97,14 +97,14 @@ IsAnsweringBridge records space slot r =
     Contains records r × (r.slot ≡ slot) × IsTrue (is_some r.bridge && is_on r.command space)
 
 -- the bridge at a slot has the part
-abbrev pub HasPart : Given → FixedPart → Slot → Type 0
-HasPart given part slot =
+abbrev pub HasFixedPart : Given → FixedPart → Slot → Type 0
+HasFixedPart given part slot =
     IsTrue (list_any (λ entry. same_slot entry.slot slot) (bridges_with given part))
 
 -- the record is of such a bridge with the part
 abbrev pub IsAnsweringPart : Given → FixedPart → List Record → Space → Slot → Record → Type 0
 IsAnsweringPart given part records space slot r =
-    IsAnsweringBridge records space slot r × HasPart given part slot
+    IsAnsweringBridge records space slot r × HasFixedPart given part slot
 
 abbrev pub IsPartClaimAt : Given → FixedPart → Space → List Record → List Range → Slot → Claimed
     → Type 0

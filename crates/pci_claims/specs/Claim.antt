@@ -50,13 +50,13 @@ IsClaimAmong given s bus space reach c =
     (named_region c.slot c.register))
 
 -- whether the first is of a held range, and the second of another one, or of a region of the same function
-abbrev pub is_held_beside : Claimed → Claimed → Bool
-is_held_beside c d = c.held && (d.held || same_slot c.slot d.slot)
+abbrev pub is_held_claim_beside : Claimed → Claimed → Bool
+is_held_claim_beside c d = c.held && (d.held || same_slot c.slot d.slot)
 
 -- whether two may have one address
 abbrev pub may_both_claim : Claimed → Claimed → Bool
 may_both_claim c d =
-    may_share c.slot c.register d.slot d.register || is_held_beside c d || is_held_beside d c
+    may_share c.slot c.register d.slot d.register || is_held_claim_beside c d || is_held_claim_beside d c
 
 -- both answer an address that they may not share
 pub record AreAtOdds (c d : Claimed) (a : ℕ) : Type 0 where

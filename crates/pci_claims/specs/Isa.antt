@@ -28,6 +28,6 @@ pub record ArePortsKept (last : ℕ) (out : List Range) : Type 0 where
   pub exact : (a : ℕ) → a ≤ last → Covers out a ↔ IsFalse (is_isa_port a)
 
 -- the addresses of some ranges that ISA Enable leaves
-pub record AreKept (rs out : List Range) : Type 0 where
+pub record AreLeftByIsa (rs out : List Range) : Type 0 where
   pub canonical : IsCanonical out
   pub exact : (a : ℕ) → Covers out a ↔ (Covers rs a × IsFalse (is_isa_port a))

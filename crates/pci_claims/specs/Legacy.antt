@@ -12,9 +12,9 @@ use Rattle.pci_claims.specs.declared.legacy.FixedPart.TheVariants.{Legacy, Palet
 -- ---- either part
 
 -- the part as the definitions have it
-abbrev pub part_of : FixedPart → spec.Part
-part_of Legacy = spec.Legacy
-part_of Palette = spec.Palette
+abbrev pub fixed_part_of : FixedPart → spec.Part
+fixed_part_of Legacy = spec.Legacy
+fixed_part_of Palette = spec.Palette
 
 -- the register that names it
 abbrev pub register_of_part : FixedPart → ℕ

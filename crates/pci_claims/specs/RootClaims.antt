@@ -11,7 +11,7 @@ use Rattle.judge_spec.specs.Given.{Given, starts}
 use Rattle.judge_spec.specs.ToldClaims.{Told, ClaimsOnBus, is_held}
 use Rattle.pci_claims.specs.Claim.{Claimed}
 use Rattle.pci_claims.specs.BusClaims.{claim_number}
-use Rattle.pci_claims.specs.AllClaims.{IsPlacedOn}
+use Rattle.pci_claims.specs.AllClaims.{IsClaimOnBus}
 
 -- its addresses are just those of the space that the region claims, and that the host sends to its bus
 abbrev pub IsClaimSent : Told → Given → System → Space → Claimed → Type 0
@@ -24,7 +24,7 @@ IsClaimSent told given s space c =
 pub record AreClaimsOver (told : Told) (given : Given) (IsOne : ℕ → Type 0) (s : System)
     (space : Space) (claims : List Claimed) : Type 0 where
   pub one : (c : Claimed) → Contains claims c → IsOne c.slot.bus
-  pub placed : (c : Claimed) → Contains claims c → IsPlacedOn c.slot.bus c
+  pub placed : (c : Claimed) → Contains claims c → IsClaimOnBus c.slot.bus c
   pub held : (c : Claimed) → Contains claims c → c.held ≡ is_held told c.register
   pub each : (c : Claimed) → Contains claims c → IsClaimSent told given s space c
   pub complete : (slot : Slot) (register a : ℕ) → IsOne slot.bus

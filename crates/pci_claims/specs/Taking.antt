@@ -13,7 +13,7 @@ use Rattle.judge_spec.specs.Claims.{Claims}
 use Rattle.judge_spec.specs.ToldClaims.{Told, ClaimsOnBus, RangeClaimsOnBus}
 use Rattle.judge_spec.specs.Unclaimed.{IsUnclaimedOn}
 use Rattle.pci_claims.specs.declared.legacy.FixedPart.{FixedPart}
-use Rattle.pci_claims.specs.Legacy.{part_of}
+use Rattle.pci_claims.specs.Legacy.{fixed_part_of}
 use Rattle.pci_claims.specs.Claim.{Claimed, is_cut_from}
 
 -- one of a list has the address
@@ -40,7 +40,7 @@ pub record AreOtherClaimsOn (told : Told) (given : Given) (s : System) (bus : �
   pub each : (c : Claimed) (a : ℕ) → Contains claims c → IsAnswered c a
       → ClaimsOnBus told given s bus (address_in space a) (named_region c.slot c.register)
   pub parts : (f : Function) (part : FixedPart) (a : ℕ) → Contains s f → f.slot.bus ≡ bus
-      → Claims given f (part_of part) space a → OneHas IsAnswered claims a
+      → Claims given f (fixed_part_of part) space a → OneHas IsAnswered claims a
   pub ranges : (region : RegionName) (a : ℕ)
       → RangeClaimsOnBus told s bus (address_in space a) region → OneHas IsAnswered claims a
 

@@ -23,8 +23,8 @@ taking_value b = record {
   memory = map decoded_range_of b.memory.now;
 }
 
-abbrev pub given_value : Given → spec.Given
-given_value g = record {
+abbrev pub code_given_value : Given → spec.Given
+code_given_value g = record {
   io = option_map (λ rs. map host_value rs.now) g.io;
   memory = option_map (λ rs. map host_value rs.now) g.memory;
   legacy = map legacy_value g.legacy.now;

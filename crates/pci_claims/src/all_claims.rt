@@ -4,9 +4,9 @@ ghost use Rattle.std.specs.List.{AllWithin};
 ghost use Rattle.pci_base.specs.Space.{space_of};
 ghost use Rattle.pci_tree.specs.Ranges.{IsCanonical};
 ghost use Rattle.judge_spec.specs.Told.{IsTold};
-ghost use Rattle.pci_claims.specs.Values.{given_value, told_value};
+ghost use Rattle.pci_claims.specs.Values.{code_given_value, told_value};
 ghost use Rattle.pci_claims.specs.BusClaims.{AreMoreClaims};
-ghost use Rattle.pci_claims.specs.AllClaims.{AreClaimsInEach, IsBoard, IsStretchOf, AreRangeClaims};
+ghost use Rattle.pci_claims.specs.AllClaims.{AreClaimsInEach, IsClaimsBoard, IsStretchOf, AreRangeClaims};
 
 use super::board::Board;
 use super::bus_claims::{register_claims, sort};
@@ -94,10 +94,10 @@ pub fn claims_among<A: Allocator + Copy>(
     space: Space,
 ) -> Result<Vec<Claim<A>, A>, OutOfMemory>
     // looked for once, for all buses
-    requires { IsBoard (told_value board.now.told) board.now.outline.now board.now.on.now
+    requires { IsClaimsBoard (told_value board.now.told) board.now.outline.now board.now.on.now
         board.now.bridges.now }
     ensures { IfOk result (λ v. AreClaimsInEach (told_value board.now.told)
-        (given_value board.now.given) board.now.outline.now bus (space_of space) v.items) }
+        (code_given_value board.now.given) board.now.outline.now bus (space_of space) v.items) }
 {
     let mut claims = register_claims(alloc, board, bus, space)?;
     let stretch = ranges_of(board.told.ranges, bus);

@@ -11,8 +11,8 @@ ghost use Rattle.pci_tree.specs.Ranges.{Covers, IsCanonical};
 ghost use Rattle.pci_tree.specs.Outline.{RiseBySlot};
 ghost use Rattle.pci_tree.specs.Trees.{HasTree};
 ghost use Rattle.pci_function.specs.declared.record.Record.{Record as RecordValue};
-ghost use Rattle.pci_claims.specs.Values.{given_value};
-ghost use Rattle.pci_claims.specs.BusClaims.{claim_number, HasPart, IsAnsweringPart, AreOnBus, AreRegionClaims, ArePartClaims, AreMoreClaims, AreBridgesOf, AreRegisterClaimsAmong, AreClaimsOfParts, AreRegisterClaimsInEach};
+ghost use Rattle.pci_claims.specs.Values.{code_given_value};
+ghost use Rattle.pci_claims.specs.BusClaims.{claim_number, HasFixedPart, IsAnsweringPart, AreOnBus, AreRegionClaims, ArePartClaims, AreMoreClaims, AreBridgesOf, AreRegisterClaimsAmong, AreClaimsOfParts, AreRegisterClaimsInEach};
 
 use super::board::Board;
 use super::claim::{Arriving, Claim, claim_of, claim_of_part};
@@ -45,7 +45,7 @@ fn region_claims<A: Allocator + Copy>(
     arriving: &Arriving,
 ) -> Result<Vec<Claim<A>, A>, OutOfMemory>
     requires { IsCanonical arriving.now.reach.now }
-    ensures { IfOk result (λ v. AreRegionClaims (given_value given.now)
+    ensures { IfOk result (λ v. AreRegionClaims (code_given_value given.now)
         (space_of arriving.now.space) regions.now arriving.now.reach.now v.items) }
 {
     let space = arriving.space;
@@ -67,7 +67,7 @@ fn is_at(entry: &LegacyBridge, slot: Slot) -> bool
 
 /// Whether the bridge at a slot has a part.
 fn has_part(given: &Given<'_>, part: FixedPart, slot: Slot) -> bool
-    ensures { IsTrue result ↔ HasPart (given_value given.now) part slot }
+    ensures { IsTrue result ↔ HasFixedPart (code_given_value given.now) part slot }
 {
     for entry in bridges_with(given, part) {
         if is_at(entry, slot) {
@@ -88,8 +88,8 @@ fn answering<'r>(
     // found by halving
     requires { RiseBySlot records.now }
     ensures { MatchOption result ((r : RecordValue)
-        → IsAnsweringPart (given_value given.now) part records.now (space_of space) slot r → ⊥)
-        (λ r. IsAnsweringPart (given_value given.now) part records.now (space_of space) slot r.now) }
+        → IsAnsweringPart (code_given_value given.now) part records.now (space_of space) slot r → ⊥)
+        (λ r. IsAnsweringPart (code_given_value given.now) part records.now (space_of space) slot r.now) }
 {
     if !has_part(given, part, slot) {
         return None;
@@ -115,7 +115,7 @@ fn add_part_claims<A: Allocator + Copy>(
     // found by halving
     requires rising { RiseBySlot bridges.now.records.now }
     requires canonical { IsCanonical arriving.now.reach.now }
-    ensures { OnOk result (AreMoreClaims (ArePartClaims (given_value given.now) part
+    ensures { OnOk result (AreMoreClaims (ArePartClaims (code_given_value given.now) part
         (space_of arriving.now.space) bridges.now.records.now arriving.now.reach.now
         bridges.now.slots.now) claims.old.items claims.new.items) }
 {
@@ -183,7 +183,7 @@ fn claims_arriving<A: Allocator + Copy>(
     ensures claims { IfOk result (λ v. (s : System) → HasTree board.now.outline.now s → (bus : ℕ)
         → AreOnBus s bus (space_of arriving.now.space) board.now.bridges.now here.now.regions.now here.now.bridges.now
         → ((a : ℕ) → Covers arriving.now.reach.now a → IsAddress (space_of arriving.now.space) a)
-        → AreRegisterClaimsAmong (given_value board.now.given) s bus (space_of arriving.now.space)
+        → AreRegisterClaimsAmong (code_given_value board.now.given) s bus (space_of arriving.now.space)
         arriving.now.reach.now v.items) }
     // handed on with them: no bridge leads to a root bus
     ensures nested { (s : System) → HasRecords s board.now.outline.now.records
@@ -211,7 +211,7 @@ pub(crate) fn part_claims<A: Allocator + Copy>(
     requires bridges { AreBridgesOf board.now.outline.now board.now.bridges.now }
     ensures { IfOk result (λ v. (s : System) → HasTree board.now.outline.now s
         → ((a : ℕ) → Covers arriving.now.reach.now a → IsAddress (space_of arriving.now.space) a)
-        → AreClaimsOfParts (given_value board.now.given) s bus (space_of arriving.now.space)
+        → AreClaimsOfParts (code_given_value board.now.given) s bus (space_of arriving.now.space)
         arriving.now.reach.now v.items) }
 {
     let given = &board.given;
@@ -239,7 +239,7 @@ pub(crate) fn register_claims<A: Allocator + Copy>(
 ) -> Result<Vec<Claim<A>, A>, OutOfMemory>
     // looked for once, for all buses
     requires { AreBridgesOf board.now.outline.now board.now.bridges.now }
-    ensures { IfOk result (λ v. AreRegisterClaimsInEach (given_value board.now.given)
+    ensures { IfOk result (λ v. AreRegisterClaimsInEach (code_given_value board.now.given)
         board.now.outline.now bus (space_of space) v.items) }
 {
     let outline = board.outline;

@@ -4,10 +4,10 @@ ghost use Rattle.pci_base.specs.Space.{space_of};
 ghost use Rattle.pci_tree.specs.Ranges.{Covers, IsCanonical};
 ghost use Rattle.judge_spec.specs.Claims.{is_window_register, is_fixed_register, are_together, may_share};
 ghost use Rattle.judge_spec.specs.ToldAllFaults.{region_number};
-ghost use Rattle.pci_claims.specs.Values.{given_value};
+ghost use Rattle.pci_claims.specs.Values.{code_given_value};
 ghost use Rattle.pci_claims.specs.BusClaims.{claim_number};
 ghost use Rattle.pci_claims.specs.AllClaims.{IsClaimOfRange};
-ghost use Rattle.pci_claims.specs.Claim.{ShareNoAddress, AreAtOdds, IsLeastAtOdds, IsLeastCommon, AreAddressesOf, IsClaimOfRegion, IsLegacyOf, IsPaletteOf, IsClaimOfPart, is_held_beside, may_both_claim};
+ghost use Rattle.pci_claims.specs.Claim.{ShareNoAddress, AreAtOdds, IsLeastAtOdds, IsLeastCommon, AreAddressesOf, IsClaimOfRegion, IsLegacyOf, IsPaletteOf, IsClaimOfPart, is_held_claim_beside, may_both_claim};
 
 use super::gather::common;
 use super::given::Given;
@@ -120,7 +120,7 @@ pub fn own<A: Allocator + Copy>(
     region: &Region,
     space: Space,
 ) -> Result<Vec<Range, A>, OutOfMemory>
-    ensures { IfOk result (λ v. AreAddressesOf (given_value given.now) (space_of space) region.now v.items) }
+    ensures { IfOk result (λ v. AreAddressesOf (code_given_value given.now) (space_of space) region.now v.items) }
 {
     let whole = addresses(alloc, region.first, region.last)?;
     if is_cut(given, space, region) {
@@ -140,7 +140,7 @@ pub fn claim_of<A: Allocator + Copy>(
 ) -> Result<Claim<A>, OutOfMemory>
     // two rising lists have in common what one walk along both meets
     requires { IsCanonical reach.now }
-    ensures { IfOk result (λ c. IsClaimOfRegion (given_value given.now) (space_of space) region.now
+    ensures { IfOk result (λ c. IsClaimOfRegion (code_given_value given.now) (space_of space) region.now
         reach.now c) }
 {
     let own = own(alloc, given, region, space)?;
@@ -160,7 +160,7 @@ pub fn legacy_of<A: Allocator + Copy>(
     function: &Record,
     space: Space,
 ) -> Result<Vec<Range, A>, OutOfMemory>
-    ensures { IfOk result (λ v. IsLegacyOf (given_value given.now) (space_of space) function.now v.items) }
+    ensures { IfOk result (λ v. IsLegacyOf (code_given_value given.now) (space_of space) function.now v.items) }
 {
     claimed_by_part(alloc, given, FixedPart::Legacy, function, space)
 }
@@ -171,7 +171,7 @@ pub fn palette_of<A: Allocator + Copy>(
     given: &Given<'_>,
     function: &Record,
 ) -> Result<Vec<Range, A>, OutOfMemory>
-    ensures { IfOk result (λ v. IsPaletteOf (given_value given.now) function.now v.items) }
+    ensures { IfOk result (λ v. IsPaletteOf (code_given_value given.now) function.now v.items) }
 {
     claimed_by_part(alloc, given, FixedPart::Palette, function, Space::Io)
 }
@@ -186,7 +186,7 @@ pub(crate) fn claim_of_part<A: Allocator + Copy>(
 ) -> Result<Claim<A>, OutOfMemory>
     // two rising lists have in common what one walk along both meets
     requires { IsCanonical arriving.now.reach.now }
-    ensures { IfOk result (λ c. IsClaimOfPart (given_value given.now) part
+    ensures { IfOk result (λ c. IsClaimOfPart (code_given_value given.now) part
         (space_of arriving.now.space) function.now arriving.now.reach.now c) }
 {
     let own = claimed_by_part(alloc, given, part, function, arriving.space)?;
@@ -297,7 +297,7 @@ pub fn is_same(first: Slot, first_register: u16, second: Slot, second_register: 
 
 /// Whether the first of two claims is of a held range, and the second of another one, or of a region of the same function.
 fn is_held_beside<A: Allocator>(first: &Claim<A>, second: &Claim<A>) -> bool
-    ensures { result ≡ is_held_beside first.now second.now }
+    ensures { result ≡ is_held_claim_beside first.now second.now }
 {
     first.is_held && (second.is_held || first.slot == second.slot)
 }

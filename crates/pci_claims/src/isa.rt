@@ -3,8 +3,8 @@ ghost use Rattle.std.specs.Prelude.{◌≡◌, ◌≤◌, IfOk};
 ghost use Rattle.pci_base.specs.Space.{space_of};
 ghost use Rattle.pci_tree.specs.Ranges.{IsCanonical};
 ghost use Rattle.judge_spec.specs.Given.{has_isa, is_isa_port};
-ghost use Rattle.pci_claims.specs.Values.{given_value};
-ghost use Rattle.pci_claims.specs.Isa.{cuts, is_cut_region, ArePortBlocks, ArePortsKept, AreKept};
+ghost use Rattle.pci_claims.specs.Values.{code_given_value};
+ghost use Rattle.pci_claims.specs.Isa.{cuts, is_cut_region, ArePortBlocks, ArePortsKept, AreLeftByIsa};
 
 use super::gather::common;
 use super::given::Given;
@@ -24,7 +24,7 @@ const CUT_END: u64 = 0x1_0000;
 
 /// Whether a bridge has ISA Enable.
 pub fn has_isa(given: &Given<'_>, slot: Slot) -> bool
-    ensures { result ≡ has_isa (given_value given.now) slot }
+    ensures { result ≡ has_isa (code_given_value given.now) slot }
 {
     for other in given.isa {
         if *other == slot {
@@ -36,7 +36,7 @@ pub fn has_isa(given: &Given<'_>, slot: Slot) -> bool
 
 /// Whether ISA Enable takes addresses of a space from the windows of a bridge.
 pub fn cuts(given: &Given<'_>, space: Space, slot: Slot) -> bool
-    ensures { result ≡ cuts (given_value given.now) (space_of space) slot }
+    ensures { result ≡ cuts (code_given_value given.now) (space_of space) slot }
 {
     match space {
         Space::Io => has_isa(given, slot),
@@ -46,7 +46,7 @@ pub fn cuts(given: &Given<'_>, space: Space, slot: Slot) -> bool
 
 /// Whether ISA Enable takes addresses of a space from a region: from a window of a bridge that has it.
 pub fn is_cut(given: &Given<'_>, space: Space, region: &Region) -> bool
-    ensures { result ≡ is_cut_region (given_value given.now) (space_of space) region.now }
+    ensures { result ≡ is_cut_region (code_given_value given.now) (space_of space) region.now }
 {
     region.part == Part::Window && cuts(given, space, region.slot)
 }
@@ -93,7 +93,7 @@ fn ports_kept<A: Allocator>(alloc: A, last: u64) -> Result<Vec<Range, A>, OutOfM
 pub fn kept<A: Allocator + Copy>(alloc: A, ranges: &[Range]) -> Result<Vec<Range, A>, OutOfMemory>
     // the last range has the last address
     requires { IsCanonical ranges.now }
-    ensures { IfOk result (λ v. AreKept ranges.now v.items) }
+    ensures { IfOk result (λ v. AreLeftByIsa ranges.now v.items) }
 {
     if ranges.is_empty() {
         return Ok(Vec::new(alloc));

@@ -2,7 +2,7 @@
 ghost use Rattle.std.specs.Prelude.{◌≡◌, ◌+◌, ◌<◌, ◌≤◌, map, IfOk};
 ghost use Rattle.pci_spec.specs.System.{Io};
 ghost use Rattle.pci_base.specs.Space.{space_of};
-ghost use Rattle.pci_claims.specs.Values.{given_value, legacy_value};
+ghost use Rattle.pci_claims.specs.Values.{code_given_value, legacy_value};
 ghost use Rattle.pci_claims.specs.Legacy.{register_of_part, bridges_with, ArePartPieces, ArePieces, ArePalettePieces, blocks_of, ArePorts};
 
 use super::given::{Given, LegacyBridge};
@@ -33,7 +33,7 @@ pub fn register_of(part: FixedPart) -> u8
 
 /// The bridges that have the part.
 pub fn bridges_with<'a>(given: &Given<'a>, part: FixedPart) -> &'a [LegacyBridge]
-    ensures { map legacy_value result.now ≡ bridges_with (given_value given.now) part }
+    ensures { map legacy_value result.now ≡ bridges_with (code_given_value given.now) part }
 {
     match part {
         FixedPart::Legacy => given.legacy,

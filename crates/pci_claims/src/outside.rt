@@ -2,7 +2,7 @@
 ghost use Rattle.std.specs.Prelude.{ℕ, IfOk, MatchOption};
 ghost use Rattle.pci_base.specs.Space.{space_of};
 ghost use Rattle.pci_tree.specs.Ranges.{Holds};
-ghost use Rattle.pci_claims.specs.Values.{given_value};
+ghost use Rattle.pci_claims.specs.Values.{code_given_value};
 ghost use Rattle.pci_claims.specs.Outside.{IsSent, IsLeastUnsent, IsRootOfPath};
 
 use super::given::Given;
@@ -23,8 +23,8 @@ pub fn least_unsent<A: Allocator + Copy>(
     range: Range,
 ) -> Result<Option<u64>, OutOfMemory>
     ensures { IfOk result (λ o. MatchOption o ((a : ℕ) → Holds range a
-        → IsSent (given_value given.now) (space_of space) root a)
-        (λ a. IsLeastUnsent (given_value given.now) (space_of space) root range a)) }
+        → IsSent (code_given_value given.now) (space_of space) root a)
+        (λ a. IsLeastUnsent (code_given_value given.now) (space_of space) root range a)) }
 {
     if range.last < range.first {
         return Ok(None);

@@ -6,7 +6,7 @@ ghost use Rattle.pci_base.specs.Space.{space_of, is_on};
 ghost use Rattle.pci_base.specs.WindowKinds.{kind_value};
 ghost use Rattle.pci_tree.specs.Ranges.{IsCanonical};
 ghost use Rattle.pci_tree.specs.Reaches.{HasSpans};
-ghost use Rattle.pci_claims.specs.Values.{given_value};
+ghost use Rattle.pci_claims.specs.Values.{code_given_value};
 ghost use Rattle.pci_claims.specs.Gathered.{AreLawfulBehind};
 ghost use Rattle.pci_claims.specs.Passed.{ArePiecesOf, AreTakenPieces, ArePassedElse, ArePassedByWindows, ArePassed, IsPassedBy, AreClaimedByPart, AreForwarded, through_space, AreLet, IsLetOn};
 
@@ -116,7 +116,7 @@ fn passed_by_windows<A: Allocator + Copy>(
 ) -> Result<Vec<Range, A>, OutOfMemory>
     requires { HasSpans function.now }
     ensures { IfOk result
-        (λ v. ArePassedByWindows (given_value given.now) (kind_value kind) function.now v.items) }
+        (λ v. ArePassedByWindows (code_given_value given.now) (kind_value kind) function.now v.items) }
 {
     let windows = passed_by(alloc, function, kind)?;
     if cuts(given, Space::of(kind), function.slot) {
@@ -134,7 +134,7 @@ fn passed_else<A: Allocator + Copy>(
     space: Space,
 ) -> Result<Vec<Range, A>, OutOfMemory>
     ensures { IfOk result
-        (λ v. ArePassedElse (given_value given.now) slot (space_of space) v.items) }
+        (λ v. ArePassedElse (code_given_value given.now) slot (space_of space) v.items) }
 {
     let mut ranges = pieces_of(alloc, FixedPart::Legacy, given.legacy, slot, space)?;
     let taken = taken_of(alloc, given.unclaimed, slot, space)?;
@@ -153,9 +153,9 @@ pub fn passed_with<A: Allocator + Copy>(
     // of an empty window no address could be told
     requires { HasSpans function.now }
     ensures record { IfOk result
-        (λ v. ArePassed (given_value given.now) (kind_value kind) function.now v.items) }
+        (λ v. ArePassed (code_given_value given.now) (kind_value kind) function.now v.items) }
     ensures bridge { IfOk result
-        (λ v. IsPassedBy (given_value given.now) (kind_value kind) function.now v.items) }
+        (λ v. IsPassedBy (code_given_value given.now) (kind_value kind) function.now v.items) }
 {
     let mut ranges = passed_by_windows(alloc, given, function, kind)?;
     let space = Space::of(kind);
@@ -176,7 +176,7 @@ pub fn claimed_by_part<A: Allocator + Copy>(
     space: Space,
 ) -> Result<Vec<Range, A>, OutOfMemory>
     ensures { IfOk result
-        (λ v. AreClaimedByPart (given_value given.now) part (space_of space) function.now v.items) }
+        (λ v. AreClaimedByPart (code_given_value given.now) part (space_of space) function.now v.items) }
 {
     if is_bridge_on(function, space) {
         let entries = bridges_with(given, part);
@@ -197,7 +197,7 @@ fn forwarded_with<A: Allocator + Copy>(
     // as what it passes
     requires { HasSpans function.now }
     ensures { IfOk result
-        (λ v. AreForwarded (given_value given.now) (space_of space) function.now v.items) }
+        (λ v. AreForwarded (code_given_value given.now) (space_of space) function.now v.items) }
 {
     let mut ranges = passed_with(alloc, given, function, space.furthest())?;
     let palette = claimed_by_part(alloc, given, FixedPart::Palette, function, space)?;
@@ -218,7 +218,7 @@ fn let_by<A: Allocator + Copy>(
 ) -> Result<Vec<Range, A>, OutOfMemory>
     // of an empty window no address could be told
     requires { HasSpans function.now }
-    ensures { IfOk result (λ v. AreLet (given_value given.now) through function.now v.items) }
+    ensures { IfOk result (λ v. AreLet (code_given_value given.now) through function.now v.items) }
 {
     match through {
         Through::Regions(kind) => passed_with(alloc, given, function, kind),
@@ -238,7 +238,7 @@ pub fn passed_on<A: Allocator + Copy>(
     requires canonical { IsCanonical above.now }
     // an empty window would be an empty range, which no such list has
     requires spans { HasSpans function.now }
-    ensures { IfOk result (λ v. IsLetOn (given_value given.now) through above.now function.now v.items) }
+    ensures { IfOk result (λ v. IsLetOn (code_given_value given.now) through above.now function.now v.items) }
 {
     let here = let_by(alloc, given, function, through)?;
     common(alloc, above, &here)

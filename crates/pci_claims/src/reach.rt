@@ -11,7 +11,7 @@ ghost use Rattle.pci_tree.specs.Ranges.{IsCanonical};
 ghost use Rattle.pci_tree.specs.Reaches.{HasSpans};
 ghost use Rattle.pci_tree.specs.Ways.{IsBridgeIn, bus_behind};
 ghost use Rattle.pci_function.specs.declared.record.Record.{Record as RecordValue};
-ghost use Rattle.pci_claims.specs.Values.{given_value};
+ghost use Rattle.pci_claims.specs.Values.{code_given_value};
 ghost use Rattle.pci_claims.specs.Reached.{IsReachAlong, IsReachThroughInEach, IsReachInEach, IsAccessReachInEach};
 
 use super::given::Given;
@@ -47,7 +47,7 @@ fn reach_along<A: Allocator + Copy>(
     requires rising { RiseBySlot records.now }
     // of an empty window no address could be told
     requires spans { All HasSpans records.now }
-    ensures { IfOk result (λ v. IsReachAlong (given_value given.now) through records.now way.now.root
+    ensures { IfOk result (λ v. IsReachAlong (code_given_value given.now) through records.now way.now.root
         way.now.bridges.now v.items) }
 {
     let mut reach = sent_to(alloc, given, space_through(through), way.root)?;
@@ -71,7 +71,7 @@ fn reach_through<A: Allocator + Copy>(
     ensures canonical { IfOk result (λ o. IfSome o (λ v. IsCanonical v.items)) }
     ensures exact { IfOk result (λ o. MatchOption o
         (Contains (map (λ r. r.slot) outline.now.records) slot → ⊥)
-        (λ v. IsReachThroughInEach (given_value given.now) outline.now through slot.bus v.items)) }
+        (λ v. IsReachThroughInEach (code_given_value given.now) outline.now through slot.bus v.items)) }
 {
     match outline.path(slot) {
         None => Ok(None),
@@ -101,7 +101,7 @@ pub fn reach_of<A: Allocator + Copy>(
     ensures canonical { IfOk result (λ o. IfSome o (λ v. IsCanonical v.items)) }
     ensures exact { IfOk result (λ o. MatchOption o
         (Contains (map (λ r. r.slot) outline.now.records) slot → ⊥)
-        (λ v. IsReachInEach (given_value given.now) outline.now (kind_value kind) slot.bus v.items)) }
+        (λ v. IsReachInEach (code_given_value given.now) outline.now (kind_value kind) slot.bus v.items)) }
 {
     reach_through(alloc, given, outline, slot, Through::Regions(kind))
 }
@@ -119,7 +119,7 @@ pub fn access_reach<A: Allocator + Copy>(
     ensures canonical { IfOk result (λ o. IfSome o (λ v. IsCanonical v.items)) }
     ensures exact { IfOk result (λ o. MatchOption o
         (Contains (map (λ r. r.slot) outline.now.records) slot → ⊥)
-        (λ v. IsAccessReachInEach (given_value given.now) outline.now (space_of space) slot.bus
+        (λ v. IsAccessReachInEach (code_given_value given.now) outline.now (space_of space) slot.bus
         v.items)) }
 {
     reach_through(alloc, given, outline, slot, Through::Accesses(space))
@@ -152,7 +152,7 @@ pub fn reach_to<A: Allocator + Copy>(
 ) -> Result<Vec<Range, A>, OutOfMemory>
     // claims are cut down to them by halving
     ensures canonical { IfOk result (λ v. IsCanonical v.items) }
-    ensures exact { IfOk result (λ v. IsAccessReachInEach (given_value given.now) outline.now
+    ensures exact { IfOk result (λ v. IsAccessReachInEach (code_given_value given.now) outline.now
         (space_of space) bus v.items) }
     // handed on with them: no bridge leads to a root bus
     ensures nested { (s : System) → HasRecords s outline.now.records → IsNested outline.now.roots s }

@@ -1,8 +1,8 @@
 //! The claims of all root buses.
 ghost use Rattle.std.specs.Prelude.{IfOk};
 ghost use Rattle.pci_base.specs.Space.{space_of};
-ghost use Rattle.pci_claims.specs.Values.{given_value, told_value};
-ghost use Rattle.pci_claims.specs.AllClaims.{IsBoard};
+ghost use Rattle.pci_claims.specs.Values.{code_given_value, told_value};
+ghost use Rattle.pci_claims.specs.AllClaims.{IsClaimsBoard};
 ghost use Rattle.pci_claims.specs.RootClaims.{AreRootClaimsInEach};
 
 use super::all_claims::claims_among;
@@ -20,10 +20,10 @@ pub fn claims_of_roots<A: Allocator + Copy>(
     space: Space,
 ) -> Result<Vec<Claim<A>, A>, OutOfMemory>
     // looked for once, for all buses
-    requires { IsBoard (told_value board.now.told) board.now.outline.now board.now.on.now
+    requires { IsClaimsBoard (told_value board.now.told) board.now.outline.now board.now.on.now
         board.now.bridges.now }
     ensures { IfOk result (λ v. AreRootClaimsInEach (told_value board.now.told)
-        (given_value board.now.given) board.now.outline.now (space_of space) v.items) }
+        (code_given_value board.now.given) board.now.outline.now (space_of space) v.items) }
 {
     let roots = board.outline.roots();
     let mut all = Vec::new(alloc);

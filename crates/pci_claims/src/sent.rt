@@ -5,7 +5,7 @@ ghost use Rattle.pci_tree.specs.Ranges.{Holds};
 ghost use Rattle.pci_base.specs.Space.{space_of};
 ghost use Rattle.judge_spec.specs.Given.{is_for, ranges_said};
 ghost use Rattle.pci_tree.specs.Reaches.{IsWhole};
-ghost use Rattle.pci_claims.specs.Values.{host_value, given_value};
+ghost use Rattle.pci_claims.specs.Values.{host_value, code_given_value};
 ghost use Rattle.pci_claims.specs.Sent.{IsSentTo, IsPartAt, ArePartsOf};
 
 use super::gather::gathered;
@@ -59,7 +59,7 @@ fn parts<A: Allocator>(
 
 /// The ranges that are said of a space.
 pub fn ranges_said<'a>(given: &Given<'a>, space: Space) -> Option<&'a [RootRange]>
-    ensures { ranges_said (given_value given.now) (space_of space)
+    ensures { ranges_said (code_given_value given.now) (space_of space)
         ≡ option_map (λ rs. map host_value rs.now) result }
 {
     match space {
@@ -84,7 +84,7 @@ pub fn sent_to<A: Allocator + Copy>(
     space: Space,
     root: u8,
 ) -> Result<Vec<Range, A>, OutOfMemory>
-    ensures { IfOk result (λ v. IsSentTo (given_value given.now) (space_of space) root v.items) }
+    ensures { IfOk result (λ v. IsSentTo (code_given_value given.now) (space_of space) root v.items) }
 {
     match ranges_said(given, space) {
         None => all_of(alloc, space),

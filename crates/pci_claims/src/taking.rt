@@ -5,8 +5,8 @@ ghost use Rattle.pci_spec.specs.System.{System};
 ghost use Rattle.pci_base.specs.Space.{space_of};
 ghost use Rattle.pci_tree.specs.Trees.{HasTree};
 ghost use Rattle.judge_spec.specs.Unclaimed.{IsTakingBridge, AreTaking};
-ghost use Rattle.pci_claims.specs.Values.{given_value, taking_value, told_value};
-ghost use Rattle.pci_claims.specs.AllClaims.{IsBoard};
+ghost use Rattle.pci_claims.specs.Values.{code_given_value, taking_value, told_value};
+ghost use Rattle.pci_claims.specs.AllClaims.{IsClaimsBoard};
 ghost use Rattle.pci_claims.specs.Taking.{OneHas, IsLeft, IsAnswered, AreMorePieces, AreOtherClaimsOn, AreClaimedOn, AreUnclaimedRuns};
 
 use super::all_claims::{add_range_claims, ranges_of};
@@ -69,7 +69,7 @@ fn add_own<A: Allocator + Copy>(
     region: &Region,
     space: Space,
 ) -> Result<(), OutOfMemory>
-    ensures { OnOk result (AreMorePieces (IsLeft (given_value given.now) (space_of space) region.now)
+    ensures { OnOk result (AreMorePieces (IsLeft (code_given_value given.now) (space_of space) region.now)
         out.old.items out.new.items) }
 {
     if is_cut(given, space, region) {
@@ -95,7 +95,7 @@ fn own_pieces<A: Allocator + Copy>(
     regions: &[Region],
     space: Space,
 ) -> Result<Vec<Range, A>, OutOfMemory>
-    ensures { IfOk result (λ v. AreMorePieces (OneHas (IsLeft (given_value given.now) (space_of space))
+    ensures { IfOk result (λ v. AreMorePieces (OneHas (IsLeft (code_given_value given.now) (space_of space))
         regions.now) [] v.items) }
 {
     let Ok(mut out) = Vec::with_capacity(alloc, regions.len()) else {
@@ -114,10 +114,10 @@ fn other_claims<A: Allocator + Copy>(
     bus: u8,
     space: Space,
 ) -> Result<Vec<Claim<A>, A>, OutOfMemory>
-    requires { IsBoard (told_value board.now.told) board.now.outline.now board.now.on.now
+    requires { IsClaimsBoard (told_value board.now.told) board.now.outline.now board.now.on.now
         board.now.bridges.now }
     ensures { IfOk result (λ v. (s : System) → HasTree board.now.outline.now s
-        → AreOtherClaimsOn (told_value board.now.told) (given_value board.now.given) s bus (space_of space) v.items) }
+        → AreOtherClaimsOn (told_value board.now.told) (code_given_value board.now.given) s bus (space_of space) v.items) }
 {
     let whole = all_of(alloc, space)?;
     let arriving = Arriving {
@@ -147,12 +147,12 @@ fn claimed_on<A: Allocator + Copy>(
     bus: u8,
     space: Space,
 ) -> Result<Vec<Range, A>, OutOfMemory>
-    requires { IsBoard (told_value board.now.told) board.now.outline.now board.now.on.now
+    requires { IsClaimsBoard (told_value board.now.told) board.now.outline.now board.now.on.now
         board.now.bridges.now }
     // they are sorted and joined, for which none may be empty
     ensures lawful { IfOk result (λ v. All (λ r. r.first ≤ r.last) v.items) }
     ensures exact { IfOk result (λ v. (s : System) → HasTree board.now.outline.now s
-        → AreClaimedOn (told_value board.now.told) (given_value board.now.given) s bus (space_of space) v.items) }
+        → AreClaimedOn (told_value board.now.told) (code_given_value board.now.given) s bus (space_of space) v.items) }
 {
     let regions = board.outline.regions(bus, space)?;
     let mut pieces = own_pieces(alloc, &board.given, &regions, space)?;
@@ -168,10 +168,10 @@ fn unclaimed_on<A: Allocator + Copy>(
     bus: u8,
     space: Space,
 ) -> Result<Vec<Range, A>, OutOfMemory>
-    requires { IsBoard (told_value board.now.told) board.now.outline.now board.now.on.now
+    requires { IsClaimsBoard (told_value board.now.told) board.now.outline.now board.now.on.now
         board.now.bridges.now }
     ensures { IfOk result (λ v. (s : System) → HasTree board.now.outline.now s
-        → AreUnclaimedRuns (told_value board.now.told) (given_value board.now.given) s bus (space_of space) v.items) }
+        → AreUnclaimedRuns (told_value board.now.told) (code_given_value board.now.given) s bus (space_of space) v.items) }
 {
     let claimed = gathered(claimed_on(alloc, board, bus, space)?)?;
     free_runs(alloc, space.whole(), &claimed)
@@ -183,10 +183,10 @@ fn taking_at<A: Allocator + Copy>(
     board: &Board<'_, '_, A>,
     slot: Slot,
 ) -> Result<Taking<A>, OutOfMemory>
-    requires { IsBoard (told_value board.now.told) board.now.outline.now board.now.on.now
+    requires { IsClaimsBoard (told_value board.now.told) board.now.outline.now board.now.on.now
         board.now.bridges.now }
     ensures { IfOk result (λ t. (s : System) → HasTree board.now.outline.now s
-        → IsTakingBridge (told_value board.now.told) (given_value board.now.given) s slot t) }
+        → IsTakingBridge (told_value board.now.told) (code_given_value board.now.given) s slot t) }
 {
     let io = unclaimed_on(alloc, board, slot.bus(), Space::Io)?;
     let memory = unclaimed_on(alloc, board, slot.bus(), Space::Mem)?;
@@ -201,10 +201,10 @@ pub fn taking_bridges<A: Allocator + Copy>(
     slots: &[Slot],
 ) -> Result<Vec<Taking<A>, A>, OutOfMemory>
     // looked for once, for all buses
-    requires { IsBoard (told_value board.now.told) board.now.outline.now board.now.on.now
+    requires { IsClaimsBoard (told_value board.now.told) board.now.outline.now board.now.on.now
         board.now.bridges.now }
     ensures { IfOk result (λ v. (s : System) → HasTree board.now.outline.now s
-        → AreTaking (told_value board.now.told) (given_value board.now.given) s slots.now v.items) }
+        → AreTaking (told_value board.now.told) (code_given_value board.now.given) s slots.now v.items) }
 {
     let mut out = Vec::new(alloc);
     for slot in slots {

@@ -16,7 +16,7 @@ use Rattle.pci_function.specs.declared.fault.Fault.{Fault}
 use Rattle.pci_function.specs.Fault.{fault_of}
 use Rattle.pci_tree.specs.Outline.{Tree}
 use Rattle.pci_tree.specs.Trees.{HasTree}
-use Rattle.pci_faults.specs.Lines.{AreJustLines, AreAdded, AreLinesAdded, IsLineInEach, IsAt, IsBelow}
+use Rattle.pci_faults.specs.Lines.{AreJustCodeFaults, AreCodeFaultsAppended, AreLinesAdded, IsLineInEach, IsAt, IsAtBusesBelow}
 
 abbrev pub key_of : Fault → List ℕ
 key_of f = judging_key (fault_of f)
@@ -28,14 +28,14 @@ Differ f g = key_of f ≡ key_of g → ⊥
 abbrev pub AreApart : (faults.Fault → Type 0) → (faults.Fault → Type 0) → Type 0
 AreApart P Q = (f g : faults.Fault) → P f → Q g → judging_key f ≡ judging_key g → ⊥
 
-pub just_none : (P : faults.Fault → Type 0) → ((f : faults.Fault) → P f → ⊥) → AreJustLines P []
+pub just_none : (P : faults.Fault → Type 0) → ((f : faults.Fault) → P f → ⊥) → AreJustCodeFaults P []
 just_none P none = record {
   each = λ f has. absurd (in_nil f has);
   complete = λ f is. absurd (none f is);
   distinct = pairs_nil Differ;
 }
 
-pub just_one : (P : faults.Fault → Type 0) (f : Fault) → P (fault_of f) → ((g : faults.Fault) → P g → fault_of f ≡ g) → AreJustLines P (f ∷ [])
+pub just_one : (P : faults.Fault → Type 0) (f : Fault) → P (fault_of f) → ((g : faults.Fault) → P g → fault_of f ≡ g) → AreJustCodeFaults P (f ∷ [])
 just_one P f is only = record {
   each = λ g has. elim (in_cons_cases f [] g has) [ inl here ↦ subst (λ (x : Fault). P (fault_of x)) here is | inr later ↦ absurd (in_nil g later) ];
   complete = λ g such. (f, in_head f [], only g such);
@@ -43,7 +43,7 @@ just_one P f is only = record {
 }
 
 module _ (P Q R : faults.Fault → Type 0) (apart : AreApart P Q) (either : (f : faults.Fault) → R f ↔ (P f ⊎ Q f)) where
-  pub just_both : (xs ys : List Fault) → AreJustLines P xs → AreJustLines Q ys → AreJustLines R (xs ++ ys)
+  pub just_both : (xs ys : List Fault) → AreJustCodeFaults P xs → AreJustCodeFaults Q ys → AreJustCodeFaults R (xs ++ ys)
   just_both xs ys one two = record {
     each = λ f has. (either (fault_of f)).1 (elim (Contains-append_cases xs ys f has) [ inl before ↦ inl (one.each f before) | inr here ↦ inr (two.each f here) ]);
     complete = λ f is. elim ((either f).0 is) [
@@ -53,7 +53,7 @@ module _ (P Q R : faults.Fault → Type 0) (apart : AreApart P Q) (either : (f :
     distinct = pairs_append Differ xs ys one.distinct two.distinct (λ x y in_x in_y. apart (fault_of x) (fault_of y) (one.each x in_x) (two.each y in_y));
   }
 
-pub just_same : (P Q : faults.Fault → Type 0) (xs : List Fault) → ((f : faults.Fault) → P f ↔ Q f) → AreJustLines P xs → AreJustLines Q xs
+pub just_same : (P Q : faults.Fault → Type 0) (xs : List Fault) → ((f : faults.Fault) → P f ↔ Q f) → AreJustCodeFaults P xs → AreJustCodeFaults Q xs
 just_same P Q xs same just = record {
   each = λ f has. (same (fault_of f)).0 (just.each f has);
   complete = λ f is. just.complete f ((same f).1 is);
@@ -61,22 +61,22 @@ just_same P Q xs same just = record {
 }
 
 module _ (t : Tree) where
-  pub added_none : (P : System → faults.Fault → Type 0) (list : List Fault) → ((s : System) → HasTree t s → (f : faults.Fault) → P s f → ⊥) → AreAdded t P list list
+  pub added_none : (P : System → faults.Fault → Type 0) (list : List Fault) → ((s : System) → HasTree t s → (f : faults.Fault) → P s f → ⊥) → AreCodeFaultsAppended t P list list
   added_none P list none = record { more = []; appended = sym (append-nil list); just = λ s tree. just_none (P s) (none s tree) }
 
   pub added_one : (P : System → faults.Fault → Type 0) (list : List Fault) (f : Fault) → ((s : System) → HasTree t s → P s (fault_of f) × ((g : faults.Fault) → P s g → fault_of f ≡ g))
-      → AreAdded t P list (list ++ f ∷ [])
+      → AreCodeFaultsAppended t P list (list ++ f ∷ [])
   added_one P list f is = record { more = f ∷ []; appended = refl; just = λ s tree. just_one (P s) f (is s tree).0 (is s tree).1 }
 
   pub added_both : (P Q R : System → faults.Fault → Type 0) (a b c : List Fault) → ((s : System) → HasTree t s → AreApart (P s) (Q s))
-      → ((s : System) → HasTree t s → (f : faults.Fault) → R s f ↔ (P s f ⊎ Q s f)) → AreAdded t P a b → AreAdded t Q b c → AreAdded t R a c
+      → ((s : System) → HasTree t s → (f : faults.Fault) → R s f ↔ (P s f ⊎ Q s f)) → AreCodeFaultsAppended t P a b → AreCodeFaultsAppended t Q b c → AreCodeFaultsAppended t R a c
   added_both P Q R a b c apart either one two = record {
     more = one.more ++ two.more;
     appended = two.appended ∙ ap (λ (l : List Fault). l ++ two.more) one.appended ∙ append_assoc a one.more two.more;
     just = λ s tree. just_both (P s) (Q s) (R s) (apart s tree) (either s tree) one.more two.more (one.just s tree) (two.just s tree);
   }
 
-  pub added_same : (P Q : System → faults.Fault → Type 0) (a b : List Fault) → ((s : System) → HasTree t s → (f : faults.Fault) → P s f ↔ Q s f) → AreAdded t P a b → AreAdded t Q a b
+  pub added_same : (P Q : System → faults.Fault → Type 0) (a b : List Fault) → ((s : System) → HasTree t s → (f : faults.Fault) → P s f ↔ Q s f) → AreCodeFaultsAppended t P a b → AreCodeFaultsAppended t Q a b
   added_same P Q a b same added = record { more = added.more; appended = added.appended; just = λ s tree. just_same (P s) (Q s) added.more (same s tree) (added.just s tree) }
 
 -- ---- lines by check, bus and space
@@ -152,19 +152,19 @@ module _ (t : Tree) (A B C : Where) (never : (c : Check) (b : ℕ) (sp : Space) 
 -- ---- spaces and buses
 
 module _ (check : Check) (roots : List ℕ) (s : System) where
-  none_below : (f : faults.Fault) → IsLineInEach (IsBelow check 0) roots s f → ⊥
+  none_below : (f : faults.Fault) → IsLineInEach (IsAtBusesBelow check 0) roots s f → ⊥
   none_below (faults.Unreached slot register sp a b) line = let less = line.0.1 in let no : ⊥ = omega (arith, less) in no
   none_below (faults.Clash bus sp a f r g q) line = let less = line.0.1 in let no : ⊥ = omega (arith, less) in no
   none_below (faults.Split sp a f r g q) line = let less = line.0.1 in let no : ⊥ = omega (arith, less) in no
   none_below f line = absurd (search rules)
 
-  widened : (f : faults.Fault) → IsLineInEach (IsBelow check 256) roots s f → IsLineInEach (λ c n sp. c ≡ check) roots s f
+  widened : (f : faults.Fault) → IsLineInEach (IsAtBusesBelow check 256) roots s f → IsLineInEach (λ c n sp. c ≡ check) roots s f
   widened (faults.Unreached slot register sp a b) line = (line.0.0, line.1)
   widened (faults.Clash bus sp a f r g q) line = (line.0.0, line.1)
   widened (faults.Split sp a f r g q) line = (line.0.0, line.1)
   widened f line = absurd (search rules)
 
-  narrowed : IsSystem s → (f : faults.Fault) → IsLineInEach (λ c n sp. c ≡ check) roots s f → IsLineInEach (IsBelow check 256) roots s f
+  narrowed : IsSystem s → (f : faults.Fault) → IsLineInEach (λ c n sp. c ≡ check) roots s f → IsLineInEach (IsAtBusesBelow check 256) roots s f
   narrowed system (faults.Unreached slot register sp a b) line =
       let u = line.1.there in
       let small = (slot_of s system u.f u.listed).0 in
@@ -189,11 +189,11 @@ module _ (t : Tree) (check : Check) where
         λ at. elim at [ inl io ↦ (io.0, io.1) | inr memory ↦ (memory.0, memory.1) ],
       )) a b c one two
 
-  pub no_bus : (list : List Fault) → AreLinesAdded (IsBelow check 0) t list list
-  no_bus list = added_none t (IsLineInEach (IsBelow check 0) t.roots) list (λ s tree f line. none_below check t.roots s f line)
+  pub no_bus : (list : List Fault) → AreLinesAdded (IsAtBusesBelow check 0) t list list
+  no_bus list = added_none t (IsLineInEach (IsAtBusesBelow check 0) t.roots) list (λ s tree f line. none_below check t.roots s f line)
 
-  pub one_bus_more : (n : ℕ) (a b c : List Fault) → AreLinesAdded (IsBelow check n) t a b → AreLinesAdded (IsOn n) t b c → AreLinesAdded (IsBelow check (n + 1)) t a c
-  one_bus_more n a b c one two = lines_both t (IsBelow check n) (IsOn n) (IsBelow check (n + 1))
+  pub one_bus_more : (n : ℕ) (a b c : List Fault) → AreLinesAdded (IsAtBusesBelow check n) t a b → AreLinesAdded (IsOn n) t b c → AreLinesAdded (IsAtBusesBelow check (n + 1)) t a c
+  one_bus_more n a b c one two = lines_both t (IsAtBusesBelow check n) (IsOn n) (IsAtBusesBelow check (n + 1))
       (λ k m sp below on. (let less = below.1 in let same = on.1 in let no : ⊥ = omega (arith, less, same) in no))
       (λ k m sp. (
         λ below. elim (cases_eq m n) [ inl same ↦ inr (below.0, same) | inr differ ↦ inl (below.0, (let less = below.1 in omega (arith, less, differ))) ],
@@ -201,6 +201,6 @@ module _ (t : Tree) (check : Check) where
       )) a b c one two
 
   -- buses have numbers below 256
-  pub all_buses : (a b : List Fault) → AreLinesAdded (IsBelow check 256) t a b → AreLinesAdded (λ c n sp. c ≡ check) t a b
-  all_buses a b added = added_same t (IsLineInEach (IsBelow check 256) t.roots) (IsLineInEach (λ c n sp. c ≡ check) t.roots) a b
+  pub all_buses : (a b : List Fault) → AreLinesAdded (IsAtBusesBelow check 256) t a b → AreLinesAdded (λ c n sp. c ≡ check) t a b
+  all_buses a b added = added_same t (IsLineInEach (IsAtBusesBelow check 256) t.roots) (IsLineInEach (λ c n sp. c ≡ check) t.roots) a b
       (λ s tree f. (λ line. widened check t.roots s f line, λ line. narrowed check t.roots s tree.system f line)) added

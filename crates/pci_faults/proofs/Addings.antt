@@ -8,7 +8,7 @@ use Rattle.pci_spec.specs.Order.{judging_key}
 use Rattle.pci_spec.proofs.Members.{in_nil, pairs_nil, pairs_append}
 use Rattle.pci_tree.specs.Outline.{Tree}
 use Rattle.pci_tree.specs.Trees.{HasTree}
-use Rattle.pci_faults.specs.JustLines.{AreJustLines, AreAdded}
+use Rattle.pci_faults.specs.JustLines.{AreJustLines, AreFaultsAppended}
 
 abbrev pub Differ : plain.Fault → plain.Fault → Type 0
 Differ f g = judging_key f ≡ judging_key g → ⊥
@@ -43,16 +43,16 @@ just_same P Q xs same just = record {
 }
 
 module _ (t : Tree) where
-  pub added_none : (P : System → plain.Fault → Type 0) (list : List plain.Fault) → ((s : System) → HasTree t s → (f : plain.Fault) → P s f → ⊥) → AreAdded t P list list
+  pub added_none : (P : System → plain.Fault → Type 0) (list : List plain.Fault) → ((s : System) → HasTree t s → (f : plain.Fault) → P s f → ⊥) → AreFaultsAppended t P list list
   added_none P list none = record { more = []; appended = sym (append-nil list); just = λ s tree. just_none (P s) (none s tree) }
 
   pub added_both : (P Q R : System → plain.Fault → Type 0) (a b c : List plain.Fault) → ((s : System) → HasTree t s → AreApart (P s) (Q s))
-      → ((s : System) → HasTree t s → (f : plain.Fault) → R s f ↔ (P s f ⊎ Q s f)) → AreAdded t P a b → AreAdded t Q b c → AreAdded t R a c
+      → ((s : System) → HasTree t s → (f : plain.Fault) → R s f ↔ (P s f ⊎ Q s f)) → AreFaultsAppended t P a b → AreFaultsAppended t Q b c → AreFaultsAppended t R a c
   added_both P Q R a b c apart either one two = record {
     more = one.more ++ two.more;
     appended = two.appended ∙ ap (λ (l : List plain.Fault). l ++ two.more) one.appended ∙ append_assoc a one.more two.more;
     just = λ s tree. just_both (P s) (Q s) (R s) (apart s tree) (either s tree) one.more two.more (one.just s tree) (two.just s tree);
   }
 
-  pub added_same : (P Q : System → plain.Fault → Type 0) (a b : List plain.Fault) → ((s : System) → HasTree t s → (f : plain.Fault) → P s f ↔ Q s f) → AreAdded t P a b → AreAdded t Q a b
+  pub added_same : (P Q : System → plain.Fault → Type 0) (a b : List plain.Fault) → ((s : System) → HasTree t s → (f : plain.Fault) → P s f ↔ Q s f) → AreFaultsAppended t P a b → AreFaultsAppended t Q a b
   added_same P Q a b same added = record { more = added.more; appended = added.appended; just = λ s tree. just_same (P s) (Q s) added.more (same s tree) (added.just s tree) }

@@ -18,11 +18,10 @@ use Rattle.pci_base.specs.Space.{space_of}
 use Rattle.pci_tree.specs.declared.region.Region.{Region}
 use Rattle.pci_tree.specs.Ranges.{Covers}
 use Rattle.pci_tree.specs.Regions.{AreRegionsOf, region_number as number_of}
-use Rattle.pci_tree.specs.Outline.{IsReachTo}
+use Rattle.pci_tree.specs.Outline.{IsReachTo, Tree}
 use Rattle.pci_function.specs.declared.fault.Fault.{Fault}
-use Rattle.pci_tree.specs.Outline.{Tree}
 use Rattle.pci_tree.specs.Trees.{HasTree}
-use Rattle.pci_check.specs.Stops.{AreListed}
+use Rattle.pci_check.specs.Stops.{AreBusRegionsOfTree}
 use Rattle.pci_check.specs.Clashes.{AreRegionsOn, AreRootsListed}
 use Rattle.pci_tree.proofs.RegionOrder.{number_same}
 use Rattle.pci_check.proofs.Overlaps.{claims_of}
@@ -31,12 +30,12 @@ use Rattle.pci_faults.specs.declared.shares.Among.{Among}
 use Rattle.pci_faults.specs.declared.shares.Among.TheVariants.{Bus, Roots}
 use Rattle.pci_faults.specs.declared.shares.Share.{Share}
 use Rattle.pci_faults.specs.Shares.{SpansAt, IsShared, AreShares, GroupsRise, group_at}
-use Rattle.pci_faults.specs.Lines.{region_at, nothing_shared, share_fault, AreJustLines, AreLinesAdded, IsLineInEach, IsAt}
+use Rattle.pci_faults.specs.Lines.{sharing_region_at, nothing_shared, share_fault, AreJustCodeFaults, AreLinesAdded, IsLineInEach, IsAt}
 use Rattle.pci_faults.proofs.Naming.{IsAtPlace, IsSharedAs, AreLeastOf, IsTold, clash_told, split_told, second_of_clash, second_of_split, place_before, places_of, rising_of, just_told}
 
 module _ (s : System) (system : IsSystem s) (IsOne : ℕ → Type 0) (space : SpaceValue) (regions : List Region) (are : AreRegionsOn s IsOne space regions) where
-  claims_at : (k a : ℕ) → k < length regions → SpansAt regions k a → (bus : ℕ) × IsOne bus × ClaimsOnBus s bus (address_in space a) (named_region (region_at regions k).slot (region_at regions k).reg)
-  claims_at k a within spans = claims_of s system IsOne space regions are [] a (region_at regions k) record { has = Contains-get_or regions k nothing_shared within; claims = spans nothing_shared }
+  claims_at : (k a : ℕ) → k < length regions → SpansAt regions k a → (bus : ℕ) × IsOne bus × ClaimsOnBus s bus (address_in space a) (named_region (sharing_region_at regions k).slot (sharing_region_at regions k).reg)
+  claims_at k a within spans = claims_of s system IsOne space regions are [] a (sharing_region_at regions k) record { has = Contains-get_or regions k nothing_shared within; claims = spans nothing_shared }
 
   -- the place of a region that claims an address
   record IsClaimedAt (a : ℕ) (slot : Slot) (register : ℕ) : Type 0 where
@@ -60,23 +59,23 @@ module _ (s : System) (system : IsSystem s) (IsOne : ℕ → Type 0) (space : Sp
       }
 
   -- regions on buses that rise
-  lower_or_same_bus : (i k : ℕ) → i < k → k < length regions → (region_at regions i).slot.bus ≤ (region_at regions k).slot.bus
+  lower_or_same_bus : (i k : ℕ) → i < k → k < length regions → (sharing_region_at regions i).slot.bus ≤ (sharing_region_at regions k).slot.bus
   lower_or_same_bus i k less within =
       let up = rising_of regions are.rising i k less within in
-      let on = λ (n : ℕ) (inside : n < length regions). (are.each (region_at regions n) (Contains-get_or regions n nothing_shared inside)).2 in
+      let on = λ (n : ℕ) (inside : n < length regions). (are.each (sharing_region_at regions n) (Contains-get_or regions n nothing_shared inside)).2 in
       let one = on i (omega (arith, less, within)) in
       let other = on k within in
       let slot = subst IsSlot (sym one.is.slot) (slot_of s system one.f one.listed) in
       let slot_k = subst IsSlot (sym other.is.slot) (slot_of s system other.f other.listed) in
       let some = one.is.some in
-      let low = register_of-lt one.f one.part ((one.is.claims (region_at regions i).first).0 (omega arith, some)).there in
+      let low = register_of-lt one.f one.part ((one.is.claims (sharing_region_at regions i).first).0 (omega arith, some)).there in
       let register = one.is.register in
       let some_k = other.is.some in
-      let low_k = register_of-lt other.f other.part ((other.is.claims (region_at regions k).first).0 (omega arith, some_k)).there in
+      let low_k = register_of-lt other.f other.part ((other.is.claims (sharing_region_at regions k).first).0 (omega arith, some_k)).there in
       let register_k = other.is.register in
       omega (arith, up, slot, slot_k, low, register, low_k, register_k)
 
-  group_is : (k : ℕ) → k < length regions → group_at Roots regions k ≡ (region_at regions k).slot.bus
+  group_is : (k : ℕ) → k < length regions → group_at Roots regions k ≡ (sharing_region_at regions k).slot.bus
   group_is k within = get_or-map (λ (r : Region). r.slot.bus) regions k nothing_shared 256 within
 
   pub groups_rise : GroupsRise Roots regions
@@ -97,8 +96,8 @@ least_of_shares are = record {
 }
 
 -- two regions that share an address aren't one
-differ_at : (regions : List Region) (i k : ℕ) → number_of (region_at regions i) < number_of (region_at regions k)
-    → ((region_at regions i).slot ≡ (region_at regions k).slot) × ((region_at regions i).reg ≡ (region_at regions k).reg) → ⊥
+differ_at : (regions : List Region) (i k : ℕ) → number_of (sharing_region_at regions i) < number_of (sharing_region_at regions k)
+    → ((sharing_region_at regions i).slot ≡ (sharing_region_at regions k).slot) × ((sharing_region_at regions i).reg ≡ (sharing_region_at regions k).reg) → ⊥
 differ_at regions i k less same = let e = number_same _ _ _ _ same.0 same.1 in let no : ⊥ = omega (arith, less, e) in no
 
 -- ---- clashes of a bus
@@ -118,12 +117,12 @@ module _ (roots : List ℕ) (s : System) (system : IsSystem s) (bus : ℕ) (spac
   abbrev Clashing : ℕ → Slot → ℕ → Slot → ℕ → Type 0
   Clashing a f r g q = IsClash roots s bus (address_in (space_of space) a) (named_regions f r g q)
 
-  claims_here : (k a : ℕ) → k < length regions → SpansAt regions k a → ClaimsOnBus s bus (address_in (space_of space) a) (named_region (region_at regions k).slot (region_at regions k).reg)
+  claims_here : (k a : ℕ) → k < length regions → SpansAt regions k a → ClaimsOnBus s bus (address_in (space_of space) a) (named_region (sharing_region_at regions k).slot (sharing_region_at regions k).reg)
   claims_here k a within spans =
       let c = claims_at s system IsThis (space_of space) regions on_this_bus k a within spans in
-      subst (λ n. ClaimsOnBus s n (address_in (space_of space) a) (named_region (region_at regions k).slot (region_at regions k).reg)) c.1 c.2
+      subst (λ n. ClaimsOnBus s n (address_in (space_of space) a) (named_region (sharing_region_at regions k).slot (sharing_region_at regions k).reg)) c.1 c.2
 
-  clash_of : (a i k : ℕ) → IsShared (Bus bus) regions allowed a i k → Clashing a (region_at regions i).slot (region_at regions i).reg (region_at regions k).slot (region_at regions k).reg
+  clash_of : (a i k : ℕ) → IsShared (Bus bus) regions allowed a i k → Clashing a (sharing_region_at regions i).slot (sharing_region_at regions i).reg (sharing_region_at regions k).slot (sharing_region_at regions k).reg
   clash_of a i k shared =
       let within = shared.within in
       let before = shared.before in
@@ -164,7 +163,7 @@ module _ (roots : List ℕ) (s : System) (system : IsSystem s) (bus : ℕ) (spac
   line_only (faults.Split sp a f r g q) (at, line) = absurd (let no : ⊥ = cc in no)
   line_only fault line = absurd (search rules)
 
-  pub clashes_told : (list : List Share) → (GroupsRise (Bus bus) regions → AreShares (Bus bus) regions allowed list) → AreJustLines Line (map (share_fault (Bus bus) space regions) list)
+  pub clashes_told : (list : List Share) → (GroupsRise (Bus bus) regions → AreShares (Bus bus) regions allowed list) → AreJustCodeFaults Line (map (share_fault (Bus bus) space regions) list)
   clashes_told list shares =
       just_told (places_of regions) (rising_of regions are.rising) (IsShared (Bus bus) regions allowed) order_of_shared Clashing clash_of shared_by list (least_of_shares (shares (λ j k up within. up)))
       (share_fault (Bus bus) space regions) (faults.Clash bus (space_of space)) (λ x. refl) (second_of_clash bus (space_of space)) Line
@@ -183,8 +182,8 @@ module _ (roots : List ℕ) (s : System) (system : IsSystem s) (space : Space) (
 
   -- a region of the roots that claims an address
   record IsRootClaim (a k : ℕ) : Type 0 where
-    root : Contains roots (region_at regions k).slot.bus
-    claims : ClaimsOnBus s (region_at regions k).slot.bus (address_in (space_of space) a) (named_region (region_at regions k).slot (region_at regions k).reg)
+    root : Contains roots (sharing_region_at regions k).slot.bus
+    claims : ClaimsOnBus s (sharing_region_at regions k).slot.bus (address_in (space_of space) a) (named_region (sharing_region_at regions k).slot (sharing_region_at regions k).reg)
 
   root_claim : (k a : ℕ) → k < length regions → SpansAt regions k a → IsRootClaim a k
   root_claim k a within spans =
@@ -192,10 +191,10 @@ module _ (roots : List ℕ) (s : System) (system : IsSystem s) (space : Space) (
       let on = sym c.2.4 in
       record {
         root = subst (Contains roots) on c.1;
-        claims = subst (λ n. ClaimsOnBus s n (address_in (space_of space) a) (named_region (region_at regions k).slot (region_at regions k).reg)) on c.2;
+        claims = subst (λ n. ClaimsOnBus s n (address_in (space_of space) a) (named_region (sharing_region_at regions k).slot (sharing_region_at regions k).reg)) on c.2;
       }
 
-  split_of : (a i k : ℕ) → IsShared Roots regions allowed a i k → Splitting a (region_at regions i).slot (region_at regions i).reg (region_at regions k).slot (region_at regions k).reg
+  split_of : (a i k : ℕ) → IsShared Roots regions allowed a i k → Splitting a (sharing_region_at regions i).slot (sharing_region_at regions i).reg (sharing_region_at regions k).slot (sharing_region_at regions k).reg
   split_of a i k shared =
       let within = shared.within in
       let before = shared.before in
@@ -252,7 +251,7 @@ module _ (roots : List ℕ) (s : System) (system : IsSystem s) (space : Space) (
   split_only (faults.Clash b sp a f r g q) (at, line) = absurd (let no : ⊥ = cc in no)
   split_only fault line = absurd (search rules)
 
-  pub splits_told : (list : List Share) → (GroupsRise Roots regions → AreShares Roots regions allowed list) → AreJustLines SplitLine (map (share_fault Roots space regions) list)
+  pub splits_told : (list : List Share) → (GroupsRise Roots regions → AreShares Roots regions allowed list) → AreJustCodeFaults SplitLine (map (share_fault Roots space regions) list)
   splits_told list shares =
       just_told (places_of regions) (rising_of regions are.rising) (IsShared Roots regions allowed) order_of_shared Splitting split_of shared_over_roots list
       (least_of_shares (shares (groups_rise s system IsRoot (space_of space) regions are))) (share_fault Roots space regions) (faults.Split (space_of space)) (λ x. refl) (second_of_split (space_of space)) SplitLine
@@ -261,7 +260,7 @@ module _ (roots : List ℕ) (s : System) (system : IsSystem s) (space : Space) (
 
 -- ---- in each system with a tree
 
-pub clashes_added : (t : Tree) (bus : ℕ) (space : Space) (regions : List Region) (allowed : List Range) → AreListed t bus (space_of space) regions
+pub clashes_added : (t : Tree) (bus : ℕ) (space : Space) (regions : List Region) (allowed : List Range) → AreBusRegionsOfTree t bus (space_of space) regions
     → ((s : System) → HasTree t s → IsReachTo t.roots s (space_of space) true bus allowed)
     → (list : List Share) → (GroupsRise (Bus bus) regions → AreShares (Bus bus) regions allowed list)
     → (before after : List Fault) → after ≡ before ++ map (share_fault (Bus bus) space regions) list → AreLinesAdded (IsAt Clashes bus (space_of space)) t before after

@@ -24,7 +24,7 @@ use Rattle.pci_claims.proofs.AllClaiming.{share_by_marks}
 use Rattle.pci_faults.specs.declared.named.Clash.{Clash}
 use Rattle.pci_faults.specs.JustLines.{AreJustLines}
 use Rattle.pci_faults.proofs.Tellings.{IsAtPlace, IsSharedAs, IsTold, number_same, clash_told, second_of_clash, just_told}
-use Rattle.pci_faults.specs.Clashes.{claim_at, nobody, AreMeeting, AreMeetings, claims_clash, clash_value, IsClashLine, IsOnBusIn, AreClashesAdded}
+use Rattle.pci_faults.specs.Clashes.{claim_at, missing_claim, AreMeeting, AreMeetings, claims_clash, clash_value, IsClashLine, IsOnBusIn, AreClashesAdded}
 use Rattle.pci_faults.proofs.Telling.{IsNamedAt, named_at, places_of, rising_of, meeting_as, order_of_meeting, least_of_meetings}
 
 module _ (told : Told) (given : Given) (roots : List ℕ) (s : System) (bus : ℕ) (space : Space) (claims : List Claimed) (are : AreClaimsOn told given roots s bus (space_of space) claims) where
@@ -35,7 +35,7 @@ module _ (told : Told) (given : Given) (roots : List ℕ) (s : System) (bus : �
 
   share_at : (i k : ℕ) → i < length claims → k < length claims
       → may_both_claim (claim_at claims i) (claim_at claims k) ≡ may_share told (claim_at claims i).slot (claim_at claims i).register (claim_at claims k).slot (claim_at claims k).register
-  share_at i k in_i in_k = share_by_marks told (claim_at claims i) (claim_at claims k) (are.held (claim_at claims i) (Contains-get_or claims i nobody in_i)) (are.held (claim_at claims k) (Contains-get_or claims k nobody in_k))
+  share_at i k in_i in_k = share_by_marks told (claim_at claims i) (claim_at claims k) (are.held (claim_at claims i) (Contains-get_or claims i missing_claim in_i)) (are.held (claim_at claims k) (Contains-get_or claims k missing_claim in_k))
 
   -- ---- clashes
 
@@ -46,8 +46,8 @@ module _ (told : Told) (given : Given) (roots : List ℕ) (s : System) (bus : �
   clash_of a i k clash =
       let within = clash.within in
       let before = clash.before in
-      let one = (are.each (claim_at claims i) (Contains-get_or claims i nobody (omega (arith, within, before))) a).0 clash.meet.first in
-      let other = (are.each (claim_at claims k) (Contains-get_or claims k nobody within) a).0 clash.meet.second in record {
+      let one = (are.each (claim_at claims i) (Contains-get_or claims i missing_claim (omega (arith, within, before))) a).0 clash.meet.first in
+      let other = (are.each (claim_at claims k) (Contains-get_or claims k missing_claim within) a).0 clash.meet.second in record {
         gets = one.0;
         claims_first = one.1;
         claims_second = other.1;
@@ -60,7 +60,7 @@ module _ (told : Told) (given : Given) (roots : List ℕ) (s : System) (bus : �
 
   answers : (a : ℕ) (slot : Slot) (register : ℕ) (named : IsNamedAt claims slot register) → Gets given roots s (space_of space) a bus → ClaimsOnBus told given s bus (address_in (space_of space) a) (named_region slot register)
       → Covers (claim_at claims named.k).pieces a
-  answers a slot register named gets claims_it = (are.each (claim_at claims named.k) (Contains-get_or claims named.k nobody named.within) a).1 (
+  answers a slot register named gets claims_it = (are.each (claim_at claims named.k) (Contains-get_or claims named.k missing_claim named.within) a).1 (
     gets,
     subst (λ n. ClaimsOnBus told given s bus (address_in (space_of space) a) (named_region (claim_at claims named.k).slot n)) (sym named.at.register_is)
         (subst (λ (x : Slot). ClaimsOnBus told given s bus (address_in (space_of space) a) (named_region x register)) (sym named.at.slot_is) claims_it),

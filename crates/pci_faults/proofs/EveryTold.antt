@@ -29,22 +29,22 @@ use Rattle.judge_spec.proofs.ToldEmpty.{told_empty_where_none_fails}
 use Rattle.pci_faults.specs.declared.any_fault.AnyFault.{AnyFault}
 use Rattle.pci_faults.specs.AllLines as lines
 use Rattle.pci_faults.specs.AllLines.{AreAllLines}
-use Rattle.pci_faults.specs.Every.{AreEarlyWith, AreBefore, AreSound, AreFound, AreReady, AreTakenFor, IsJudgedOf}
+use Rattle.pci_faults.specs.Every.{AreEarlyWith, AreBefore, AreSoundAsTold, AreFound, AreReadyForJudging, AreTakenFor, IsJudgedOf}
 use Rattle.pci_faults.proofs.ToldFirst.{all_not_listed}
 use Rattle.pci_faults.proofs.ToldPlaces.{there_cases, all_places, no_place}
 use Rattle.pci_faults.proofs.ToldEarly.{plain_twice, none_plain, all_listed, before_of_first, some_of_first}
 
 -- what stands of the faults of judging
 pub record IsEveryJudged (told : Told) (given : Given) (roots : List ℕ) (dump probe : List Block) (list : List AnyFault) : Type 0 where
-  pub judged : AreJudged told given roots dump probe (map lines.fault_of list)
-  pub none : (list ≡ []) ↔ AreSound told given roots dump probe
+  pub judged : AreJudged told given roots dump probe (map lines.any_fault_value list)
+  pub none : (list ≡ []) ↔ AreSoundAsTold told given roots dump probe
 
 pub in_all : (told : Told) (given : Given) (roots : List ℕ) (dump probe : List Block) (faults : List Fault) → AreBefore told given roots dump probe faults → AreAllFaults told given roots dump probe faults
 in_all told given roots dump probe faults (inl h) = inl h
 in_all told given roots dump probe faults (inr (inl h)) = inr (inl h)
 in_all told given roots dump probe faults (inr (inr h)) = inr (inr (inl h))
 
-no_fault : (list : List AnyFault) → map lines.fault_of list ≡ [] → list ≡ []
+no_fault : (list : List AnyFault) → map lines.any_fault_value list ≡ [] → list ≡ []
 no_fault [] e = refl
 no_fault (f ∷ rest) e = absurd (let no : ⊥ = cc in no)
 
@@ -56,10 +56,10 @@ module _ (told : Told) (is_told : IsTold told.ranges) (given : Given) (roots : L
   -- ---- where there is a fault without what is told
 
   pub every_of_first : (first : plain.Fault) (early : List code.Fault) (list : List AnyFault) → IsFirstThere roots dump probe first → fault_number first < 60 → plain_lines.AreAllFaults roots dump probe (map fault_of early)
-      → BeginsWith first (map fault_of early) → AreEarlyWith told.ranges roots dump early (map lines.fault_of list) → AreFound told given roots dump probe (map lines.fault_of list)
+      → BeginsWith first (map fault_of early) → AreEarlyWith told.ranges roots dump early (map lines.any_fault_value list) → AreFound told given roots dump probe (map lines.any_fault_value list)
   every_of_first first early list is low all begins with = record {
-    some = some_of_first told is_told given roots dump probe is_dump first is low early all begins (map lines.fault_of list) with;
-    before = before_of_first told is_told given roots dump probe is_dump first is low early all begins (map lines.fault_of list) with;
+    some = some_of_first told is_told given roots dump probe is_dump first is low early all begins (map lines.any_fault_value list) with;
+    before = before_of_first told is_told given roots dump probe is_dump first is low early all begins (map lines.any_fault_value list) with;
     unsound = λ are. none_early roots (system_of dump probe) are.sound.nested are.sound.profile are.sound.chains first (soon first low) (in-of_there roots dump probe first are.slots is.there);
     unready = λ ready. ready.none_earlier first (soon first low) (early_is first is.there);
   } where
@@ -114,7 +114,7 @@ module _ (told : Told) (is_told : IsTold told.ranges) (given : Given) (roots : L
         })
 
     -- so judging isn't begun
-    unready : (faults : List Fault) → AreEarlyWith told.ranges roots dump [] faults → (faults ≡ [] → ⊥) → AreReady told roots dump probe → ⊥
+    unready : (faults : List Fault) → AreEarlyWith told.ranges roots dump [] faults → (faults ≡ [] → ⊥) → AreReadyForJudging told roots dump probe → ⊥
     unready faults (inl alone) some ready = let e = alone.phase in omega (arith, e)
     unready faults (inr (inl not)) some ready =
         let all = all_not_listed told dump probe outline.admitted.slots not.slots not.all in
@@ -134,7 +134,7 @@ module _ (told : Told) (is_told : IsTold told.ranges) (given : Given) (roots : L
         some_fault (f ∷ rest) some none = none f (in_head f rest)
 
     -- which it is for each sound system
-    ready_of : AreSound told given roots dump probe → AreReady told roots dump probe
+    ready_of : AreSoundAsTold told given roots dump probe → AreReadyForJudging told roots dump probe
     ready_of sound = record {
       listed = sound.sound.listed;
       none_earlier = λ f early is. elim (there_cases told is_told roots dump probe is_dump sound.slots f is) [
@@ -143,16 +143,16 @@ module _ (told : Told) (is_told : IsTold told.ranges) (given : Given) (roots : L
       ];
     }
 
-    pub every_of_told : (list : List AnyFault) → AreEarlyWith told.ranges roots dump [] (map lines.fault_of list) → (list ≡ [] → ⊥) → AreFound told given roots dump probe (map lines.fault_of list)
+    pub every_of_told : (list : List AnyFault) → AreEarlyWith told.ranges roots dump [] (map lines.any_fault_value list) → (list ≡ [] → ⊥) → AreFound told given roots dump probe (map lines.any_fault_value list)
     every_of_told list with some = record {
       some = λ none. some (no_fault list none);
-      before = before_of_told (map lines.fault_of list) with (λ none. some (no_fault list none));
-      unsound = λ sound. unready (map lines.fault_of list) with (λ none. some (no_fault list none)) (ready_of sound);
-      unready = unready (map lines.fault_of list) with (λ none. some (no_fault list none));
+      before = before_of_told (map lines.any_fault_value list) with (λ none. some (no_fault list none));
+      unsound = λ sound. unready (map lines.any_fault_value list) with (λ none. some (no_fault list none)) (ready_of sound);
+      unready = unready (map lines.any_fault_value list) with (λ none. some (no_fault list none));
     }
 
     -- none is told: judging is begun
-    pub judgeable : (faults : List Fault) → AreEarlyWith told.ranges roots dump [] faults → faults ≡ [] → AreReady told roots dump probe
+    pub judgeable : (faults : List Fault) → AreEarlyWith told.ranges roots dump [] faults → faults ≡ [] → AreReadyForJudging told roots dump probe
     judgeable faults (inl alone) none = absurd (let e = alone.phase in let no : ⊥ = omega (arith, e) in no)
     judgeable faults (inr (inl not)) none = absurd (not.some (none_unlisted not.slots (sym not.are ∙ none)))
       where
@@ -168,7 +168,7 @@ module _ (told : Told) (is_told : IsTold told.ranges) (given : Given) (roots : L
 
 -- ---- and where judging is begun
 
-pub every_of_ready : (told : Told) → IsTold told.ranges → (given : Given) (roots : List ℕ) (dump probe : List Block) (o : Tree) → IsOutlineFor record { roots = roots; dump = dump; probe = probe } o → AreReady told roots dump probe → (list : List AnyFault) → AreAllLines told given o list → IsEveryJudged told given roots dump probe list
+pub every_of_ready : (told : Told) → IsTold told.ranges → (given : Given) (roots : List ℕ) (dump probe : List Block) (o : Tree) → IsOutlineFor record { roots = roots; dump = dump; probe = probe } o → AreReadyForJudging told roots dump probe → (list : List AnyFault) → AreAllLines told given o list → IsEveryJudged told given roots dump probe list
 every_of_ready told is_told given roots dump probe o outline ready list all_lines =
     let s = system_of dump probe in
     let admitted = outline.admitted in
@@ -185,7 +185,7 @@ every_of_ready told is_told given roots dump probe o outline ready list all_line
       };
       none = (
         λ none.
-            let sound = empty.0 (none_known all_lines.judged (sym all_lines.are ∙ ap (map lines.fault_of) none)) in record {
+            let sound = empty.0 (none_known all_lines.judged (sym all_lines.are ∙ ap (map lines.any_fault_value) none)) in record {
               slots = admitted.slots;
               sound = record {
                 single = sound.0;
@@ -207,10 +207,10 @@ every_of_ready told is_told given roots dump probe o outline ready list all_line
 pub record IsEveryWith (told : Told) (given : Given) (roots : List ℕ) (slots : List Slot) (dump probe : List Block) (judged : Option Tree) (bridges : List TakingBridge) (list : List AnyFault) : Type 0 where
   pub taken : AreTakenFor told given roots dump probe slots bridges
   pub every : IsEveryJudged told (with_taking bridges given) roots dump probe list
-  pub outline : MatchOption judged (AreBefore told (with_taking bridges given) roots dump probe (map lines.fault_of list))
-      (λ o. AreJudged told (with_taking bridges given) roots dump probe (map lines.fault_of list) × IsOutlineFor record { roots = roots; dump = dump; probe = probe } o)
+  pub outline : MatchOption judged (AreBefore told (with_taking bridges given) roots dump probe (map lines.any_fault_value list))
+      (λ o. AreJudged told (with_taking bridges given) roots dump probe (map lines.any_fault_value list) × IsOutlineFor record { roots = roots; dump = dump; probe = probe } o)
 
-pub every_of_judged : (told : Told) → IsTold told.ranges → (given : Given) (roots : List ℕ) (slots : List Slot) (dump probe : List Block) (o : Tree) → IsOutlineFor record { roots = roots; dump = dump; probe = probe } o → AreReady told roots dump probe
+pub every_of_judged : (told : Told) → IsTold told.ranges → (given : Given) (roots : List ℕ) (slots : List Slot) (dump probe : List Block) (o : Tree) → IsOutlineFor record { roots = roots; dump = dump; probe = probe } o → AreReadyForJudging told roots dump probe
     → (judged : Option Tree) (bridges : List TakingBridge) (list : List AnyFault) → IsJudgedOf told given slots o judged bridges list → IsEveryWith told given roots slots dump probe judged bridges list
 every_of_judged told is_told given roots slots dump probe o outline ready judged bridges list is =
     let with = with_taking bridges given in
@@ -218,6 +218,6 @@ every_of_judged told is_told given roots slots dump probe o outline ready judged
     record {
       taken = λ _. is.taken (system_of dump probe) record { system = outline.admitted.system; records = outline.records };
       every = every;
-      outline = subst (λ (j : Option Tree). MatchOption j (AreBefore told with roots dump probe (map lines.fault_of list))
-          (λ o. AreJudged told with roots dump probe (map lines.fault_of list) × IsOutlineFor record { roots = roots; dump = dump; probe = probe } o)) (sym is.tree) (every.judged, outline);
+      outline = subst (λ (j : Option Tree). MatchOption j (AreBefore told with roots dump probe (map lines.any_fault_value list))
+          (λ o. AreJudged told with roots dump probe (map lines.any_fault_value list) × IsOutlineFor record { roots = roots; dump = dump; probe = probe } o)) (sym is.tree) (every.judged, outline);
     }

@@ -9,7 +9,7 @@ use Rattle.std.proofs.lemmas.Bool.{cases_order, cases_eq, cases_lt}
 use Rattle.pci_base.specs.declared.range.Range.{Range}
 use Rattle.pci_faults.specs.declared.owners.Owned.{Owned}
 use Rattle.pci_faults.specs.declared.owners.Found.{Found}
-use Rattle.pci_faults.specs.Owners.{OwnedRanges, StandsAt, Owns, RangesAreApart, OwnedRangeHas, IsFirstOwned, IsRangeAdded}
+use Rattle.pci_faults.specs.Owners.{OwnedRanges, StandsAt, Owns, OwnedRangesAreApart, OwnedRangeHas, IsFirstOwned, IsRangeAdded}
 
 other_key : (k q : ℕ) → (q ≡ k → ⊥) → is_at (nat_cmp k) q ≡ false
 other_key k q differ = elim (cases_order k q) [
@@ -22,7 +22,7 @@ same_owned : (r q : Owned) → Some r ≡ Some q → r ≡ q
 same_owned r q e = cc
 
 -- the two ranges of one address are one
-one_range : (ranges : OwnedRanges) → RangesAreApart ranges → (a i j : ℕ) (o : Owns ranges a i) (p : Owns ranges a j) → (o.last ≡ p.last)
+one_range : (ranges : OwnedRanges) → OwnedRangesAreApart ranges → (a i j : ℕ) (o : Owns ranges a i) (p : Owns ranges a j) → (o.last ≡ p.last)
 one_range ranges apart a i j o p = elim (cases_order o.last p.last) [
   | inl same ↦ same
   | inr (inl up) ↦ absurd (
@@ -33,7 +33,7 @@ one_range ranges apart a i j o p = elim (cases_order o.last p.last) [
       let from : o.r.first ≤ a = o.from in let to : a ≤ p.last = p.to in let no : ⊥ = omega (arith, low, from, to) in no)
 ]
 
-pub one_owner : (ranges : OwnedRanges) → RangesAreApart ranges → (a i j : ℕ) → Owns ranges a i → Owns ranges a j → i ≡ j
+pub one_owner : (ranges : OwnedRanges) → OwnedRangesAreApart ranges → (a i j : ℕ) → Owns ranges a i → Owns ranges a j → i ≡ j
 one_owner ranges apart a i j o p =
     let last = one_range ranges apart a i j o p in
     let same : o.r ≡ p.r = same_owned o.r p.r (sym o.stands ∙ subst (λ n. StandsAt ranges n p.r) (sym last) p.stands) in
@@ -41,7 +41,7 @@ one_owner ranges apart a i j o p =
 
 -- ---- a range in which no address has an owner, under its last address
 
-module _ (before after : OwnedRanges) (range : Range) (owner : ℕ) (apart : RangesAreApart before) (some : range.first ≤ range.last)
+module _ (before after : OwnedRanges) (range : Range) (owner : ℕ) (apart : OwnedRangesAreApart before) (some : range.first ≤ range.last)
     (free : (a i : ℕ) → OwnedRangeHas range a → Owns before a i → ⊥)
     (here : lookup (is_at (nat_cmp range.last)) after ≡ Some (record { first = range.first; owner = owner }))
     (others : (q : ℕ) → is_at (nat_cmp range.last) q ≡ false → lookup (is_at (nat_cmp q)) after ≡ lookup (is_at (nat_cmp q)) before) where
@@ -82,7 +82,7 @@ module _ (before after : OwnedRanges) (range : Range) (owner : ℕ) (apart : Ran
         ]
       ]
 
-  pub filled_apart : RangesAreApart after
+  pub filled_apart : OwnedRangesAreApart after
   filled_apart = record {
     each = λ last r at. elim (stands last r at) [
       | inl (e, is) ↦ let f = ap (λ (x : Owned). x.first) is in omega (arith, e, f, some)

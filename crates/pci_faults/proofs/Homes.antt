@@ -2,10 +2,9 @@
 use Rattle.std.proofs.Common.{◌≡◌, ℕ, inl, inr, Bool, true, false, not, refl, ap, subst}
 use Rattle.std.specs.Prelude.{◌||◌}
 use Rattle.std.proofs.lemmas.Bool.{and_from, both_ways}
-use Rattle.pci_spec.specs.System.{Function, Space, Io, Memory, IsPassedTo, is_prefetchable_part}
+use Rattle.pci_spec.specs.System.{Function, Space, Io, Memory, IsPassedTo, is_prefetchable_part, System}
 use Rattle.pci_spec.specs.Slot.{Slot}
 use Rattle.pci_spec.specs.System as system
-use Rattle.pci_spec.specs.System.{System}
 use Rattle.pci_spec.specs.Fault.{address_in, named_region}
 use Rattle.pci_spec.proofs.Verdicts.{passed_by_each}
 use Rattle.pci_base.specs.Space.{space_of}
@@ -19,7 +18,7 @@ use Rattle.judge_spec.specs.ToldClaims.{Told}
 use Rattle.judge_spec.specs.ToldFault.{IsUnreached}
 use Rattle.pci_faults.specs.declared.needed.Needed.{Needed}
 use Rattle.pci_faults.specs.Needed.{IsOfRange}
-use Rattle.pci_faults.specs.Stopped.{IsNeverUnreached, IsLeftWhole, IsWholeAt, NeverCut}
+use Rattle.pci_faults.specs.Stopped.{IsNeverUnreached, IsLeftWhole, IsWholeAtOwnBus, NeverCut}
 use Rattle.pci_faults.proofs.Unreaching.{unreached_from}
 
 -- what windows pass is passed where ISA Enable takes nothing from them
@@ -33,7 +32,7 @@ never_cut given uncut Memory a slot = refl
 
 -- ---- where windows pass all of a region
 
-pub never_where_reached : (given : Given) (t : Tree) (reaches : Reaches) (n : Needed) → AlwaysNested t → AreReachesOf t reaches → IsWholeAt reaches n
+pub never_where_reached : (given : Given) (t : Tree) (reaches : Reaches) (n : Needed) → AlwaysNested t → AreReachesOf t reaches → IsWholeAtOwnBus reaches n
     → IsLeftWhole given n → IsNeverUnreached given t n
 never_where_reached given t reaches n nested are whole uncut told s tree listed one sp a bridge u =
     let (p, needs, stop) = unreached_from told given t.roots s n.name.slot n.name.register sp a bridge u in

@@ -14,24 +14,24 @@ use Rattle.pci_faults.specs.declared.named.Clash.{Clash}
 use Rattle.pci_faults.specs.declared.named.Split.{Split}
 use Rattle.pci_faults.specs.declared.named.Outside.{Outside}
 use Rattle.pci_faults.specs.Named.{unreached_of, clash_of, split_of, outside_of, AreAllOutside, AreAllUnreached, AreAllClashes, AreAllSplits}
-use Rattle.pci_faults.specs.AllLines.{fault_of, AreAllLines}
+use Rattle.pci_faults.specs.AllLines.{any_fault_value, AreAllLines}
 
-module _ {X : Type 0} (code : X → AnyFault) (of : X → untold.Fault) (is : (x : X) → fault_of (code x) ≡ spec.Known (of x)) where
-  coded : (fs : List X) → map fault_of (map code fs) ≡ map spec.Known (map of fs)
+module _ {X : Type 0} (code : X → AnyFault) (of : X → untold.Fault) (is : (x : X) → any_fault_value (code x) ≡ spec.Known (of x)) where
+  coded : (fs : List X) → map any_fault_value (map code fs) ≡ map spec.Known (map of fs)
   coded [] = refl
-  coded (f ∷ fs) = ap (λ (l : List spec.Fault). fault_of (code f) ∷ l) (coded fs) ∙ ap (λ (g : spec.Fault). g ∷ map spec.Known (map of fs)) (is f)
+  coded (f ∷ fs) = ap (λ (l : List spec.Fault). any_fault_value (code f) ∷ l) (coded fs) ∙ ap (λ (g : spec.Fault). g ∷ map spec.Known (map of fs)) (is f)
 
   -- these are added to what is there
-  behind : (xs : List AnyFault) (judged : List untold.Fault) (fs : List X) → map fault_of xs ≡ map spec.Known judged → map fault_of (xs ++ map code fs) ≡ map spec.Known (judged ++ map of fs)
+  behind : (xs : List AnyFault) (judged : List untold.Fault) (fs : List X) → map any_fault_value xs ≡ map spec.Known judged → map any_fault_value (xs ++ map code fs) ≡ map spec.Known (judged ++ map of fs)
   behind xs judged fs are =
-      map-append fault_of xs (map code fs) ∙ ap (λ (l : List spec.Fault). l ++ map fault_of (map code fs)) are
+      map-append any_fault_value xs (map code fs) ∙ ap (λ (l : List spec.Fault). l ++ map any_fault_value (map code fs)) are
       ∙ ap (λ (l : List spec.Fault). map spec.Known judged ++ l) (coded fs) ∙ sym (map-append spec.Known judged (map of fs))
 
 module _ (o : List Outside) (u : List Unreached) (k : List Clash) (s : List Split) where
   abbrev joined : List AnyFault
   joined = ((map (λ f. codes.OutsideHost f) o ++ map (λ f. codes.Unreached f) u) ++ map (λ f. codes.Clash f) k) ++ map (λ f. codes.Split f) s
 
-  joined_are : map fault_of joined ≡ map spec.Known (map outside_of o ++ map unreached_of u ++ map clash_of k ++ map split_of s)
+  joined_are : map any_fault_value joined ≡ map spec.Known (map outside_of o ++ map unreached_of u ++ map clash_of k ++ map split_of s)
   joined_are =
       behind (λ f. codes.Split f) split_of (λ f. refl) _ _ s (behind (λ f. codes.Clash f) clash_of (λ f. refl) _ _ k
       (behind (λ f. codes.Unreached f) unreached_of (λ f. refl) _ _ u (coded (λ f. codes.OutsideHost f) outside_of (λ f. refl) o)))
@@ -40,7 +40,7 @@ module _ (o : List Outside) (u : List Unreached) (k : List Clash) (s : List Spli
       → AreAllSplits told given t s → AreAllLines told given t list
   all_lines told given t list is outsides unreached clashes splits = record {
     judged = map outside_of o ++ map unreached_of u ++ map clash_of k ++ map split_of s;
-    are = ap (map fault_of) is ∙ joined_are;
+    are = ap (map any_fault_value) is ∙ joined_are;
     all = λ sys tree listed. told_all_of_four told given t.roots sys (map outside_of o) (map unreached_of u) (map clash_of k) (map split_of s)
         (outsides sys tree listed) (unreached sys tree listed) (clashes sys tree listed) (splits sys tree listed);
   }

@@ -26,7 +26,7 @@ use Rattle.pci_tree.specs.Trees.{HasTree}
 use Rattle.pci_check.specs.Stops.{AlwaysNested}
 use Rattle.pci_check.specs.Judgement.{IsFree}
 use Rattle.pci_faults.specs.Order.{judging_place}
-use Rattle.pci_faults.specs.Lines.{AreJustLines, AreLinesAdded, IsLineInEach, AreAllListed}
+use Rattle.pci_faults.specs.Lines.{AreJustCodeFaults, AreLinesAdded, IsLineInEach, AreAllListed}
 use Rattle.pci_faults.proofs.Adding.{Where, just_same, lines_both}
 use Rattle.pci_faults.proofs.Places.{looked_for_before, one_key, spelled}
 
@@ -54,13 +54,13 @@ named_line roots s (faults.Split sp a f r g q) = (λ line. line.1, λ line. (inr
 named_line roots s f = (λ line. absurd line, λ line. absurd line)
 
 pub all_just : (t : Tree) (a b c d : List Fault) → a ≡ [] → AreLinesAdded IsReach t a b → AreLinesAdded IsClashing t b c → AreLinesAdded IsSplitting t c d
-    → (s : System) → HasTree t s → AreJustLines (IsNamed t.roots s) d
+    → (s : System) → HasTree t s → AreJustCodeFaults (IsNamed t.roots s) d
 all_just t a b c d empty reach clashes splits s tree =
     let both = lines_both t IsReach IsClashing IsOnBuses (λ k n sp one other. (let no : ⊥ = cc in no)) (λ k n sp. (λ one. one, λ one. one)) a b c reach clashes in
     let all = lines_both t IsOnBuses IsSplitting IsAny (λ k n sp one other. elim one [ inl x ↦ (let y = other.0 in let no : ⊥ = cc in no) | inr x ↦ (let y = other.0 in let no : ⊥ = cc in no) ])
     (λ k n sp. (λ one. one, λ one. one)) a c d both splits in
     let is : d ≡ all.more = all.appended ∙ ap (λ (l : List Fault). l ++ all.more) empty in
-    subst (λ (l : List Fault). AreJustLines (IsNamed t.roots s) l) (sym is) (just_same (IsLineInEach IsAny t.roots s) (IsNamed t.roots s) all.more (named_line t.roots s) (all.just s tree))
+    subst (λ (l : List Fault). AreJustCodeFaults (IsNamed t.roots s) l) (sym is) (just_same (IsLineInEach IsAny t.roots s) (IsNamed t.roots s) all.more (named_line t.roots s) (all.just s tree))
 
 -- ---- in order
 
@@ -70,7 +70,7 @@ place f = judging_place (fault_of f)
 nothing : Fault
 nothing = NoVendor (record { bus = 0; device = 0; function = 0 })
 
-module _ (t : Tree) (nested : AlwaysNested t) (xs ys : List Fault) (s : System) (tree : HasTree t s) (just : AreJustLines (IsNamed t.roots s) xs) (moved : IsPermutation xs ys)
+module _ (t : Tree) (nested : AlwaysNested t) (xs ys : List Fault) (s : System) (tree : HasTree t s) (just : AreJustCodeFaults (IsNamed t.roots s) xs) (moved : IsPermutation xs ys)
     (sorted : IsNonDecreasingBy (λ f. judging_place (fault_of f)) ys) where
   named_in : (f : Fault) → Contains ys f → IsNamed t.roots s (fault_of f)
   named_in f has = just.each f (Contains-permutation ys xs f (IsPermutation-sym xs ys moved) has)

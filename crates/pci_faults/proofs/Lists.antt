@@ -8,7 +8,7 @@ use Rattle.pci_spec.specs.Fault as faults
 use Rattle.pci_spec.proofs.Members.{in_nil, in_cons_cases, in_head, in_tail, pairs_nil, pairs_cons, pairs_append}
 use Rattle.pci_function.specs.declared.fault.Fault.{Fault}
 use Rattle.pci_function.specs.Fault.{fault_of}
-use Rattle.pci_faults.specs.Lists.{AreJust, told}
+use Rattle.pci_faults.specs.Lists.{AreJust, present_faults}
 
 module _ (Before : faults.Fault → faults.Fault → Type 0) where
   -- where there is none, the list is empty
@@ -63,12 +63,12 @@ module _ (Before : faults.Fault → faults.Fault → Type 0) (Is : faults.Fault 
   IsAtPlace k e = Is e × (place e ≡ k)
 
   told_from : (k : ℕ) (os : List (Option Fault)) → ((j : ℕ) → j < length os → IsOnly (IsAtPlace (k + j)) (get_or os j None))
-      → AreJust Before (IsFrom k (k + length os)) (told os)
+      → AreJust Before (IsFrom k (k + length os)) (present_faults os)
   told_from k [] only = just_none Before (IsFrom k (k + 0)) (λ e is. (let low = is.1 in let high = is.2 in let no : ⊥ = omega (arith, low, high) in no))
   told_from k (None ∷ os) only =
       let here : (e : faults.Fault) → IsAtPlace k e → ⊥ = subst (λ n. (e : faults.Fault) → IsAtPlace n e → ⊥) (let z : k + 0 ≡ k = omega arith in z) (only 0 (omega arith)) in
       let rest = told_from (k + 1) os (λ j less. subst (λ n. IsOnly (IsAtPlace n) (get_or os j None)) (let z : k + suc j ≡ k + 1 + j = omega arith in z) (only (suc j) (omega (arith, less)))) in
-      just_same Before Before (IsFrom (k + 1) (k + 1 + length os)) (IsFrom k (k + suc (length os))) (told os) rest
+      just_same Before Before (IsFrom (k + 1) (k + 1 + length os)) (IsFrom k (k + suc (length os))) (present_faults os) rest
       (λ e is. (let low = is.1 in let high = is.2 in (is.0, omega (arith, low), omega (arith, high))))
       (λ e is. elim (cases_lt k (place e)) [
         | inl later ↦ (let high = is.2 in (is.0, omega (arith, later), omega (arith, high)))
@@ -79,46 +79,46 @@ module _ (Before : faults.Fault → faults.Fault → Type 0) (Is : faults.Fault 
       let here : IsOnly (IsAtPlace k) (Some x) = subst (λ n. IsOnly (IsAtPlace n) (Some x)) (let z : k + 0 ≡ k = omega arith in z) (only 0 (omega arith)) in
       let rest = told_from (k + 1) os (λ j less. subst (λ n. IsOnly (IsAtPlace n) (get_or os j None)) (let z : k + suc j ≡ k + 1 + j = omega arith in z) (only (suc j) (omega (arith, less)))) in
       record {
-        each = λ e has. elim (in_cons_cases (fault_of x) (told os) e has) [
+        each = λ e has. elim (in_cons_cases (fault_of x) (present_faults os) e has) [
           | inl same ↦ subst (IsFrom k (k + suc (length os))) same (let at = here.0.1 in (here.0.0, omega (arith, at), omega (arith, at)))
           | inr later ↦ (let is = rest.each e later in let low = is.1 in let high = is.2 in (is.0, omega (arith, low), omega (arith, high)))
         ];
         complete = λ e is. elim (cases_lt k (place e)) [
-          | inl later ↦ in_tail (fault_of x) (told os) e (rest.complete e (let high = is.2 in (is.0, omega (arith, later), omega (arith, high))))
+          | inl later ↦ in_tail (fault_of x) (present_faults os) e (rest.complete e (let high = is.2 in (is.0, omega (arith, later), omega (arith, high))))
           | inr not_later ↦
-              subst (λ y. Contains (fault_of x ∷ told os) y) (sym (here.1 e (is.0, (let low = is.1 in let z : place e ≡ k = omega (arith, low, not_later) in z))))
-              (in_head (fault_of x) (told os))
+              subst (λ y. Contains (fault_of x ∷ present_faults os) y) (sym (here.1 e (is.0, (let low = is.1 in let z : place e ≡ k = omega (arith, low, not_later) in z))))
+              (in_head (fault_of x) (present_faults os))
         ];
-        rising = pairs_cons Before (fault_of x) (told os)
+        rising = pairs_cons Before (fault_of x) (present_faults os)
             (λ e has. (let is = rest.each e has in let low = is.1 in let at = here.0.1 in rise (fault_of x) e here.0.0 is.0 (omega (arith, low, at))))
             rest.rising;
       }
 
   -- a list with one fault for each place, where each has a place in it
   pub told_by_place : (os : List (Option Fault)) → ((e : faults.Fault) → Is e → place e < length os)
-      → ((j : ℕ) → j < length os → IsOnly (IsAtPlace j) (get_or os j None)) → AreJust Before Is (told os)
+      → ((j : ℕ) → j < length os → IsOnly (IsAtPlace j) (get_or os j None)) → AreJust Before Is (present_faults os)
   told_by_place os within only =
-      just_same Before Before (IsFrom 0 (0 + length os)) Is (told os)
+      just_same Before Before (IsFrom 0 (0 + length os)) Is (present_faults os)
       (told_from 0 os (λ j less. subst (λ n. IsOnly (IsAtPlace n) (get_or os j None)) (let z : j ≡ 0 + j = omega arith in z) (only j less)))
       (λ e is. is.0) (λ e is. (is, omega arith, (let less = within e is in omega (arith, less)))) (λ a b is_a is_b before. before)
 
 -- ---- faults that are told one by one
 
-told_append : (xs ys : List (Option Fault)) → told (xs ++ ys) ≡ told xs ++ told ys
+told_append : (xs ys : List (Option Fault)) → present_faults (xs ++ ys) ≡ present_faults xs ++ present_faults ys
 told_append [] ys = refl
 told_append (None ∷ xs) ys = told_append xs ys
 told_append (Some x ∷ xs) ys = ap (λ rest. fault_of x ∷ rest) (told_append xs ys)
 
 -- one more of them
-pub told_more : (xs : List (Option Fault)) (i : ℕ) (o : Option Fault) → i < length xs → o ≡ get_or xs i o → told (take (i + 1) xs) ≡ told (take i xs) ++ told (o ∷ [])
+pub told_more : (xs : List (Option Fault)) (i : ℕ) (o : Option Fault) → i < length xs → o ≡ get_or xs i o → present_faults (take (i + 1) xs) ≡ present_faults (take i xs) ++ present_faults (o ∷ [])
 told_more xs i o within at =
-    ap told (take_more xs i o within) ∙ told_append (take i xs) (get_or xs i o ∷ []) ∙ ap (λ x. told (take i xs) ++ told (x ∷ [])) (sym at)
+    ap present_faults (take_more xs i o within) ∙ told_append (take i xs) (get_or xs i o ∷ []) ∙ ap (λ x. present_faults (take i xs) ++ present_faults (x ∷ [])) (sym at)
 
 pub told_push : (old : List faults.Fault) (items : List Fault) (xs : List (Option Fault)) (i : ℕ) (x : Fault) → i < length xs → Some x ≡ get_or xs i (Some x)
-    → map fault_of items ≡ old ++ told (take i xs) → map fault_of (items ++ x ∷ []) ≡ old ++ told (take (i + 1) xs)
+    → map fault_of items ≡ old ++ present_faults (take i xs) → map fault_of (items ++ x ∷ []) ≡ old ++ present_faults (take (i + 1) xs)
 told_push old items xs i x within at e =
-    map_push fault_of items x ∙ ap (λ ys. ys ++ fault_of x ∷ []) e ∙ append_assoc old (told (take i xs)) (fault_of x ∷ [])
+    map_push fault_of items x ∙ ap (λ ys. ys ++ fault_of x ∷ []) e ∙ append_assoc old (present_faults (take i xs)) (fault_of x ∷ [])
     ∙ ap (λ ys. old ++ ys) (sym (told_more xs i (Some x) within at))
 
-pub told_skip : (old : List faults.Fault) (xs : List (Option Fault)) (i : ℕ) → i < length xs → None ≡ get_or xs i None → old ++ told (take i xs) ≡ old ++ told (take (i + 1) xs)
-told_skip old xs i within at = ap (λ ys. old ++ ys) (sym (told_more xs i None within at ∙ append-nil (told (take i xs))))
+pub told_skip : (old : List faults.Fault) (xs : List (Option Fault)) (i : ℕ) → i < length xs → None ≡ get_or xs i None → old ++ present_faults (take i xs) ≡ old ++ present_faults (take (i + 1) xs)
+told_skip old xs i within at = ap (λ ys. old ++ ys) (sym (told_more xs i None within at ∙ append-nil (present_faults (take i xs))))

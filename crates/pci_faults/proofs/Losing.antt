@@ -19,15 +19,15 @@ use Rattle.pci_tree.specs.declared.region.Region.{Region}
 use Rattle.pci_tree.specs.Outline.{Tree}
 use Rattle.pci_tree.specs.Regions.{IsRegionOn, region_number as number_of, is_of_window}
 use Rattle.pci_tree.specs.Trees.{HasTree}
-use Rattle.pci_check.specs.Stops.{Reaches, AreReachesOf, AlwaysNested, AreListed, IsWholeAt, IsReachedAt, IsWholeInEach, IsLineOf, IsLineFault}
+use Rattle.pci_check.specs.Stops.{Reaches, AreReachesOf, AlwaysNested, AreBusRegionsOfTree, IsWholeAt, IsReachedAt, IsWholeInEach, IsLineOf, IsLineFault}
 use Rattle.pci_check.proofs.Homes.{passed_on}
 use Rattle.pci_tree.proofs.RegionOrder.{number_same}
-use Rattle.pci_faults.specs.Lines.{region_at, nothing_shared, AreAdded, AreLinesAdded, IsLineInEach, IsAt}
+use Rattle.pci_faults.specs.Lines.{sharing_region_at, nothing_shared, AreCodeFaultsAppended, AreLinesAdded, IsLineInEach, IsAt}
 use Rattle.pci_faults.proofs.Adding.{added_none, added_one, added_both, added_same}
 use Rattle.pci_faults.proofs.Naming.{IsAtPlace, number_at, one_place, places_of, rising_of}
 
 -- where no system has the tree, everything holds
-added_nowhere : (t : Tree) (P Q : System → faults.Fault → Type 0) (a b : List Fault) → ((s : System) → HasTree t s → ⊥) → AreAdded t P a b → AreAdded t Q a b
+added_nowhere : (t : Tree) (P Q : System → faults.Fault → Type 0) (a b : List Fault) → ((s : System) → HasTree t s → ⊥) → AreCodeFaultsAppended t P a b → AreCodeFaultsAppended t Q a b
 added_nowhere t P Q a b none added = record { more = added.more; appended = added.appended; just = λ s tree. absurd (none s tree) }
 
 module _ (t : Tree) (space : SpaceValue) (regions : List Region) where
@@ -40,18 +40,18 @@ module _ (t : Tree) (space : SpaceValue) (regions : List Region) where
   abbrev pub IsLineBelow : ℕ → System → faults.Fault → Type 0
   IsLineBelow n s fault = (k : ℕ) × (k < n) × (k < length regions) × IsLineAt k s fault
 
-  pub none_yet : (list : List Fault) → AreAdded t (IsLineBelow 0) list list
+  pub none_yet : (list : List Fault) → AreCodeFaultsAppended t (IsLineBelow 0) list list
   none_yet list = added_none t (IsLineBelow 0) list (λ s tree f line. (let less = line.1 in let no : ⊥ = omega (arith, less) in no))
 
-module _ (t : Tree) (bus : ℕ) (space : SpaceValue) (regions : List Region) (listed : AreListed t bus space regions) where
+module _ (t : Tree) (bus : ℕ) (space : SpaceValue) (regions : List Region) (listed : AreBusRegionsOfTree t bus space regions) where
   abbrev LineAt : ℕ → System → faults.Fault → Type 0
   LineAt = IsLineAt t space regions
 
   abbrev LineBelow : ℕ → System → faults.Fault → Type 0
   LineBelow = IsLineBelow t space regions
 
-  on : (s : System) → HasTree t s → (k : ℕ) → k < length regions → IsRegionOn s bus space (region_at regions k)
-  on s tree k within = (listed s tree.records).each (region_at regions k) (Contains-get_or regions k nothing_shared within)
+  on : (s : System) → HasTree t s → (k : ℕ) → k < length regions → IsRegionOn s bus space (sharing_region_at regions k)
+  on s tree k within = (listed s tree.records).each (sharing_region_at regions k) (Contains-get_or regions k nothing_shared within)
 
   -- ---- one region has one line
 
@@ -80,7 +80,7 @@ module _ (t : Tree) (bus : ℕ) (space : SpaceValue) (regions : List Region) (li
   apart s tree n within (faults.Unreached u r sp a c) (faults.Unreached v q sq b d) (k, less, inside, (at, e, one)) (at_other, h, two) same =
       let place : (i : ℕ) → get_or (judging_key (faults.Unreached u r sp a c)) i 0 ≡ get_or (judging_key (faults.Unreached v q sq b d)) i 0 = λ i. ap (λ l. get_or l i 0) same in
       let slot : u ≡ v = slot_from u v (place 1) (place 2) (place 3) in
-      let numbers : number_of (region_at regions k) ≡ number_of (region_at regions n) = number_at (places_of regions) k u r at ∙ number_same u v r q slot (place 4) ∙ sym (number_at (places_of regions) n v q at_other) in
+      let numbers : number_of (sharing_region_at regions k) ≡ number_of (sharing_region_at regions n) = number_at (places_of regions) k u r at ∙ number_same u v r q slot (place 4) ∙ sym (number_at (places_of regions) n v q at_other) in
       let one_k = one_place (places_of regions) (rising_of regions (listed s tree.records).rising) k n inside within numbers in
       let no : ⊥ = omega (arith, less, one_k) in no
   apart s tree n within f g one two same = absurd (search rules)
@@ -94,14 +94,14 @@ module _ (t : Tree) (bus : ℕ) (space : SpaceValue) (regions : List Region) (li
   )
 
   pub without_line : (n : ℕ) → n < length regions → (a b : List Fault) → ((s : System) → HasTree t s → (f : faults.Fault) → LineAt n s f → ⊥)
-      → AreAdded t (LineBelow n) a b → AreAdded t (LineBelow (n + 1)) a b
+      → AreCodeFaultsAppended t (LineBelow n) a b → AreCodeFaultsAppended t (LineBelow (n + 1)) a b
   without_line n within a b none added = added_same t (LineBelow n) (LineBelow (n + 1)) a b (λ s tree f. (
     λ line. (one_more n within s f).1 (inl line),
     λ line. elim ((one_more n within s f).0 line) [ inl before ↦ before | inr here ↦ absurd (none s tree f here) ],
   )) added
 
   pub with_line : (n : ℕ) → n < length regions → (a b : List Fault) (fault : Fault) → ((s : System) → HasTree t s → LineAt n s (fault_of fault))
-      → AreAdded t (LineBelow n) a b → AreAdded t (LineBelow (n + 1)) a (b ++ fault ∷ [])
+      → AreCodeFaultsAppended t (LineBelow n) a b → AreCodeFaultsAppended t (LineBelow (n + 1)) a (b ++ fault ∷ [])
   with_line n within a b fault is added = added_both t (LineBelow n) (LineAt n) (LineBelow (n + 1)) a b (b ++ fault ∷ [])
       (λ s tree f g line other same. apart s tree n within f g line other same) (λ s tree f. one_more n within s f) added
       (added_one t (LineAt n) b fault (λ s tree. (is s tree, λ g line. one_line s n (fault_of fault) g (is s tree) line)))
@@ -110,13 +110,13 @@ module _ (t : Tree) (bus : ℕ) (space : SpaceValue) (regions : List Region) (li
 
   module _ (reaches : Reaches) (reached : AreReachesOf t reaches) (nested : AlwaysNested t) (n : ℕ) (within : n < length regions) where
     -- a region that is reached has none
-    pub none_of_reached : IsReachedAt reaches space bus (region_at regions n) → (s : System) → HasTree t s → (f : faults.Fault) → LineAt n s f → ⊥
+    pub none_of_reached : IsReachedAt reaches space bus (sharing_region_at regions n) → (s : System) → HasTree t s → (f : faults.Fault) → LineAt n s f → ⊥
     none_of_reached at s tree (faults.Unreached slot register sp a b) (named, e, line) =
         let is_on = on s tree n within in
         let f = is_on.f in
         let part = is_on.part in
         let some = is_on.is.some in
-        let claimed = (is_on.is.claims (region_at regions n).first).0 (omega arith, some) in
+        let claimed = (is_on.is.claims (sharing_region_at regions n).first).0 (omega arith, some) in
         let same_slot : slot ≡ f.slot = sym named.slot_is ∙ is_on.is.slot in
         let same_register : register ≡ register_of f part = sym named.register_is ∙ is_on.is.register in
         let moved : IsUnreachedOf t.roots s (named_region f.slot (register_of f part)) (address_in sp a) b = subst (λ m. IsUnreachedOf t.roots s (named_region f.slot m) (address_in sp a) b) same_register
@@ -129,23 +129,23 @@ module _ (t : Tree) (bus : ℕ) (space : SpaceValue) (regions : List Region) (li
         let bus_is = is_on.on_bus in
         subst (λ m. IsPassedTo t.roots s sq (is_prefetchable_part f part) c m) (sym bus_is)
         (subst (λ (x : SpaceValue). IsPassedTo t.roots s x (is_prefetchable_part f part) c bus) here
-        (passed_on t reaches reached nested s tree bus (omega (arith, small, bus_is)) space f part (region_at regions n) c is_on.is no_window at
+        (passed_on t reaches reached nested s tree bus (omega (arith, small, bus_is)) space f part (sharing_region_at regions n) c is_on.is no_window at
         (subst (λ (x : SpaceValue). Claims f part x c) (sym here) claims))))
         sp a b moved
     none_of_reached at s tree f line = absurd (search rules)
 
     -- one that isn't can't be whole
-    pub not_whole : (IsWholeAt reaches space bus (region_at regions n) → ⊥) → IsWholeInEach t reaches space (region_at regions n) → (s : System) → HasTree t s → ⊥
+    pub not_whole : (IsWholeAt reaches space bus (sharing_region_at regions n) → ⊥) → IsWholeInEach t reaches space (sharing_region_at regions n) → (s : System) → HasTree t s → ⊥
     not_whole lost whole s tree =
         let is_on = on s tree n within in
-        lost (subst (λ m. IsWholeAt reaches space m (region_at regions n)) (ap (λ (x : Slot). x.bus) is_on.is.slot ∙ is_on.on_bus) (whole s tree bus is_on))
+        lost (subst (λ m. IsWholeAt reaches space m (sharing_region_at regions n)) (ap (λ (x : Slot). x.bus) is_on.is.slot ∙ is_on.on_bus) (whole s tree bus is_on))
 
-    line_at : (s : System) (f : faults.Fault) → IsLineOf t.roots s space (region_at regions n) f → LineAt n s f
+    line_at : (s : System) (f : faults.Fault) → IsLineOf t.roots s space (sharing_region_at regions n) f → LineAt n s f
     line_at s (faults.Unreached slot register sp a b) (slot_is, register_is, e, line) = (record { slot_is = sym slot_is; register_is = sym register_is }, e, line)
     line_at s f line = absurd (search rules)
 
     -- and has the line that was found
-    pub found_line : (fault : Fault) → is_of_window (region_at regions n).part ≡ false → IsLineFault t space (region_at regions n) fault → (s : System) → HasTree t s → LineAt n s (fault_of fault)
+    pub found_line : (fault : Fault) → is_of_window (sharing_region_at regions n).part ≡ false → IsLineFault t space (sharing_region_at regions n) fault → (s : System) → HasTree t s → LineAt n s (fault_of fault)
     found_line fault no_window is s tree = line_at s (fault_of fault) (is s tree bus (on s tree n within) no_window)
 
   -- ---- all regions of the bus
@@ -160,7 +160,7 @@ module _ (t : Tree) (bus : ℕ) (space : SpaceValue) (regions : List Region) (li
   region_of_line s tree (faults.Unreached slot register sp a b) ((one, on_bus, e), line) =
       let u = line.there in
       let found = (listed s tree.records).complete u.f u.part a u.listed (ap (λ (x : Slot). x.bus) u.named.0 ∙ on_bus) (subst (λ (x : SpaceValue). Claims u.f u.part x a) e u.claims) in
-      let is : region_at regions found.has.0 ≡ found.q = get_or_default regions found.has.0 nothing_shared found.q found.has.1 ∙ found.has.2 in (
+      let is : sharing_region_at regions found.has.0 ≡ found.q = get_or_default regions found.has.0 nothing_shared found.q found.has.1 ∙ found.has.2 in (
         found.has.0,
         found.has.1,
         found.has.1,
@@ -177,5 +177,5 @@ module _ (t : Tree) (bus : ℕ) (space : SpaceValue) (regions : List Region) (li
   region_of_line s tree (faults.Split sp a f r g q) (at, line) = absurd (let no : ⊥ = cc in no)
   region_of_line s tree f line = absurd (search rules)
 
-  pub lines_of_bus : (a b : List Fault) → AreAdded t (LineBelow (length regions)) a b → AreLinesAdded (IsAt Reach bus space) t a b
+  pub lines_of_bus : (a b : List Fault) → AreCodeFaultsAppended t (LineBelow (length regions)) a b → AreLinesAdded (IsAt Reach bus space) t a b
   lines_of_bus a b added = added_same t (LineBelow (length regions)) (IsLineInEach (IsAt Reach bus space) t.roots) a b (λ s tree f. (line_of_region s tree f, region_of_line s tree f)) added

@@ -16,7 +16,7 @@ use Rattle.pci_spec.proofs.Members.{IsMade, in_map_to, in_nil, in_head, in_tail,
 use Rattle.pci_tree.proofs.Pairs.{number_same}
 use Rattle.pci_faults.specs.Lists.{AreJust}
 use Rattle.pci_faults.specs.OwnLines.{IsBeforeAt}
-use Rattle.pci_faults.specs.Slots.{IsLoneIn, IsLoneSlot, IsFront}
+use Rattle.pci_faults.specs.Slots.{IsLoneIn, IsLoneSlot, IsFirstSlotNumber}
 use Rattle.pci_faults.proofs.Keys.{lower_precedes, not_before_itself, same_phase}
 use Rattle.pci_faults.proofs.Lines.{all_faults}
 
@@ -59,7 +59,7 @@ above_first : (x : Slot) (xs : List Slot) (u : Slot) → Rise (x ∷ xs) → Con
 above_first x xs u rise has = pairs_head (λ s t. slot_number s < slot_number t) x xs u rise has
 
 -- and what a lower number precedes doesn't have it
-above_front : (ys : List Slot) (k n : ℕ) (u : Slot) → Rise ys → IsFront ys n → k < n → Contains ys u → k < slot_number u
+above_front : (ys : List Slot) (k n : ℕ) (u : Slot) → Rise ys → IsFirstSlotNumber ys n → k < n → Contains ys u → k < slot_number u
 above_front [] k n u rise front less has = absurd (in_nil u has)
 above_front (y ∷ ys) k n u rise front less has = elim (in_cons_cases y ys u has) [
   | inl here ↦ (let e = ap slot_number here in omega (arith, e, front, less))
@@ -267,23 +267,23 @@ module _ (dump probe : List Block) (hd : IsDump dump) (hp : IsDump probe) where
   pub merging_begins : IsMergingAt 0 0 []
   merging_begins = merging_none (IsBeforeAt (system_of dump probe)) (slots_of dump) (slots_of probe) (lone_before dump probe hd hp) (rise_of dump hd) (rise_of probe hp)
 
-  pub merging_ours : (i j m n : ℕ) (b : Block) (es : List Fault) → i < length dump → b ≡ get_or dump i b → IsFront (drop i (slots_of dump)) m → IsFront (drop j (slots_of probe)) n → m < n
+  pub merging_ours : (i j m n : ℕ) (b : Block) (es : List Fault) → i < length dump → b ≡ get_or dump i b → IsFirstSlotNumber (drop i (slots_of dump)) m → IsFirstSlotNumber (drop j (slots_of probe)) n → m < n
       → IsMergingAt i j es → IsMergingAt (i + 1) j (es ++ SlotsDiffer b.slot ∷ [])
   merging_ours i j m n b es within at ours theirs less is =
       let Before = IsBeforeAt (system_of dump probe) in
       let front = drop_slots dump i b within at in
-      let number : m ≡ slot_number b.slot = subst (λ xs. IsFront xs m) front ours in
+      let number : m ≡ slot_number b.slot = subst (λ xs. IsFirstSlotNumber xs m) front ours in
       let here : IsMerging Before (slots_of dump) (slots_of probe) (b.slot ∷ drop (i + 1) (slots_of dump)) (drop j (slots_of probe)) es =
       subst (λ xs. IsMerging Before (slots_of dump) (slots_of probe) xs (drop j (slots_of probe)) es) front is in
       merging_left Before (slots_of dump) (slots_of probe) (lone_before dump probe hd hp) b.slot (drop (i + 1) (slots_of dump)) (drop j (slots_of probe)) es here
       (λ u has. above_front (drop j (slots_of probe)) (slot_number b.slot) n u here.right theirs (omega (arith, number, less)) has)
 
-  pub merging_theirs : (i j m n : ℕ) (p : Block) (es : List Fault) → j < length probe → p ≡ get_or probe j p → IsFront (drop i (slots_of dump)) m → IsFront (drop j (slots_of probe)) n → n < m
+  pub merging_theirs : (i j m n : ℕ) (p : Block) (es : List Fault) → j < length probe → p ≡ get_or probe j p → IsFirstSlotNumber (drop i (slots_of dump)) m → IsFirstSlotNumber (drop j (slots_of probe)) n → n < m
       → IsMergingAt i j es → IsMergingAt i (j + 1) (es ++ SlotsDiffer p.slot ∷ [])
   merging_theirs i j m n p es within at ours theirs less is =
       let Before = IsBeforeAt (system_of dump probe) in
       let front = drop_slots probe j p within at in
-      let number : n ≡ slot_number p.slot = subst (λ ys. IsFront ys n) front theirs in
+      let number : n ≡ slot_number p.slot = subst (λ ys. IsFirstSlotNumber ys n) front theirs in
       let here : IsMerging Before (slots_of dump) (slots_of probe) (drop i (slots_of dump)) (p.slot ∷ drop (j + 1) (slots_of probe)) es =
       subst (λ ys. IsMerging Before (slots_of dump) (slots_of probe) (drop i (slots_of dump)) ys es) front is in
       merging_right Before (slots_of dump) (slots_of probe) (lone_before dump probe hd hp) p.slot (drop i (slots_of dump)) (drop (j + 1) (slots_of probe)) es here
@@ -298,7 +298,7 @@ module _ (dump probe : List Block) (hd : IsDump dump) (hp : IsDump probe) where
       (subst (λ xs. IsMerging Before (slots_of dump) (slots_of probe) xs (drop j (slots_of probe)) es) ours is))
 
   -- of the same number
-  pub merging_same : (i j n : ℕ) (es : List Fault) → i < length dump → j < length probe → IsFront (drop i (slots_of dump)) n → IsFront (drop j (slots_of probe)) n
+  pub merging_same : (i j n : ℕ) (es : List Fault) → i < length dump → j < length probe → IsFirstSlotNumber (drop i (slots_of dump)) n → IsFirstSlotNumber (drop j (slots_of probe)) n
       → IsMergingAt i j es → IsMergingAt (i + 1) (j + 1) es
   merging_same i j n es in_dump in_probe ours theirs is =
       let some : Block = record { slot = record { bus = 0; device = 0; function = 0 }; title = None; image = [] } in
@@ -308,8 +308,8 @@ module _ (dump probe : List Block) (hd : IsDump dump) (hp : IsDump probe) where
       let at_p = get_or_default probe j p some in_probe in
       let drop_b = drop_slots dump i b in_dump (sym at_b) in
       let drop_p = drop_slots probe j p in_probe (sym at_p) in
-      let one : n ≡ slot_number b.slot = subst (λ xs. IsFront xs n) drop_b ours in
-      let two : n ≡ slot_number p.slot = subst (λ ys. IsFront ys n) drop_p theirs in
+      let one : n ≡ slot_number b.slot = subst (λ xs. IsFirstSlotNumber xs n) drop_b ours in
+      let two : n ≡ slot_number p.slot = subst (λ ys. IsFirstSlotNumber ys n) drop_p theirs in
       both_at i j b.slot p.slot es
       (number_same b.slot p.slot (All-contains IsBlock dump b hd.each (i, in_dump, at_b)).slot (All-contains IsBlock probe p hp.each (j, in_probe, at_p)).slot (sym one ∙ two))
       drop_b drop_p is

@@ -15,7 +15,7 @@ use Rattle.pci_tree.specs.declared.region.Region.{Region}
 use Rattle.pci_tree.specs.Regions.{region_number as number_of}
 use Rattle.pci_tree.proofs.RegionOrder.{number_same}
 use Rattle.pci_faults.specs.declared.shares.Share.{Share}
-use Rattle.pci_faults.specs.Lines.{region_at, nothing_shared, AreJustLines}
+use Rattle.pci_faults.specs.Lines.{sharing_region_at, nothing_shared, AreJustCodeFaults}
 use Rattle.pci_faults.proofs.Adding.{Differ}
 
 -- how two regions, by slot and register, meet at an address
@@ -86,7 +86,7 @@ pub record Places : Type 0 where
   pub register_at : ℕ → ℕ
 
 abbrev pub places_of : List Region → Places
-places_of regions = record { size = length regions; slot_at = λ k. (region_at regions k).slot; register_at = λ k. (region_at regions k).reg }
+places_of regions = record { size = length regions; slot_at = λ k. (sharing_region_at regions k).slot; register_at = λ k. (sharing_region_at regions k).reg }
 
 abbrev pub number_in : Places → ℕ → ℕ
 number_in places k = region_number (places.slot_at k) (places.register_at k)
@@ -255,5 +255,5 @@ module _ (places : Places) (rising : AreRising places) (Shares : SharedAt) (orde
         let rise = rising one.second other.second up (order other.address other.first other.second there).1 in
         (let no : ⊥ = omega (arith, numbers, rise) in no))
 
-    pub just_told : AreJustLines P (map fault_at list)
+    pub just_told : AreJustCodeFaults P (map fault_at list)
     just_told = record { each = each_told; complete = complete_told; distinct = differ_told }

@@ -22,7 +22,7 @@ use Rattle.pci_tree.proofs.RegionParts.{window_named}
 use Rattle.judge_spec.specs.ToldClaims.{Told}
 use Rattle.pci_faults.specs.declared.needed.Needed.{Needed}
 use Rattle.pci_faults.specs.Clashes.{IsOnBusIn}
-use Rattle.pci_faults.specs.Needed.{IsOfBar, IsOfRange, Which, IsNeeded, IsOfBarAt, needed_place, IsOneOf, HasName, AreJust, Differ, AreAdded, AreBarsAdded, AreAllNeeded, AreToldNeeded, needed_of, needed_among}
+use Rattle.pci_faults.specs.Needed.{IsOfBar, IsOfRange, Which, IsNeeded, IsOfBarAt, needed_place, IsOneOf, HasName, AreJustNeededRegions, Differ, AreNeededAppended, AreBarsAdded, AreAllNeeded, AreToldNeeded, needed_of, needed_among}
 use Rattle.pci_faults.proofs.AllClashing.{Where, IsBelow, IsOnBus, not_both_spaces, either_space, not_below_and_on, below_or_on}
 use Rattle.pci_claims.proofs.Making.{rise_in_order}
 
@@ -90,7 +90,7 @@ module _ (A B C : Which) (apart : Apart A B) (either : Either A B C) where
       (subst (λ r. A s n.name.slot r (space_of n.space) n.range.first n.prefetch) names.1 (first_of A s n one)) in
       apart s system m.name.slot m.name.register (space_of n.space) n.range.first n.prefetch (space_of m.space) m.range.first m.prefetch there (first_of B s m two)
 
-  both_are : (s : System) → IsSystem s → (xs ys : List Needed) → AreJust A Differ s xs → AreJust B Differ s ys → AreJust C Differ s (xs ++ ys)
+  both_are : (s : System) → IsSystem s → (xs ys : List Needed) → AreJustNeededRegions A Differ s xs → AreJustNeededRegions B Differ s ys → AreJustNeededRegions C Differ s (xs ++ ys)
   both_are s system xs ys one two = record {
     each = λ n has. elim (Contains-append_cases xs ys n has) [
       | inl before ↦ left_of s system n (one.each n before)
@@ -103,7 +103,7 @@ module _ (A B C : Which) (apart : Apart A B) (either : Either A B C) where
     pairs = pairs_append Differ xs ys one.pairs two.pairs (λ n m in_xs in_ys. two_differ s system n m (one.each n in_xs) (two.each m in_ys));
   }
 
-  pub both_added : (t : Tree) (a b c : List Needed) → AreAdded A t a b → AreAdded B t b c → AreAdded C t a c
+  pub both_added : (t : Tree) (a b c : List Needed) → AreNeededAppended A t a b → AreNeededAppended B t b c → AreNeededAppended C t a c
   both_added t a b c one two = record {
     more = one.more ++ two.more;
     appended = two.appended ∙ ap (λ (l : List Needed). l ++ two.more) one.appended ∙ append_assoc a one.more two.more;
@@ -112,7 +112,7 @@ module _ (A B C : Which) (apart : Apart A B) (either : Either A B C) where
 
 -- where there is none
 pub none_added : (W : Which) (t : Tree) → ((s : System) → HasTree t s → (slot : Slot) (register : ℕ) (space : SpaceValue) (a : ℕ) (p : Bool) → W s slot register space a p → ⊥)
-    → (list : List Needed) → AreAdded W t list list
+    → (list : List Needed) → AreNeededAppended W t list list
 none_added W t none list = record {
   more = [];
   appended = sym (append-nil list);
@@ -126,7 +126,7 @@ none_added W t none list = record {
 -- where two sources are the same
 pub same_added : (A B : Which) (t : Tree)
     → ((s : System) → HasTree t s → (slot : Slot) (register : ℕ) (space : SpaceValue) (a : ℕ) (p : Bool) → A s slot register space a p ↔ B s slot register space a p)
-    → (before after : List Needed) → AreAdded A t before after → AreAdded B t before after
+    → (before after : List Needed) → AreNeededAppended A t before after → AreNeededAppended B t before after
 same_added A B t same before after added = record {
   more = added.more;
   appended = added.appended;
@@ -218,7 +218,7 @@ module _ (s : System) (system : IsSystem s) (bus : ℕ) (space : Space) (regions
       let no : ⊥ = omega (arith, up, same, low, high) in
       no
 
-  among_are : AreJust (IsOfBarAt (IsOnBusIn bus (space_of space))) Differ s (needed_among space regions)
+  among_are : AreJustNeededRegions (IsOfBarAt (IsOnBusIn bus (space_of space))) Differ s (needed_among space regions)
   among_are = record {
     each = each_among;
     complete = complete_among;
@@ -258,7 +258,7 @@ module _ (t : Tree) where
   pub one_bus_more : (n : ℕ) (a b c : List Needed) → AreBarsAdded (IsBelow n) t a b → AreBarsAdded (IsOnBus n) t b c → AreBarsAdded (IsBelow (n + 1)) t a c
   one_bus_more n a b c one two = both_bars (IsBelow n) (IsOnBus n) (IsBelow (n + 1)) (not_below_and_on n) (below_or_on n) a b c one two
 
-  pub all_buses : (a b : List Needed) → AreBarsAdded (IsBelow 256) t a b → AreAdded IsOfBar t a b
+  pub all_buses : (a b : List Needed) → AreBarsAdded (IsBelow 256) t a b → AreNeededAppended IsOfBar t a b
   all_buses a b added = same_added (IsOfBarAt (IsBelow 256)) IsOfBar t (λ s tree slot register space a p. (
     λ is. is.0,
     λ (bar : IsOfBar s slot register space a p). (bar, subst (λ (x : Slot). x.bus < 256) bar.named.0 (slot_of s tree.system bar.f bar.listed).0),
@@ -276,23 +276,23 @@ bars_and_ranges_apart told s system slot register space a p sp b q bar range =
     no
 
 -- in order
-sorted_are : (W : Which) (t : Tree) (none xs ys : List Needed) → none ≡ [] → AreAdded W t none xs → IsPermutation xs ys → IsNonDecreasingBy needed_place ys
-    → (s : System) → HasTree t s → AreJust W (λ n m. needed_place n < needed_place m) s ys
+sorted_are : (W : Which) (t : Tree) (none xs ys : List Needed) → none ≡ [] → AreNeededAppended W t none xs → IsPermutation xs ys → IsNonDecreasingBy needed_place ys
+    → (s : System) → HasTree t s → AreJustNeededRegions W (λ n m. needed_place n < needed_place m) s ys
 sorted_are W t none xs ys empty added moved sorted s tree =
     let is : xs ≡ added.more = added.appended ∙ ap (λ (l : List Needed). l ++ added.more) empty in
-    let all = subst (AreJust W Differ s) (sym is) (added.are s tree) in record {
+    let all = subst (AreJustNeededRegions W Differ s) (sym is) (added.are s tree) in record {
       each = λ n has. all.each n (Contains-permutation ys xs n (IsPermutation-sym xs ys moved) has);
       complete = λ slot register space a p is. has_more xs ys (λ n has. Contains-permutation xs ys n moved has) slot register (all.complete slot register space a p is);
       pairs = rise_in_order needed_place xs ys all.pairs moved sorted;
     }
 
-pub all_are : (told : Told) (t : Tree) (none bars xs ys : List Needed) → none ≡ [] → AreAdded IsOfBar t none bars → AreAdded (IsOfRange told) t bars xs → IsPermutation xs ys
+pub all_are : (told : Told) (t : Tree) (none bars xs ys : List Needed) → none ≡ [] → AreNeededAppended IsOfBar t none bars → AreNeededAppended (IsOfRange told) t bars xs → IsPermutation xs ys
     → IsNonDecreasingBy needed_place ys → AreAllNeeded told t ys
 all_are told t none bars xs ys empty of_bars of_ranges moved sorted s tree =
     sorted_are (IsNeeded told) t none xs ys empty (both_added IsOfBar (IsOfRange told) (IsNeeded told) (bars_and_ranges_apart told) (λ s slot register space a p. (λ x. x, λ x. x)) t none bars xs of_bars of_ranges)
     moved sorted s tree
 
-pub told_are : (told : Told) (t : Tree) (none xs ys : List Needed) → none ≡ [] → AreAdded (IsOfRange told) t none xs → IsPermutation xs ys → IsNonDecreasingBy needed_place ys → AreToldNeeded told t ys
+pub told_are : (told : Told) (t : Tree) (none xs ys : List Needed) → none ≡ [] → AreNeededAppended (IsOfRange told) t none xs → IsPermutation xs ys → IsNonDecreasingBy needed_place ys → AreToldNeeded told t ys
 told_are told t none xs ys empty of_ranges moved sorted s tree = sorted_are (IsOfRange told) t none xs ys empty of_ranges moved sorted s tree
 
 -- a told range has just the addresses that have to be sent and reached

@@ -31,7 +31,7 @@ use Rattle.pci_tree.specs.Misplaced.{IsMisplacedBy}
 use Rattle.pci_tree.proofs.Faces.{SameFace, faces_of, face_of}
 use Rattle.pci_tree.proofs.Lifting.{Has, one_by_number}
 use Rattle.pci_tree.proofs.Misplacing.{lone_of, orphan_of, unlawful_of}
-use Rattle.pci_faults.specs.Lists.{AreJust, told}
+use Rattle.pci_faults.specs.Lists.{AreJust, present_faults}
 use Rattle.pci_faults.specs.OwnLines.{HasNoneBefore, IsBeforeAt, IsOwnOf}
 use Rattle.pci_faults.specs.Places.{IsPlaceAt, IsPlaceOf, place_list}
 use Rattle.pci_faults.proofs.Checks.{check_of, late_alone, only_if}
@@ -157,7 +157,7 @@ module _ (roots : List ℕ) (s : System) (f : Function) (m : Misplaced) (lone_is
       (λ e is. (let said = said_at 2 e is in (said, range_is.1 (subst (IsIn roots s) said is.0.0))))
   only_at (suc (suc (suc j))) less = absurd (let no : ⊥ = omega (arith, less) in no)
 
-  place_just : AreJust (IsBeforeAt s) (IsPlaceOf roots s f) (told (place_list f.slot m))
+  place_just : AreJust (IsBeforeAt s) (IsPlaceOf roots s f) (present_faults (place_list f.slot m))
   place_just =
       told_by_place (IsBeforeAt s) (IsPlaceOf roots s f) (check_of f) (λ a b is_a is_b less. place_rises s f a b is_a.1 is_b.1 less) (place_list f.slot m)
       (λ e is. place_within f e is.1) only_at
@@ -167,7 +167,7 @@ both P Q R a b = (λ p. b.0 (a.0 p), λ r. a.1 (b.1 r))
 
 -- what is told of a record's place is just what is wrong with that of its function
 pub place_lines : (roots : List ℕ) (s : System) (system : IsSystem s) (rs : List Record) (has : Has s rs) (k : ℕ) (r : Record) (f : Function) (m : Misplaced)
-    → k < length s → r ≡ get_or rs k r → get_or s k f ≡ f → IsMisplacedBy roots rs r m → AreJust (IsBeforeAt s) (IsPlaceOf roots s f) (told (place_list r.slot m))
+    → k < length s → r ≡ get_or rs k r → get_or s k f ≡ f → IsMisplacedBy roots rs r m → AreJust (IsBeforeAt s) (IsPlaceOf roots s f) (present_faults (place_list r.slot m))
 place_lines roots s system rs has k r f m within at_r at_f is =
     let long = as_many s system rs has in
     let faces = faces_of s rs has in
@@ -179,7 +179,7 @@ place_lines roots s system rs has k r f m within at_r at_f is =
     let lone = both _ _ _ is.lone (lone_of roots s rs faces r f in_rs in_s face) in
     let orphan = both _ _ _ is.orphan (orphan_of roots s rs faces r f in_rs in_s face) in
     let unlawful = both _ _ _ is.bus_range (unlawful_of roots s rs faces r f in_rs in_s face unique) in
-    subst (λ slot. AreJust (IsBeforeAt s) (IsPlaceOf roots s f) (told (place_list slot m))) (sym face.slot)
+    subst (λ slot. AreJust (IsBeforeAt s) (IsPlaceOf roots s f) (present_faults (place_list slot m))) (sym face.slot)
     (place_just roots s f m (subst (λ slot. IsTrue m.lone ↔ IsIn roots s (LoneFunction slot)) face.slot lone) (subst (λ slot. IsTrue m.orphan ↔ IsIn roots s (Orphan slot)) face.slot orphan)
     (subst (λ slot. IsTrue m.bus_range ↔ IsIn roots s (BusRange slot)) face.slot unlawful))
 

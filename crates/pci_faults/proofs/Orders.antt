@@ -6,7 +6,7 @@ use Rattle.pci_spec.specs.System.{Space, Io, Memory}
 use Rattle.pci_spec.specs.Order.{precedes, slot_key, space_key}
 use Rattle.pci_spec.proofs.Regions.{slot_number-same}
 use Rattle.pci_spec.proofs.FirstLines.{less_precedes, same_precedes}
-use Rattle.pci_faults.specs.Order.{place_in}
+use Rattle.pci_faults.specs.Order.{space_address_key}
 use Rattle.judge_spec.specs.ToldAllFaults.{region_number}
 use Rattle.pci_faults.specs.RegionOrder.{number_on_bus}
 
@@ -84,7 +84,7 @@ pub record IsSpelled (a : ℕ) (f : Slot) (r : ℕ) (g : Slot) (q : ℕ) : Type 
   pub second : IsRegion g q
 
 module _ (sp space : Space) (a b : ℕ) (f g h k : Slot) (r q n m : ℕ) (one : IsSpelled a f r g q) (other : IsSpelled b h n k m) where
-  place_precedes : place_in sp a < place_in space b → precedes (shared_key sp a f r g q) (shared_key space b h n k m) ≡ true
+  place_precedes : space_address_key sp a < space_address_key space b → precedes (shared_key sp a f r g q) (shared_key space b h n k m) ≡ true
   place_precedes less = elim (cases_order (space_key sp) (space_key space)) [
     | inr (inl low) ↦ less_precedes (space_key sp) (space_key space) (a ∷ pair_key f r g q) (b ∷ pair_key h n k m) low
     | inr (inr high) ↦ absurd (let small_a = one.address in let small_b = other.address in let no : ⊥ = omega (arith, less, high, small_a, small_b) in no)
@@ -92,22 +92,22 @@ module _ (sp space : Space) (a b : ℕ) (f g h k : Slot) (r q n m : ℕ) (one : 
         (less_precedes a b (pair_key f r g q) (pair_key h n k m) (omega (arith, less, same)))
   ]
 
-  same_space : place_in sp a ≡ place_in space b → space_key sp ≡ space_key space
+  same_space : space_address_key sp a ≡ space_address_key space b → space_key sp ≡ space_key space
   same_space same = let small_a = one.address in let small_b = other.address in omega (arith, same, small_a, small_b)
 
-  same_address : place_in sp a ≡ place_in space b → a ≡ b
+  same_address : space_address_key sp a ≡ space_address_key space b → a ≡ b
   same_address same = let small_a = one.address in let small_b = other.address in omega (arith, same, small_a, small_b)
 
-  pairs_precede : place_in sp a ≡ place_in space b → precedes (pair_key f r g q) (pair_key h n k m) ≡ true → precedes (shared_key sp a f r g q) (shared_key space b h n k m) ≡ true
+  pairs_precede : space_address_key sp a ≡ space_address_key space b → precedes (pair_key f r g q) (pair_key h n k m) ≡ true → precedes (shared_key sp a f r g q) (shared_key space b h n k m) ≡ true
   pairs_precede same p = same_precedes (space_key sp) (space_key space) (a ∷ pair_key f r g q) (b ∷ pair_key h n k m) (same_space same) (same_precedes a b (pair_key f r g q) (pair_key h n k m) (same_address same) p)
 
-  first_precedes : place_in sp a ≡ place_in space b → region_number f r < region_number h n → precedes (shared_key sp a f r g q) (shared_key space b h n k m) ≡ true
+  first_precedes : space_address_key sp a ≡ space_address_key space b → region_number f r < region_number h n → precedes (shared_key sp a f r g q) (shared_key space b h n k m) ≡ true
   first_precedes same less = pairs_precede same (region_precedes f h r n (slot_key g ++ (q ∷ [])) (slot_key k ++ (m ∷ [])) one.first other.first less)
 
-  second_precedes : place_in sp a ≡ place_in space b → region_number f r ≡ region_number h n → region_number g q < region_number k m → precedes (shared_key sp a f r g q) (shared_key space b h n k m) ≡ true
+  second_precedes : space_address_key sp a ≡ space_address_key space b → region_number f r ≡ region_number h n → region_number g q < region_number k m → precedes (shared_key sp a f r g q) (shared_key space b h n k m) ≡ true
   second_precedes same first less = pairs_precede same (region_same f h r n (slot_key g ++ (q ∷ [])) (slot_key k ++ (m ∷ [])) one.first other.first first (region_precedes g k q m [] [] one.second other.second less))
 
-  same_keys : place_in sp a ≡ place_in space b → region_number f r ≡ region_number h n → region_number g q ≡ region_number k m → shared_key sp a f r g q ≡ shared_key space b h n k m
+  same_keys : space_address_key sp a ≡ space_address_key space b → region_number f r ≡ region_number h n → region_number g q ≡ region_number k m → shared_key sp a f r g q ≡ shared_key space b h n k m
   same_keys same first second = cons_same (space_key sp) (space_key space) (a ∷ pair_key f r g q) (b ∷ pair_key h n k m) (same_space same)
       (cons_same a b (pair_key f r g q) (pair_key h n k m) (same_address same) (pair_keys f g h k r q n m one.first one.second other.first other.second first second))
 
@@ -116,14 +116,14 @@ module _ (sp space : Space) (a b : ℕ) (f g h k : Slot) (r q n m : ℕ) (one : 
   number_small : (s : Slot) (x : ℕ) → IsRegion s x → region_number s x < 2 ^ 29
   number_small s x is = let slot = is.slot in let register = is.register in omega (arith, slot, register)
 
-  pub split_precedes : (place_in sp a * 2 ^ 29 + region_number f r) * 2 ^ 29 + region_number g q < (place_in space b * 2 ^ 29 + region_number h n) * 2 ^ 29 + region_number k m
+  pub split_precedes : (space_address_key sp a * 2 ^ 29 + region_number f r) * 2 ^ 29 + region_number g q < (space_address_key space b * 2 ^ 29 + region_number h n) * 2 ^ 29 + region_number k m
       → precedes (2 ∷ shared_key sp a f r g q) (2 ∷ shared_key space b h n k m) ≡ true
   split_precedes less =
       let low_f = number_small f r one.first in
       let low_g = number_small g q one.second in
       let low_h = number_small h n other.first in
       let low_k = number_small k m other.second in
-      same_precedes 2 2 (shared_key sp a f r g q) (shared_key space b h n k m) refl (elim (cases_order (place_in sp a) (place_in space b)) [
+      same_precedes 2 2 (shared_key sp a f r g q) (shared_key space b h n k m) refl (elim (cases_order (space_address_key sp a) (space_address_key space b)) [
         | inr (inl lower) ↦ place_precedes lower
         | inr (inr high) ↦ absurd (let no : ⊥ = omega (arith, less, high, low_f, low_g, low_h, low_k) in no)
         | inl same ↦ elim (cases_order (region_number f r) (region_number h n)) [
@@ -133,14 +133,14 @@ module _ (sp space : Space) (a b : ℕ) (f g h k : Slot) (r q n m : ℕ) (one : 
         ]
       ])
 
-  pub split_keys : (place_in sp a * 2 ^ 29 + region_number f r) * 2 ^ 29 + region_number g q ≡ (place_in space b * 2 ^ 29 + region_number h n) * 2 ^ 29 + region_number k m
+  pub split_keys : (space_address_key sp a * 2 ^ 29 + region_number f r) * 2 ^ 29 + region_number g q ≡ (space_address_key space b * 2 ^ 29 + region_number h n) * 2 ^ 29 + region_number k m
       → 2 ∷ shared_key sp a f r g q ≡ 2 ∷ shared_key space b h n k m
   split_keys e =
       let low_f = number_small f r one.first in
       let low_g = number_small g q one.second in
       let low_h = number_small h n other.first in
       let low_k = number_small k m other.second in
-      let same : place_in sp a ≡ place_in space b = omega (arith, e, low_f, low_g, low_h, low_k) in
+      let same : space_address_key sp a ≡ space_address_key space b = omega (arith, e, low_f, low_g, low_h, low_k) in
       let first : region_number f r ≡ region_number h n = omega (arith, e, same, low_g, low_k) in
       ap (λ l. 2 ∷ l) (same_keys same first (omega (arith, e, same, first)))
 
@@ -150,14 +150,14 @@ module _ (sp space : Space) (a b : ℕ) (f g h k : Slot) (r q n m : ℕ) (one : 
     on_bus_small : (s : Slot) (x : ℕ) → IsRegion s x → number_on_bus s x < 2 ^ 21
     on_bus_small s x is = let slot = is.slot in let register = is.register in omega (arith, slot, register)
 
-    space_place_small : (z : Space) (c : ℕ) → c < 2 ^ 64 → place_in z c < 2 ^ 65
+    space_place_small : (z : Space) (c : ℕ) → c < 2 ^ 64 → space_address_key z c < 2 ^ 65
     space_place_small z c small = let key = space_small z in omega (arith, small, key)
 
     abbrev pub place : ℕ
-    place = ((bus * 2 ^ 65 + place_in sp a) * 2 ^ 21 + number_on_bus f r) * 2 ^ 21 + number_on_bus g q
+    place = ((bus * 2 ^ 65 + space_address_key sp a) * 2 ^ 21 + number_on_bus f r) * 2 ^ 21 + number_on_bus g q
 
     abbrev pub other_place : ℕ
-    other_place = ((other_bus * 2 ^ 65 + place_in space b) * 2 ^ 21 + number_on_bus h n) * 2 ^ 21 + number_on_bus k m
+    other_place = ((other_bus * 2 ^ 65 + space_address_key space b) * 2 ^ 21 + number_on_bus h n) * 2 ^ 21 + number_on_bus k m
 
     pub clash_precedes : place < other_place → precedes (1 ∷ bus ∷ shared_key sp a f r g q) (1 ∷ other_bus ∷ shared_key space b h n k m) ≡ true
     clash_precedes less =
@@ -170,7 +170,7 @@ module _ (sp space : Space) (a b : ℕ) (f g h k : Slot) (r q n m : ℕ) (one : 
         same_precedes 1 1 (bus ∷ shared_key sp a f r g q) (other_bus ∷ shared_key space b h n k m) refl (elim (cases_order bus other_bus) [
           | inr (inl lower) ↦ less_precedes bus other_bus (shared_key sp a f r g q) (shared_key space b h n k m) lower
           | inr (inr high) ↦ absurd (let no : ⊥ = omega (arith, less, high, low_f, low_g, low_h, low_k, low_a, low_b) in no)
-          | inl buses ↦ same_precedes bus other_bus (shared_key sp a f r g q) (shared_key space b h n k m) buses (elim (cases_order (place_in sp a) (place_in space b)) [
+          | inl buses ↦ same_precedes bus other_bus (shared_key sp a f r g q) (shared_key space b h n k m) buses (elim (cases_order (space_address_key sp a) (space_address_key space b)) [
             | inr (inl lower) ↦ place_precedes lower
             | inr (inr high) ↦ absurd (let no : ⊥ = omega (arith, less, buses, high, low_f, low_g, low_h, low_k) in no)
             | inl same ↦ elim (cases_order (number_on_bus f r) (number_on_bus h n)) [
@@ -190,7 +190,7 @@ module _ (sp space : Space) (a b : ℕ) (f g h k : Slot) (r q n m : ℕ) (one : 
         let low_a = space_place_small sp a one.address in
         let low_b = space_place_small space b other.address in
         let buses : bus ≡ other_bus = omega (arith, e, low_f, low_g, low_h, low_k, low_a, low_b) in
-        let same : place_in sp a ≡ place_in space b = omega (arith, e, buses, low_f, low_g, low_h, low_k) in
+        let same : space_address_key sp a ≡ space_address_key space b = omega (arith, e, buses, low_f, low_g, low_h, low_k) in
         let first : number_on_bus f r ≡ number_on_bus h n = omega (arith, e, buses, same, low_g, low_k) in
         let second : number_on_bus g q ≡ number_on_bus k m = omega (arith, e, buses, same, first) in
         ap (λ l. 1 ∷ l) (cons_same bus other_bus (shared_key sp a f r g q) (shared_key space b h n k m) buses

@@ -23,7 +23,7 @@ use Rattle.judge_spec.specs.ToldNumbered.{AreListedIn, AreAllNumbered}
 use Rattle.pci_faults.specs.declared.needed.Needed.{Needed}
 use Rattle.pci_faults.specs.declared.named.Outside.{Outside}
 use Rattle.pci_faults.specs.Named.{outside_of, AreAllOutside}
-use Rattle.pci_faults.specs.Needed.{needed_place, IsNeeded, AreJust, AreAllNeeded}
+use Rattle.pci_faults.specs.Needed.{needed_place, IsNeeded, AreJustNeededRegions, AreAllNeeded}
 use Rattle.pci_faults.specs.OutsideLines.{IsNeverOutside, IsOutsideLine, outside_at, IsOutsideOfOne, AreOutsideLines}
 use Rattle.pci_claims.proofs.Making.{made_none, made_more, made_less}
 use Rattle.pci_faults.proofs.Sending.{outside_from}
@@ -65,7 +65,7 @@ not_known told given roots s (plain.Split space a f r g q) line number = let no 
 not_known told given roots s f line number = absurd (search rules)
 
 module _ (told : Told) (given : Given) (t : Tree) (s : System) (tree : HasTree t s) (listed : AreListedIn told s) (list : List Needed)
-    (needed : AreJust (IsNeeded told) (λ n m. needed_place n < needed_place m) s list) (lines : List Outside) (made : AreOutsideLines given t list lines) where
+    (needed : AreJustNeededRegions (IsNeeded told) (λ n m. needed_place n < needed_place m) s list) (lines : List Outside) (made : AreOutsideLines given t list lines) where
   abbrev IsLineAt : Slot → ℕ → Space → ℕ → Type 0
   IsLineAt slot register space a = IsOutsideOf told given t.roots s (named_region slot register) (address_in space a)
 

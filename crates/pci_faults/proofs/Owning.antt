@@ -17,9 +17,9 @@ use Rattle.pci_faults.specs.Owners.{OwnedRanges, Owns, IsRangeAdded}
 use Rattle.pci_faults.specs.Owners as one
 use Rattle.judge_spec.specs.Claims.{is_window_register, is_fixed_register, are_together, may_share}
 use Rattle.judge_spec.proofs.Judging.{slots_same}
-use Rattle.pci_claims.specs.Claim.{Claimed, may_both_claim, is_held_beside}
+use Rattle.pci_claims.specs.Claim.{Claimed, may_both_claim, is_held_claim_beside}
 use Rattle.pci_claims.proofs.Gathering.{none_covered, covers_take}
-use Rattle.pci_faults.specs.Clashes.{Meet, claim_at, nobody, AreMeeting, IsFoundBelow}
+use Rattle.pci_faults.specs.Clashes.{Meet, claim_at, missing_claim, AreMeeting, IsFoundBelow}
 use Rattle.pci_faults.specs.Owned.{claim_group_of, claim_group_at, ClaimGroupsRise, AreClaimsBefore, AreLesserClaims, AreGiven, IsFirstOwnedPiece, AreClaimsOwned, AreBothOwned, IsOwnedShare, is_sooner, sooner, IsLone, IsLoneAt, IsLeastOfBoth, IsLeastOwned}
 
 -- ---- the ranges of a list, one by one
@@ -176,15 +176,15 @@ other_slots s t r q less = differ (may_share s r t q) (λ share.
 -- where one isn't held
 not_beside : (c d : Claimed) → slot_number c.slot < slot_number d.slot → (c.held ≡ true → d.held ≡ true → ⊥) → may_both_claim c d ≡ false
 not_beside c d less never =
-    or_from (may_share c.slot c.register d.slot d.register || is_held_beside c d) (is_held_beside d c)
-    (or_from (may_share c.slot c.register d.slot d.register) (is_held_beside c d) (other_slots c.slot d.slot c.register d.register less)
-    (differ (is_held_beside c d) (λ beside.
+    or_from (may_share c.slot c.register d.slot d.register || is_held_claim_beside c d) (is_held_claim_beside d c)
+    (or_from (may_share c.slot c.register d.slot d.register) (is_held_claim_beside c d) (other_slots c.slot d.slot c.register d.register less)
+    (differ (is_held_claim_beside c d) (λ beside.
     let parts = and_parts c.held (d.held || same_slot c.slot d.slot) beside in
     elim (or_cases d.held (same_slot c.slot d.slot) parts.1) [
       | inl both ↦ never parts.0 both
       | inr same ↦ (let e = ap slot_number (slots_same c.slot d.slot same) in let no : ⊥ = omega (arith, less, e) in no)
     ])))
-    (differ (is_held_beside d c) (λ beside.
+    (differ (is_held_claim_beside d c) (λ beside.
     let parts = and_parts d.held (c.held || same_slot d.slot c.slot) beside in
     elim (or_cases c.held (same_slot d.slot c.slot) parts.1) [
       | inl both ↦ never both parts.0
@@ -195,13 +195,13 @@ other_buses : (c d : Claimed) → c.slot.bus < d.slot.bus → (c.held ≡ true �
 other_buses c d less never =
     let differ_slots : same_slot c.slot d.slot ≡ true → ⊥ = λ same. (let e = ap (λ (x : Slot). x.bus) (slots_same c.slot d.slot same) in let no : ⊥ = omega (arith, less, e) in no) in
     let differ_back : same_slot d.slot c.slot ≡ true → ⊥ = λ same. (let e = ap (λ (x : Slot). x.bus) (slots_same d.slot c.slot same) in let no : ⊥ = omega (arith, less, e) in no) in
-    or_from (may_share c.slot c.register d.slot d.register || is_held_beside c d) (is_held_beside d c)
-    (or_from (may_share c.slot c.register d.slot d.register) (is_held_beside c d)
+    or_from (may_share c.slot c.register d.slot d.register || is_held_claim_beside c d) (is_held_claim_beside d c)
+    (or_from (may_share c.slot c.register d.slot d.register) (is_held_claim_beside c d)
     (differ (may_share c.slot c.register d.slot d.register) (λ share. differ_slots (and_parts (same_slot c.slot d.slot) (are_together c.register d.register || are_together d.register c.register) share).0))
-    (differ (is_held_beside c d) (λ beside.
+    (differ (is_held_claim_beside c d) (λ beside.
     let parts = and_parts c.held (d.held || same_slot c.slot d.slot) beside in
     elim (or_cases d.held (same_slot c.slot d.slot) parts.1) [ inl both ↦ never parts.0 both | inr same ↦ differ_slots same ])))
-    (differ (is_held_beside d c) (λ beside.
+    (differ (is_held_claim_beside d c) (λ beside.
     let parts = and_parts d.held (c.held || same_slot d.slot c.slot) beside in
     elim (or_cases c.held (same_slot d.slot c.slot) parts.1) [ inl both ↦ never both parts.0 | inr same ↦ differ_back same ]))
 
@@ -253,10 +253,10 @@ lone_meets : (bus : ℕ) (c d : Claimed) (a : ℕ) → c.held ≡ false → IsLo
 lone_meets bus c d a plain lone first second = record {
   first = first;
   second = second;
-  apart = or_from (may_share c.slot c.register d.slot d.register || is_held_beside c d) (is_held_beside d c)
-      (or_from (may_share c.slot c.register d.slot d.register) (is_held_beside c d) (lone_shares c.slot d.slot c.register d.register lone.0)
-      (differ (is_held_beside c d) (λ beside. both_ways _ plain (and_parts c.held (d.held || same_slot c.slot d.slot) beside).0)))
-      (differ (is_held_beside d c) (λ beside. both_ways _ lone.1 (and_parts d.held (c.held || same_slot d.slot c.slot) beside).0));
+  apart = or_from (may_share c.slot c.register d.slot d.register || is_held_claim_beside c d) (is_held_claim_beside d c)
+      (or_from (may_share c.slot c.register d.slot d.register) (is_held_claim_beside c d) (lone_shares c.slot d.slot c.register d.register lone.0)
+      (differ (is_held_claim_beside c d) (λ beside. both_ways _ plain (and_parts c.held (d.held || same_slot c.slot d.slot) beside).0)))
+      (differ (is_held_claim_beside d c) (λ beside. both_ways _ lone.1 (and_parts d.held (c.held || same_slot d.slot c.slot) beside).0));
 }
 
 -- of one function a held one never meets another
@@ -269,19 +269,19 @@ one_function s t is_s is_t same =
 
 held_first : (bus : ℕ) (c d : Claimed) (a : ℕ) → same_slot c.slot d.slot ≡ true → c.held ≡ true → Meet (Bus bus) c d a → ⊥
 held_first bus c d a same held meet = both_ways _ meet.apart
-    (or_left (may_share c.slot c.register d.slot d.register || is_held_beside c d) (is_held_beside d c)
-    (or_right (may_share c.slot c.register d.slot d.register) (is_held_beside c d) (and_from c.held (d.held || same_slot c.slot d.slot) held (or_right d.held (same_slot c.slot d.slot) same))))
+    (or_left (may_share c.slot c.register d.slot d.register || is_held_claim_beside c d) (is_held_claim_beside d c)
+    (or_right (may_share c.slot c.register d.slot d.register) (is_held_claim_beside c d) (and_from c.held (d.held || same_slot c.slot d.slot) held (or_right d.held (same_slot c.slot d.slot) same))))
 
 held_second : (bus : ℕ) (c d : Claimed) (a : ℕ) → same_slot d.slot c.slot ≡ true → d.held ≡ true → Meet (Bus bus) c d a → ⊥
 held_second bus c d a same held meet = both_ways _ meet.apart
-    (or_right (may_share c.slot c.register d.slot d.register || is_held_beside c d) (is_held_beside d c)
+    (or_right (may_share c.slot c.register d.slot d.register || is_held_claim_beside c d) (is_held_claim_beside d c)
     (and_from d.held (c.held || same_slot d.slot c.slot) held (or_right c.held (same_slot d.slot c.slot) same)))
 
 -- two held ones never meet
 both_held : (among : Among) (c d : Claimed) (a : ℕ) → Meet among c d a → c.held ≡ true → d.held ≡ true → ⊥
 both_held among c d a meet one other = both_ways _ (apart_of among c d a meet)
-    (or_left (may_share c.slot c.register d.slot d.register || is_held_beside c d) (is_held_beside d c)
-    (or_right (may_share c.slot c.register d.slot d.register) (is_held_beside c d) (and_from c.held (d.held || same_slot c.slot d.slot) one (or_left d.held (same_slot c.slot d.slot) other))))
+    (or_left (may_share c.slot c.register d.slot d.register || is_held_claim_beside c d) (is_held_claim_beside d c)
+    (or_right (may_share c.slot c.register d.slot d.register) (is_held_claim_beside c d) (and_from c.held (d.held || same_slot c.slot d.slot) one (or_left d.held (same_slot c.slot d.slot) other))))
 
 -- ---- a claim and those before it
 
@@ -614,4 +614,4 @@ pub none_read : (claims : List Claimed) (i : ℕ) (pieces : List Range) (ranges 
 none_read claims i pieces ranges is none = subst (λ (xs : List Range). NoneOwned ranges xs) is none
 
 pub claim_read : (claims : List Claimed) (k : ℕ) (c : Claimed) → k < length claims → c ≡ get_or claims k c → c ≡ claim_at claims k
-claim_read claims k c within is = is ∙ get_or_default claims k c nobody within
+claim_read claims k c within is = is ∙ get_or_default claims k c missing_claim within

@@ -12,7 +12,7 @@ use Rattle.pci_spec.proofs.Regions.{slot_number-same, region_number-same, regist
 use Rattle.pci_spec.proofs.Firsts.{slot_of, named_slot, named_register}
 use Rattle.pci_spec.proofs.FirstLines.{less_precedes, same_precedes}
 use Rattle.pci_spec.proofs.AllFaults.{bridge_slot}
-use Rattle.pci_faults.specs.Order.{place_in, judging_place}
+use Rattle.pci_faults.specs.Order.{space_address_key, judging_place}
 
 -- ---- keys
 
@@ -87,14 +87,14 @@ pair_precedes f g h k r q n m is_f is_g is_h is_k less =
     ]
 
 -- a space and an address in front of those
-place_precedes : (sp space : Space) (a b : ℕ) (xs ys : List ℕ) → a < 2 ^ 64 → b < 2 ^ 64 → place_in sp a < place_in space b → precedes (space_key sp ∷ a ∷ xs) (space_key space ∷ b ∷ ys) ≡ true
+place_precedes : (sp space : Space) (a b : ℕ) (xs ys : List ℕ) → a < 2 ^ 64 → b < 2 ^ 64 → space_address_key sp a < space_address_key space b → precedes (space_key sp ∷ a ∷ xs) (space_key space ∷ b ∷ ys) ≡ true
 place_precedes sp space a b xs ys small_a small_b less = elim (cases_order (space_key sp) (space_key space)) [
   | inr (inl low) ↦ less_precedes (space_key sp) (space_key space) (a ∷ xs) (b ∷ ys) low
   | inr (inr high) ↦ absurd (let no : ⊥ = omega (arith, less, high, small_a, small_b) in no)
   | inl same ↦ same_precedes (space_key sp) (space_key space) (a ∷ xs) (b ∷ ys) same (less_precedes a b xs ys (omega (arith, less, same)))
 ]
 
-place_same : (sp space : Space) (a b : ℕ) (xs ys : List ℕ) → a < 2 ^ 64 → b < 2 ^ 64 → place_in sp a ≡ place_in space b → precedes xs ys ≡ true → precedes (space_key sp ∷ a ∷ xs) (space_key space ∷ b ∷ ys) ≡ true
+place_same : (sp space : Space) (a b : ℕ) (xs ys : List ℕ) → a < 2 ^ 64 → b < 2 ^ 64 → space_address_key sp a ≡ space_address_key space b → precedes xs ys ≡ true → precedes (space_key sp ∷ a ∷ xs) (space_key space ∷ b ∷ ys) ≡ true
 place_same sp space a b xs ys small_a small_b same h = same_precedes (space_key sp) (space_key space) (a ∷ xs) (b ∷ ys) (omega (arith, same, small_a, small_b)) (same_precedes a b xs ys (omega (arith, same, small_a, small_b)) h)
 
 unreached_precedes : (s t c d : Slot) (r q a b : ℕ) (sp space : Space) → IsSpelled (Unreached s r sp a c) → IsSpelled (Unreached t q space b d)
@@ -120,12 +120,12 @@ pair_small : (f g : Slot) (r q : ℕ) → IsRegion f r → IsRegion g q → pair
 pair_small f g r q one other = let a = region_small f r one in let b = region_small g q other in omega (arith, a, b)
 
 shared_precedes : (sp space : Space) (a b : ℕ) (f g h k : Slot) (r q n m : ℕ) → a < 2 ^ 64 → b < 2 ^ 64 → IsRegion f r → IsRegion g q → IsRegion h n → IsRegion k m
-    → place_in sp a * 2 ^ 48 + pair_number f r g q < place_in space b * 2 ^ 48 + pair_number h n k m
+    → space_address_key sp a * 2 ^ 48 + pair_number f r g q < space_address_key space b * 2 ^ 48 + pair_number h n k m
     → precedes (space_key sp ∷ a ∷ pair_key f r g q) (space_key space ∷ b ∷ pair_key h n k m) ≡ true
 shared_precedes sp space a b f g h k r q n m small_a small_b is_f is_g is_h is_k less =
     let low = pair_small f g r q is_f is_g in
     let up = pair_small h k n m is_h is_k in
-    elim (cases_order (place_in sp a) (place_in space b)) [
+    elim (cases_order (space_address_key sp a) (space_address_key space b)) [
       | inr (inl lower) ↦ place_precedes sp space a b (pair_key f r g q) (pair_key h n k m) small_a small_b lower
       | inr (inr high) ↦ absurd (let no : ⊥ = omega (arith, less, high, low, up) in no)
       | inl same ↦ place_same sp space a b (pair_key f r g q) (pair_key h n k m) small_a small_b same (pair_precedes f g h k r q n m is_f is_g is_h is_k (omega (arith, less, same)))
@@ -184,12 +184,12 @@ cons_same : (x y : ℕ) (xs ys : List ℕ) → x ≡ y → xs ≡ ys → x ∷ x
 cons_same x y xs ys e h = ap (λ n. n ∷ xs) e ∙ ap (λ l. y ∷ l) h
 
 shared_keys : (sp space : Space) (a b : ℕ) (f g h k : Slot) (r q n m : ℕ) → a < 2 ^ 64 → b < 2 ^ 64 → IsRegion f r → IsRegion g q → IsRegion h n → IsRegion k m
-    → place_in sp a * 2 ^ 48 + pair_number f r g q ≡ place_in space b * 2 ^ 48 + pair_number h n k m
+    → space_address_key sp a * 2 ^ 48 + pair_number f r g q ≡ space_address_key space b * 2 ^ 48 + pair_number h n k m
     → space_key sp ∷ a ∷ pair_key f r g q ≡ space_key space ∷ b ∷ pair_key h n k m
 shared_keys sp space a b f g h k r q n m small_a small_b is_f is_g is_h is_k same =
     let low = pair_small f g r q is_f is_g in
     let up = pair_small h k n m is_h is_k in
-    let place : place_in sp a ≡ place_in space b = omega (arith, same, low, up) in
+    let place : space_address_key sp a ≡ space_address_key space b = omega (arith, same, low, up) in
     cons_same _ _ _ _ (omega (arith, place, small_a, small_b)) (cons_same a b _ _ (omega (arith, place, small_a, small_b))
     (pair_keys f g h k r q n m is_f is_g is_h is_k (omega (arith, same, place))))
 

@@ -37,7 +37,7 @@ use Rattle.pci_faults.specs.declared.named.Clash as named
 use Rattle.pci_faults.specs.declared.named.Split as named_split
 use Rattle.pci_faults.specs.Clashes.{clash_value, IsClashLine, IsOnBusIn, AreClashesAdded}
 use Rattle.pci_faults.specs.Splits.{split_value, IsSplitLine, IsSplitIn, AreSplitsAdded}
-use Rattle.pci_faults.specs.Quiet.{IsOff, IsOffLegacy, HasThoseOn, HoldNothing, AreQuiet, IsQuiet, IsQuietInEach, IsQuietWith}
+use Rattle.pci_faults.specs.Quiet.{IsOff, IsOffLegacy, HasThoseOn, HoldNothing, AreQuiet, IsQuietOnBuses, IsQuietInEach, IsQuietWith}
 use Rattle.pci_faults.proofs.Addings.{added_none}
 
 -- ---- regions that rise
@@ -211,7 +211,7 @@ module _ (given : Given) (s : System) (IsOne : ℕ → Type 0) (space : Space) (
   claiming : (b : ℕ) (slot : Slot) (register a : ℕ) → IsOne b → ClaimsOnBus given s b (address_in space a) (named_region slot register) → IsRegionAt regions slot register a ⊎ IsLegacyAt space here slot register a
   claiming = claimant given s IsOne space regions are legacy here said those palette snooping listening snoopers nothing
 
-  pub is_quiet : IsQuiet given s IsOne space
+  pub is_quiet : IsQuietOnBuses given s IsOne space
   is_quiet a b c p q m n one other first second differ apart = elim (claiming b p m a one first) [
     | inl x ↦ elim (claiming c q n a other second) [
       | inl y ↦ elim (quiet.apart x.q y.q x.has y.has) [

@@ -12,7 +12,7 @@ use Rattle.pci_faults.specs.declared.shares.Among.{Among}
 use Rattle.pci_faults.specs.declared.shares.Share.{Share}
 use Rattle.pci_faults.specs.declared.owners.Found.{Found}
 use Rattle.pci_faults.specs.Owners.{OwnedRanges, Owns, OwnedRangeHas, IsFirstOwned, IsRangeAdded}
-use Rattle.pci_faults.specs.Shares.{SpansAt, GroupsRise, IsShared, IsLeastShared, IsClaimedFrom, AreOwned, AreLesser, AreSharesBelow, AreBefore}
+use Rattle.pci_faults.specs.Shares.{SpansAt, GroupsRise, IsShared, IsLeastShared, IsClaimedFrom, AreOwned, AreLesser, AreSharesBelow, AreOfLesserGroups}
 
 -- what is known of an element at one default is known at each
 at_each : (P : Region → Type 0) (regions : List Region) (k : ℕ) (z : Region) → k < length regions → P (get_or regions k z) → HoldsAt P regions k
@@ -154,10 +154,10 @@ module _ (regions : List Region) (allowed : List Range) where
             ];
       }
 
-pub none_before : (i : ℕ) (by : Among) (regions : List Region) → AreBefore 0 i by regions
+pub none_before : (i : ℕ) (by : Among) (regions : List Region) → AreOfLesserGroups 0 i by regions
 none_before i by regions k j less from within = absurd (let none : ⊥ = omega (arith, less) in none)
 
-pub still_before : (n i : ℕ) (by : Among) (regions : List Region) → GroupsRise by regions → AreLesser n i by regions → AreBefore n (i + 1) by regions
+pub still_before : (n i : ℕ) (by : Among) (regions : List Region) → GroupsRise by regions → AreLesser n i by regions → AreOfLesserGroups n (i + 1) by regions
 still_before n i by regions rise lesser k j less from within =
     let low = lesser.lesser k less in let up = rise i j (omega (arith, from)) within in omega (arith, low, up)
 

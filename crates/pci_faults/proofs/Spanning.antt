@@ -24,7 +24,7 @@ use Rattle.pci_claims.specs.declared.all_claims.Stretch.{Stretch}
 use Rattle.pci_claims.specs.Values.{legacy_value}
 use Rattle.pci_claims.specs.AllClaims.{IsStretchOf}
 use Rattle.pci_faults.specs.declared.spans.Span.{Span}
-use Rattle.pci_faults.specs.Spans.{span_of, told_span, HasSpansOf, AreSpansAdded, AreSpansApart}
+use Rattle.pci_faults.specs.Spans.{region_span, told_span, HasSpansOf, AreSpansAdded, AreSpansApart}
 use Rattle.pci_faults.specs.Quiet.{HasThoseOn, HoldNothing}
 use Rattle.pci_faults.proofs.Quieting.{claimant, either_way}
 
@@ -165,13 +165,13 @@ pub record IsSpanAt (spans : List Span) (slot : Slot) (register a : ℕ) : Type 
 
 -- the spans are those of regions and of told ranges
 pub record AreSpansWith (regions : List Region) (IsOne : ℕ → Type 0) (ranges : List ToldRange) (space : Space) (spans : List Span) : Type 0 where
-  pub own : (r : Region) → Contains regions r → Contains spans (span_of r)
+  pub own : (r : Region) → Contains regions r → Contains spans (region_span r)
   pub told : HasSpansOf IsOne ranges space spans
 
-pub with_told : (regions : List Region) (IsOne : ℕ → Type 0) (ranges : List ToldRange) (space : Space) (own spans : List Span) → own ≡ map span_of regions → AreSpansAdded IsOne ranges space own spans
+pub with_told : (regions : List Region) (IsOne : ℕ → Type 0) (ranges : List ToldRange) (space : Space) (own spans : List Span) → own ≡ map region_span regions → AreSpansAdded IsOne ranges space own spans
     → AreSpansWith regions IsOne ranges space spans
 with_told regions IsOne ranges space own spans are added = record {
-  own = λ r has. added.kept (span_of r) (subst (λ l. Contains l (span_of r)) (sym are) (in_map_from span_of regions r has));
+  own = λ r has. added.kept (region_span r) (subst (λ l. Contains l (region_span r)) (sym are) (in_map_from region_span regions r has));
   told = added.has;
 }
 
@@ -181,7 +181,7 @@ module _ (told : Told) (given : Given) (s : System) (IsOne : ℕ → Type 0) (sp
     (spans : List Span) (all : AreSpansWith regions IsOne told.ranges space spans) where
   spanned : (b : ℕ) (slot : Slot) (register a : ℕ) → IsOne b → told_claims.ClaimsOnBus told given s b (address_in space a) (named_region slot register) → IsSpanAt spans slot register a
   spanned b slot register a one (inl own) = elim (claimant given s IsOne space regions are legacy here said those palette snooping listening snoopers nothing b slot register a one own) [
-    | inl r ↦ record { x = span_of r.q; has = all.own r.q r.has; slot_is = r.slot_is; register_is = r.register_is; first = r.first; last = r.last }
+    | inl r ↦ record { x = region_span r.q; has = all.own r.q r.has; slot_is = r.slot_is; register_is = r.register_is; first = r.first; last = r.last }
     | inr l ↦ absurd (let less = l.has.1 in let no : ⊥ = omega (arith, less, none) in no)
   ]
   spanned b slot register a one (inr range) = record {

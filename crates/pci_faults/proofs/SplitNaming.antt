@@ -24,7 +24,7 @@ use Rattle.pci_claims.proofs.AllClaiming.{share_by_marks}
 use Rattle.pci_faults.specs.declared.named.Split.{Split}
 use Rattle.pci_faults.specs.JustLines.{AreJustLines}
 use Rattle.pci_faults.proofs.Tellings.{IsAtPlace, IsSharedAs, IsTold, split_told, second_of_split, just_told}
-use Rattle.pci_faults.specs.Clashes.{claim_at, nobody, AreMeeting, AreMeetings}
+use Rattle.pci_faults.specs.Clashes.{claim_at, missing_claim, AreMeeting, AreMeetings}
 use Rattle.pci_claims.specs.RootClaims.{AreClaimsOver, AreRootClaimsInEach}
 use Rattle.pci_faults.specs.Splits.{claims_split, split_value, IsSplitLine, IsSplitIn, AreSplitsAdded}
 use Rattle.pci_faults.proofs.Telling.{IsNamedAt, named_at, places_of, rising_of, meeting_as, order_of_meeting, least_of_meetings}
@@ -37,7 +37,7 @@ module _ (told : Told) (given : Given) (roots : List ℕ) (s : System) (space : 
 
   share_at : (i k : ℕ) → i < length claims → k < length claims
       → may_both_claim (claim_at claims i) (claim_at claims k) ≡ may_share told (claim_at claims i).slot (claim_at claims i).register (claim_at claims k).slot (claim_at claims k).register
-  share_at i k in_i in_k = share_by_marks told (claim_at claims i) (claim_at claims k) (are.held (claim_at claims i) (Contains-get_or claims i nobody in_i)) (are.held (claim_at claims k) (Contains-get_or claims k nobody in_k))
+  share_at i k in_i in_k = share_by_marks told (claim_at claims i) (claim_at claims k) (are.held (claim_at claims i) (Contains-get_or claims i missing_claim in_i)) (are.held (claim_at claims k) (Contains-get_or claims k missing_claim in_k))
 
   apart_at : (i k : ℕ) (f : Slot) (r : ℕ) (g : Slot) (q : ℕ) → IsAtPlace (places_of claims) i f r → IsAtPlace (places_of claims) k g q → may_share told f r g q ≡ false
       → may_share told (claim_at claims i).slot (claim_at claims i).register (claim_at claims k).slot (claim_at claims k).register ≡ false
@@ -54,8 +54,8 @@ module _ (told : Told) (given : Given) (roots : List ℕ) (s : System) (space : 
   split_of a i k meeting =
       let within = meeting.within in
       let before = meeting.before in
-      let in_i = Contains-get_or claims i nobody (omega (arith, within, before)) in
-      let in_k = Contains-get_or claims k nobody within in
+      let in_i = Contains-get_or claims i missing_claim (omega (arith, within, before)) in
+      let in_k = Contains-get_or claims k missing_claim within in
       let one = (are.each (claim_at claims i) in_i a).0 meeting.meet.first in
       let other = (are.each (claim_at claims k) in_k a).0 meeting.meet.second in record {
         root_first = are.one (claim_at claims i) in_i;
@@ -70,7 +70,7 @@ module _ (told : Told) (given : Given) (roots : List ℕ) (s : System) (space : 
 
   answers : (a : ℕ) (slot : Slot) (register : ℕ) (named : IsNamedAt claims slot register) → IsTrue (starts given (space_of space) slot.bus a)
       → ClaimsOnBus told given s slot.bus (address_in (space_of space) a) (named_region slot register) → Covers (claim_at claims named.k).pieces a
-  answers a slot register named sent claims_it = (are.each (claim_at claims named.k) (Contains-get_or claims named.k nobody named.within) a).1
+  answers a slot register named sent claims_it = (are.each (claim_at claims named.k) (Contains-get_or claims named.k missing_claim named.within) a).1
       (subst (λ n. IsTrue (starts given (space_of space) (claim_at claims named.k).slot.bus a) × ClaimsOnBus told given s (claim_at claims named.k).slot.bus (address_in (space_of space) a) (named_region (claim_at claims named.k).slot n)) (sym named.at.register_is)
       (subst (λ (x : Slot). IsTrue (starts given (space_of space) x.bus a) × ClaimsOnBus told given s x.bus (address_in (space_of space) a) (named_region x register)) (sym named.at.slot_is) (sent, claims_it)))
 

@@ -9,13 +9,13 @@ use Rattle.judge_spec.specs.ToldAllFaults.{region_number}
 use Rattle.pci_claims.specs.Claim.{Claimed}
 use Rattle.pci_claims.specs.BusClaims.{claim_number}
 use Rattle.pci_faults.proofs.Tellings.{Places, AreRising, IsAtPlace, IsSharedAs, AreLeastOf, place_before}
-use Rattle.pci_faults.specs.Clashes.{claim_at, nobody, Meet, AreMeeting, AreMeetings}
+use Rattle.pci_faults.specs.Clashes.{claim_at, missing_claim, Meet, AreMeeting, AreMeetings}
 
 abbrev pub places_of : List Claimed → Places
 places_of claims = record { size = length claims; slot_at = λ k. (claim_at claims k).slot; register_at = λ k. (claim_at claims k).register }
 
 pub rising_of : (claims : List Claimed) → AllPairs (λ c d. claim_number c < claim_number d) claims → AreRising (places_of claims)
-rising_of claims rising i k less within = rising i k nobody less within
+rising_of claims rising i k less within = rising i k missing_claim less within
 
 -- the place of the claim of a region
 pub record IsNamedAt (claims : List Claimed) (slot : Slot) (register : ℕ) : Type 0 where
@@ -26,7 +26,7 @@ pub record IsNamedAt (claims : List Claimed) (slot : Slot) (register : ℕ) : Ty
 -- a claim that is listed has a place
 pub named_at : (claims : List Claimed) (c : Claimed) (slot : Slot) (register : ℕ) → Contains claims c → c.slot ≡ slot → c.register ≡ register → IsNamedAt claims slot register
 named_at claims c slot register (k, within, at) same_slot same_register =
-    let is : claim_at claims k ≡ c = get_or_default claims k nobody c within ∙ at in
+    let is : claim_at claims k ≡ c = get_or_default claims k missing_claim c within ∙ at in
     record {
       k = k;
       within = within;

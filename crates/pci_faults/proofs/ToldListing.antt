@@ -13,10 +13,9 @@ use Rattle.pci_tree.specs.Outline.{Tree}
 use Rattle.pci_tree.specs.Ranges.{Holds}
 use Rattle.pci_tree.specs.Trees.{HasTree}
 use Rattle.judge_spec.specs.Told.{ToldRange, IsTold, IsToldRange}
-use Rattle.judge_spec.specs.ToldClaims.{Told, told_register, is_range_on, is_marked_held}
-use Rattle.judge_spec.specs.ToldClaims.{Holds as AreAt}
+use Rattle.judge_spec.specs.ToldClaims.{Told, told_register, is_range_on, is_marked_held, Holds as AreAt}
 use Rattle.pci_faults.specs.declared.needed.Needed.{Needed}
-use Rattle.pci_faults.specs.Needed.{IsOfRange, Which, IsOneOf, AreJust, Differ, AreAdded, IsNeededRange}
+use Rattle.pci_faults.specs.Needed.{IsOfRange, Which, IsOneOf, AreJustNeededRegions, Differ, AreNeededAppended, IsNeededRange}
 use Rattle.pci_claims.specs.ToldOn.{AreOnIn}
 use Rattle.pci_faults.proofs.NeededListing.{Apart, Either, both_added, none_added, same_added}
 
@@ -51,13 +50,13 @@ module _ (told : Told) where
   )
 
   module _ (t : Tree) where
-    pub no_ranges : (list : List Needed) → AreAdded (IsOfRangeAt told (Below 0)) t list list
+    pub no_ranges : (list : List Needed) → AreNeededAppended (IsOfRangeAt told (Below 0)) t list list
     no_ranges list = none_added (IsOfRangeAt told (Below 0)) t (λ s tree slot register space a p is. (let below = is.1 in let no : ⊥ = omega (arith, below) in no)) list
 
-    pub one_range_more : (i : ℕ) (a b c : List Needed) → AreAdded (IsOfRangeAt told (Below i)) t a b → AreAdded (IsOfRangeAt told (Is i)) t b c → AreAdded (IsOfRangeAt told (Below (i + 1))) t a c
+    pub one_range_more : (i : ℕ) (a b c : List Needed) → AreNeededAppended (IsOfRangeAt told (Below i)) t a b → AreNeededAppended (IsOfRangeAt told (Is i)) t b c → AreNeededAppended (IsOfRangeAt told (Below (i + 1))) t a c
     one_range_more i a b c one two = both_added (IsOfRangeAt told (Below i)) (IsOfRangeAt told (Is i)) (IsOfRangeAt told (Below (i + 1))) (apart_by_index i) (either_index i) t a b c one two
 
-    pub all_ranges : (n : ℕ) → length told.ranges ≤ n → (a b : List Needed) → AreAdded (IsOfRangeAt told (Below n)) t a b → AreAdded (IsOfRange told) t a b
+    pub all_ranges : (n : ℕ) → length told.ranges ≤ n → (a b : List Needed) → AreNeededAppended (IsOfRangeAt told (Below n)) t a b → AreNeededAppended (IsOfRange told) t a b
     all_ranges n end a b added = same_added (IsOfRangeAt told (Below n)) (IsOfRange told) t (λ s tree slot register space c p. (
       λ is. is.0,
       λ (x : IsOfRange told s slot register space c p). (x, let within = slice_get_within told.ranges x.needs.named.index x.r x.needs.named.at in omega (arith, within, end)),
@@ -122,7 +121,7 @@ module _ (told : Told) where
               only = range_only;
             }
 
-        one_is : AreJust (IsOfRangeAt told (Is i)) Differ s (n ∷ [])
+        one_is : AreJustNeededRegions (IsOfRangeAt told (Is i)) Differ s (n ∷ [])
         one_is = record {
           each = λ m has. elim (Contains-push_cases [] n m has) [
             | inl none ↦ absurd (in_nil m none)
@@ -151,7 +150,7 @@ module _ (told : Told) where
       needed_is on are s tree = ap (λ c. not (is_marked_held r.mark) && c) (on_is on are s tree)
 
       pub range_added : (on : List Bool) → AreOnIn told t on → (not (is_marked_held r.mark) && get_or on i false) ≡ true
-          → (n : Needed) → IsNeededRange r (told_register i) n → (before after : List Needed) → after ≡ before ++ n ∷ [] → AreAdded (IsOfRangeAt told (Is i)) t before after
+          → (n : Needed) → IsNeededRange r (told_register i) n → (before after : List Needed) → after ≡ before ++ n ∷ [] → AreNeededAppended (IsOfRangeAt told (Is i)) t before after
       range_added on are needed n is before after appended = record {
         more = n ∷ [];
         appended = appended;
@@ -161,7 +160,7 @@ module _ (told : Told) where
       }
 
       pub range_left : (on : List Bool) → AreOnIn told t on → (not (is_marked_held r.mark) && get_or on i false) ≡ false
-          → (list : List Needed) → AreAdded (IsOfRangeAt told (Is i)) t list list
+          → (list : List Needed) → AreNeededAppended (IsOfRangeAt told (Is i)) t list list
       range_left on are unneeded list = none_added (IsOfRangeAt told (Is i)) t (λ s tree slot register space a p (x, index).
           let same = range_is s slot register space a p x index in
           both_ways (IsNeededIn s) (sym (needed_is on are s tree) ∙ unneeded) (and_from (not (is_marked_held r.mark)) (is_range_on told s r)

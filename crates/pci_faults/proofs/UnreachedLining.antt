@@ -26,7 +26,7 @@ use Rattle.judge_spec.specs.ToldNumbered.{AreListedIn, AreAllNumbered}
 use Rattle.pci_faults.specs.declared.needed.Needed.{Needed}
 use Rattle.pci_faults.specs.declared.named.Unreached.{Unreached}
 use Rattle.pci_faults.specs.Named.{unreached_of, AreAllUnreached}
-use Rattle.pci_faults.specs.Needed.{needed_place, IsNeeded, IsOneOf, HasName, AreJust, AreAllNeeded, AreToldNeeded}
+use Rattle.pci_faults.specs.Needed.{needed_place, IsNeeded, IsOneOf, HasName, AreJustNeededRegions, AreAllNeeded, AreToldNeeded}
 use Rattle.pci_faults.specs.Stopped.{NeverCut, IsNeverUnreached, IsUnreachedLine}
 use Rattle.pci_faults.specs.UnreachedLines.{unreached_at, IsUnreachedOfOne, AreUnreachedLines}
 use Rattle.pci_claims.proofs.Making.{made_none, made_more, made_less}
@@ -165,7 +165,7 @@ module _ (told : Told) (given : Given) (t : Tree) (s : System) (tree : HasTree t
     rising = pairs_map (λ f g. IsTrue (precedes (judging_key f) (judging_key g))) unreached_of lines rise;
   }
 
-all_enough : (told : Told) (given : Given) (t : Tree) (s : System) (list : List Needed) → AreJust (IsNeeded told) (λ n m. needed_place n < needed_place m) s list → IsEnough told given t s list
+all_enough : (told : Told) (given : Given) (t : Tree) (s : System) (list : List Needed) → AreJustNeededRegions (IsNeeded told) (λ n m. needed_place n < needed_place m) s list → IsEnough told given t s list
 all_enough told given t s list needed = record {
   each = needed.each;
   complete = λ slot register space a bridge p line needs. needed.complete slot register space a p needs;

@@ -15,10 +15,10 @@ use Rattle.judge_spec.specs.ToldFault as spec
 use Rattle.judge_spec.proofs.PlainLists.{plain_judging}
 use Rattle.judge_spec.proofs.NothingTold.{judging_same}
 use Rattle.pci_faults.specs.declared.any_fault.AnyFault.{AnyFault}
-use Rattle.pci_claims.specs.Values.{given_value, told_value, host_value, legacy_value, taking_value}
+use Rattle.pci_claims.specs.Values.{code_given_value, told_value, host_value, legacy_value, taking_value}
 use Rattle.pci_claims.specs.declared.given.Given as claims
 use Rattle.pci_claims.specs.declared.told.Told as told
-use Rattle.pci_faults.specs.AllLines.{fault_of, plain_fault, AreAllLines, is_given}
+use Rattle.pci_faults.specs.AllLines.{any_fault_value, plain_fault, AreAllLines, is_given}
 
 -- ---- faults to which no told range belongs
 
@@ -28,14 +28,14 @@ known_values (f ∷ rest) = ap (λ l. plain_fault f ∷ l) (known_values rest)
 
 -- one more of them
 pub plain_more : (old : List spec.Fault) (items : List AnyFault) (fs : List Fault) (i : ℕ) (f : Fault) (x : AnyFault) → i < length fs → f ≡ get_or fs i f
-    → map fault_of items ≡ old ++ map plain_fault (take i fs) → fault_of x ≡ plain_fault f → map fault_of (items ++ x ∷ []) ≡ old ++ map plain_fault (take (i + 1) fs)
+    → map any_fault_value items ≡ old ++ map plain_fault (take i fs) → any_fault_value x ≡ plain_fault f → map any_fault_value (items ++ x ∷ []) ≡ old ++ map plain_fault (take (i + 1) fs)
 plain_more old items fs i f x within at before is =
-    map_push fault_of items x ∙ ap (λ l. l ++ fault_of x ∷ []) before ∙ append_assoc old (map plain_fault (take i fs)) (fault_of x ∷ [])
+    map_push any_fault_value items x ∙ ap (λ l. l ++ any_fault_value x ∷ []) before ∙ append_assoc old (map plain_fault (take i fs)) (any_fault_value x ∷ [])
     ∙ ap (λ l. old ++ l) (ap (λ g. map plain_fault (take i fs) ++ g ∷ []) (is ∙ ap plain_fault at) ∙ sym (map_push plain_fault (take i fs) (get_or fs i f)) ∙ ap (map plain_fault) (sym (take_more fs i f within)))
 
 -- ---- with nothing given and nothing told
 
-pub plain_lines : (asleep : List Slot) (t : Tree) (known : List Fault) (list : List AnyFault) → map fault_of list ≡ map plain_fault known → AreAllListed t known
+pub plain_lines : (asleep : List Slot) (t : Tree) (known : List Fault) (list : List AnyFault) → map any_fault_value list ≡ map plain_fault known → AreAllListed t known
     → AreAllLines (nothing_told asleep) nothing_given t list
 plain_lines asleep t known list is listed = record {
   judged = map untold.Known (map plain.fault_of known);
@@ -73,7 +73,7 @@ nothing_said None None legacy palette isa unclaimed e =
       none_taken = none_there unclaimed taken.1;
     }
 
-pub nothing_is : (given : claims.Given) → is_given given ≡ false → given_value given ≡ nothing_given
+pub nothing_is : (given : claims.Given) → is_given given ≡ false → code_given_value given ≡ nothing_given
 nothing_is given none =
     let said = nothing_said given.io given.memory given.legacy.now given.palette.now given.isa.now given.unclaimed.now none in
     λ i. record {

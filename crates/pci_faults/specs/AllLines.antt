@@ -22,13 +22,13 @@ abbrev pub plain_fault : code.Fault → spec.Fault
 plain_fault fault = spec.Known (untold.Known (plain.fault_of fault))
 
 -- the fault, as the definitions have it
-abbrev pub fault_of : AnyFault → spec.Fault
-fault_of (Early fault) = plain_fault fault
-fault_of (NotListed slot) = spec.NotListed slot
-fault_of (OutsideHost fault) = spec.Known (outside_of fault)
-fault_of (Unreached fault) = spec.Known (unreached_of fault)
-fault_of (Clash fault) = spec.Known (clash_of fault)
-fault_of (Split fault) = spec.Known (split_of fault)
+abbrev pub any_fault_value : AnyFault → spec.Fault
+any_fault_value (Early fault) = plain_fault fault
+any_fault_value (NotListed slot) = spec.NotListed slot
+any_fault_value (OutsideHost fault) = spec.Known (outside_of fault)
+any_fault_value (Unreached fault) = spec.Known (unreached_of fault)
+any_fault_value (Clash fault) = spec.Known (clash_of fault)
+any_fault_value (Split fault) = spec.Known (split_of fault)
 
 -- a fault that is held as one before judging is one
 abbrev pub IsResolved : AnyFault → Type 0
@@ -38,7 +38,7 @@ IsResolved _ = Unit {0}
 -- all of judging, in each system with the tree that lists each slot of a range that isn't held
 pub record AreAllLines (told : Told) (given : Given) (t : Tree) (list : List AnyFault) : Type 0 where
   pub judged : List untold.Fault
-  pub are : map fault_of list ≡ map spec.Known judged
+  pub are : map any_fault_value list ≡ map spec.Known judged
   pub all : (s : System) → HasTree t s → AreListedIn told s
       → AreAllOfJudging told given t.roots s judged
 

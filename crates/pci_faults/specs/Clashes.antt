@@ -18,7 +18,7 @@ use Rattle.judge_spec.specs.ToldAllFaults.{IsClashOf}
 use Rattle.pci_claims.specs.Claim.{Claimed, AreAtOdds, may_both_claim}
 use Rattle.pci_faults.specs.declared.named.Name.{Name}
 use Rattle.pci_faults.specs.declared.named.Clash.{Clash}
-use Rattle.pci_faults.specs.JustLines.{AreAdded}
+use Rattle.pci_faults.specs.JustLines.{AreFaultsAppended}
 
 -- ---- two claims
 
@@ -42,11 +42,11 @@ pub record IsLeastOfTwo (among : Among) (c d : Claimed) (a : ℕ) : Type 0 where
 -- ---- claims by slot and register
 
 -- where a list has no claim
-abbrev pub nobody : Claimed
-nobody = record { slot = record { bus = 0; device = 0; function = 0 }; register = 0; held = false; pieces = [] }
+abbrev pub missing_claim : Claimed
+missing_claim = record { slot = record { bus = 0; device = 0; function = 0 }; register = 0; held = false; pieces = [] }
 
 abbrev pub claim_at : List Claimed → ℕ → Claimed
-claim_at claims k = slice_index_or claims k nobody
+claim_at claims k = slice_index_or claims k missing_claim
 
 -- two claims of a list, one before the other, meet at an address
 pub record AreMeeting (among : Among) (claims : List Claimed) (a first second : ℕ) : Type 0 where
@@ -87,8 +87,8 @@ AreMeetings among claims shares = AreMeetingsBelow among (length claims) claims 
 
 -- ---- faults
 
-abbrev pub name_of : Claimed → Name
-name_of c = record { slot = c.slot; register = c.register }
+abbrev pub claim_name : Claimed → Name
+claim_name c = record { slot = c.slot; register = c.register }
 
 -- the clash that two claims of a list tell of
 abbrev pub claims_clash : ℕ → Space → List Claimed → Share → Clash
@@ -96,8 +96,8 @@ claims_clash bus space claims s = record {
   bus = bus;
   space = space;
   address = s.address;
-  first = name_of (claim_at claims s.first);
-  second = name_of (claim_at claims s.second);
+  first = claim_name (claim_at claims s.first);
+  second = claim_name (claim_at claims s.second);
 }
 
 abbrev pub clash_value : Clash → plain.Fault
@@ -118,7 +118,7 @@ IsClashLine At told given roots s fault = ⊥
 abbrev pub AreClashesAdded : (ℕ → system.Space → Type 0) → Told → Given → Tree → List Clash
     → List Clash → Type 0
 AreClashesAdded At told given t before after =
-    AreAdded t (IsClashLine At told given t.roots) (map clash_value before) (map clash_value after)
+    AreFaultsAppended t (IsClashLine At told given t.roots) (map clash_value before) (map clash_value after)
 
 -- of one bus and space
 abbrev pub IsOnBusIn : ℕ → system.Space → ℕ → system.Space → Type 0

@@ -21,7 +21,7 @@ use Rattle.pci_tree.specs.Admission.{IsOutlineFor}
 use Rattle.pci_faults.specs.declared.every.BeforeJudging.{BeforeJudging}
 use Rattle.pci_faults.specs.declared.every.BeforeJudging.TheVariants.{Refused, Admitted}
 use Rattle.pci_faults.specs.declared.any_fault.AnyFault.{AnyFault}
-use Rattle.pci_faults.specs.AllLines.{fault_of, plain_fault, AreAllLines}
+use Rattle.pci_faults.specs.AllLines.{any_fault_value, plain_fault, AreAllLines}
 use Rattle.pci_faults.specs.Before.{AreSlotsOf, IsOfNoFunction, IsOfNoBus, AreOrphansAdded}
 
 -- ---- what is told before judging
@@ -79,12 +79,12 @@ AreBefore told given roots dump probe faults =
     ⊎ AreEarlier told roots dump probe faults
 
 -- both list the same slots, and their system is sound with what is given and told
-pub record AreSound (told : Told) (given : Given) (roots : List ℕ) (dump probe : List Block) : Type 0 where
+pub record AreSoundAsTold (told : Told) (given : Given) (roots : List ℕ) (dump probe : List Block) : Type 0 where
   pub slots : slots_of dump ≡ slots_of probe
   pub sound : IsSound told given roots (system_of dump probe)
 
 -- none is there before judging
-pub record AreReady (told : Told) (roots : List ℕ) (dump probe : List Block) : Type 0 where
+pub record AreReadyForJudging (told : Told) (roots : List ℕ) (dump probe : List Block) : Type 0 where
   pub listed : AreListed told dump probe
   pub none_earlier : (fault : spec.Fault) → phase_of fault < phase_key Judging
       → IsEarlyThere told roots dump probe fault → ⊥
@@ -94,15 +94,15 @@ pub record AreFound (told : Told) (given : Given) (roots : List ℕ) (dump probe
     (faults : List Fault) : Type 0 where
   pub some : faults ≡ [] → ⊥
   pub before : AreBefore told given roots dump probe faults
-  pub unsound : AreSound told given roots dump probe → ⊥
-  pub unready : AreReady told roots dump probe → ⊥
+  pub unsound : AreSoundAsTold told given roots dump probe → ⊥
+  pub unready : AreReadyForJudging told roots dump probe → ⊥
 
 -- what is found before judging, whatever is given: faults, or what is to be judged
 abbrev pub IsBeforeJudging : {A : Type 0} → Told → List ℕ → List Block → List Block → BeforeJudging A → Type 0
 IsBeforeJudging told roots dump probe (Refused faults) =
-    (given : Given) → AreFound told given roots dump probe (map fault_of faults.items)
+    (given : Given) → AreFound told given roots dump probe (map any_fault_value faults.items)
 IsBeforeJudging told roots dump probe (Admitted outline) =
-    AreReady told roots dump probe
+    AreReadyForJudging told roots dump probe
     × IsOutlineFor record { roots = roots; dump = dump; probe = probe } outline
 
 -- ---- what bridges take
@@ -111,7 +111,7 @@ IsBeforeJudging told roots dump probe (Admitted outline) =
 abbrev pub AreTakenFor : Told → Given → List ℕ → List Block → List Block → List Slot → List TakingBridge
     → Type 0
 AreTakenFor told given roots dump probe slots bridges =
-    AreReady told roots dump probe → AreTaking told given (system_of dump probe) slots bridges
+    AreReadyForJudging told roots dump probe → AreTaking told given (system_of dump probe) slots bridges
 
 -- in each system with the tree these bridges take what no region of their bus claims, and all of judging is found with it
 pub record IsJudgedOf (told : Told) (given : Given) (slots : List Slot) (t : Tree)

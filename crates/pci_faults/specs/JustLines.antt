@@ -14,7 +14,7 @@ pub record AreJustLines (P : plain.Fault → Type 0) (list : List plain.Fault) :
   pub distinct : AllPairs (λ f g. judging_key f ≡ judging_key g → ⊥) list
 
 -- such faults, in each system with the tree, come behind those of a list
-pub record AreAdded (t : Tree) (P : System → plain.Fault → Type 0)
+pub record AreFaultsAppended (t : Tree) (P : System → plain.Fault → Type 0)
     (before after : List plain.Fault) : Type 0 where
   pub more : List plain.Fault
   pub appended : after ≡ before ++ more

@@ -39,28 +39,28 @@ nothing_shared =
       last = 0;
     }
 
-abbrev pub region_at : List Region → ℕ → Region
-region_at regions k = slice_index_or regions k nothing_shared
+abbrev pub sharing_region_at : List Region → ℕ → Region
+sharing_region_at regions k = slice_index_or regions k nothing_shared
 
 -- the fault that regions of a list share their address
 abbrev pub share_fault : Among → Space → List Region → Share → Fault
 share_fault among space regions s =
-    share_fault_at among space s.address (region_at regions s.first) (region_at regions s.second)
+    share_fault_at among space s.address (sharing_region_at regions s.first) (sharing_region_at regions s.second)
 
 -- ---- lists of faults
 
 -- the list has just the faults that are such, each once
-pub record AreJustLines (P : faults.Fault → Type 0) (list : List Fault) : Type 0 where
+pub record AreJustCodeFaults (P : faults.Fault → Type 0) (list : List Fault) : Type 0 where
   pub each : (f : Fault) → Contains list f → P (fault_of f)
   pub complete : (f : faults.Fault) → P f → (g : Fault) × Contains list g × (fault_of g ≡ f)
   pub distinct : AllPairs (λ f g. judging_key (fault_of f) ≡ judging_key (fault_of g) → ⊥) list
 
 -- such faults, in each system with the tree, come behind those of a list
-pub record AreAdded (t : Tree) (P : system.System → faults.Fault → Type 0)
+pub record AreCodeFaultsAppended (t : Tree) (P : system.System → faults.Fault → Type 0)
     (before after : List Fault) : Type 0 where
   pub more : List Fault
   pub appended : after ≡ before ++ more
-  pub just : (s : system.System) → HasTree t s → AreJustLines (P s) more
+  pub just : (s : system.System) → HasTree t s → AreJustCodeFaults (P s) more
 
 -- the fault is one that a list of all names, of a check, bus and space that are meant; splits are of no bus
 abbrev pub IsLineInEach : (Check → ℕ → system.Space → Type 0) → List ℕ → system.System → faults.Fault
@@ -80,15 +80,15 @@ IsLineInEach At roots s fault = ⊥
 -- they come behind those of a list
 abbrev pub AreLinesAdded : (Check → ℕ → system.Space → Type 0) → Tree → List Fault → List Fault
     → Type 0
-AreLinesAdded At t before after = AreAdded t (IsLineInEach At t.roots) before after
+AreLinesAdded At t before after = AreCodeFaultsAppended t (IsLineInEach At t.roots) before after
 
 -- of one check, bus and space
 abbrev pub IsAt : Check → ℕ → system.Space → Check → ℕ → system.Space → Type 0
 IsAt check bus space c b sp = (c ≡ check) × (b ≡ bus) × (sp ≡ space)
 
 -- of one check, and the buses below a number
-abbrev pub IsBelow : Check → ℕ → Check → ℕ → system.Space → Type 0
-IsBelow check n c b sp = (c ≡ check) × (b < n)
+abbrev pub IsAtBusesBelow : Check → ℕ → Check → ℕ → system.Space → Type 0
+IsAtBusesBelow check n c b sp = (c ≡ check) × (b < n)
 
 -- all faults of judging that are there, in each system with the tree
 abbrev pub AreAllListed : Tree → List Fault → Type 0

@@ -13,10 +13,10 @@ pub record AreJust (Before : faults.Fault → faults.Fault → Type 0) (Is : fau
   pub rising : AllPairs Before list
 
 -- those faults that are there
-abbrev pub told : List (Option Fault) → List faults.Fault
-told [] = []
-told (None ∷ rest) = told rest
-told (Some fault ∷ rest) = fault_of fault ∷ told rest
+abbrev pub present_faults : List (Option Fault) → List faults.Fault
+present_faults [] = []
+present_faults (None ∷ rest) = present_faults rest
+present_faults (Some fault ∷ rest) = fault_of fault ∷ present_faults rest
 
 -- the fault is the list's first
 abbrev pub BeginsWith : faults.Fault → List faults.Fault → Type 0

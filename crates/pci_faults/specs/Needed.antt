@@ -77,7 +77,7 @@ pub record HasName (list : List Needed) (slot : Slot) (register : ℕ) : Type 0 
   pub register_is : n.name.register ≡ register
 
 -- just those that are meant, each two of them related
-pub record AreJust (W : Which) (AreTwo : Needed → Needed → Type 0) (s : System)
+pub record AreJustNeededRegions (W : Which) (AreTwo : Needed → Needed → Type 0) (s : System)
     (list : List Needed) : Type 0 where
   pub each : (n : Needed) → Contains list n → IsOneOf W s n
   pub complete : (slot : Slot) (register : ℕ) (space : Space) (a : ℕ) (prefetch : Bool)
@@ -89,25 +89,25 @@ abbrev pub Differ : Needed → Needed → Type 0
 Differ n m = needed_place n ≡ needed_place m → ⊥
 
 -- they come behind those of a list, each once, in each system with the tree
-pub record AreAdded (W : Which) (t : Tree) (before after : List Needed) : Type 0 where
+pub record AreNeededAppended (W : Which) (t : Tree) (before after : List Needed) : Type 0 where
   pub more : List Needed
   pub appended : after ≡ before ++ more
-  pub are : (s : System) → HasTree t s → AreJust W Differ s more
+  pub are : (s : System) → HasTree t s → AreJustNeededRegions W Differ s more
 
 abbrev pub AreBarsAdded : (ℕ → Space → Type 0) → Tree → List Needed → List Needed → Type 0
-AreBarsAdded At t before after = AreAdded (IsOfBarAt At) t before after
+AreBarsAdded At t before after = AreNeededAppended (IsOfBarAt At) t before after
 
 -- all of them by slot and register, in each system with the tree
 abbrev pub AreAllNeeded : Told → Tree → List Needed → Type 0
 AreAllNeeded told t list =
     (s : System) → HasTree t s
-    → AreJust (IsNeeded told) (λ n m. needed_place n < needed_place m) s list
+    → AreJustNeededRegions (IsNeeded told) (λ n m. needed_place n < needed_place m) s list
 
 -- the told ranges among them, likewise
 abbrev pub AreToldNeeded : Told → Tree → List Needed → Type 0
 AreToldNeeded told t list =
     (s : System) → HasTree t s
-    → AreJust (IsOfRange told) (λ n m. needed_place n < needed_place m) s list
+    → AreJustNeededRegions (IsOfRange told) (λ n m. needed_place n < needed_place m) s list
 
 -- ---- made of regions and told ranges
 

@@ -7,8 +7,8 @@ use Rattle.pci_spec.specs.Order.{space_key}
 use Rattle.pci_spec.specs.JudgingLaws.{region_number}
 
 -- a space and an address in it, below 2^65
-abbrev pub place_in : Space → ℕ → ℕ
-place_in space address = space_key space * 2 ^ 64 + address
+abbrev pub space_address_key : Space → ℕ → ℕ
+space_address_key space address = space_key space * 2 ^ 64 + address
 
 -- what judging looks for first has the least place
 abbrev pub judging_place : Fault → ℕ
@@ -16,10 +16,10 @@ judging_place (Unreached slot register space address bridge) =
     (region_number slot register * 2 ^ 16 + slot_number bridge) * 2 ^ 64 + address
 judging_place (Clash bus space address first first_register second second_register) =
     2 ^ 126
-    + ((bus * 2 ^ 65 + place_in space address) * 2 ^ 24 + region_number first first_register) * 2 ^ 24
+    + ((bus * 2 ^ 65 + space_address_key space address) * 2 ^ 24 + region_number first first_register) * 2 ^ 24
     + region_number second second_register
 judging_place (Split space address first first_register second second_register) =
     2 ^ 127
-    + (place_in space address * 2 ^ 24 + region_number first first_register) * 2 ^ 24
+    + (space_address_key space address * 2 ^ 24 + region_number first first_register) * 2 ^ 24
     + region_number second second_register
 judging_place fault = 0

@@ -7,7 +7,7 @@ use Rattle.pci_spec.specs.Order.{is_before, image_at, phase_of}
 use Rattle.pci_spec.specs.FaultLines.{subject}
 use Rattle.pci_function.specs.declared.fault.Fault.{Fault}
 use Rattle.pci_function.specs.Profile.{IsHere}
-use Rattle.pci_faults.specs.Lists.{AreJust, told}
+use Rattle.pci_faults.specs.Lists.{AreJust, present_faults}
 
 -- none of an earlier phase is one of the function by itself
 abbrev pub HasNoneBefore : ℕ → Function → Type 0
@@ -30,7 +30,7 @@ IsBeforeAt s fault other = IsTrue (is_before (image_at s) fault other)
 
 -- just those of the function
 abbrev pub AreOwnLines : ℕ → Function → List (Option Fault) → Type 0
-AreOwnLines phase f list = AreJust (IsBeforeIn f) (IsOwnLine phase f) (told list)
+AreOwnLines phase f list = AreJust (IsBeforeIn f) (IsOwnLine phase f) (present_faults list)
 
 -- it is a line of one of these functions
 pub record IsOwnOf (Own : Function → faults.Fault → Type 0) (fs : System)

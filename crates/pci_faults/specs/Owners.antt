@@ -25,7 +25,7 @@ pub record Owns (ranges : OwnedRanges) (a owner : ℕ) : Type 0 where
   pub is : r.owner ≡ owner
 
 -- no range is empty, and no two have an address in common
-pub record RangesAreApart (ranges : OwnedRanges) : Type 0 where
+pub record OwnedRangesAreApart (ranges : OwnedRanges) : Type 0 where
   pub each : (last : ℕ) (r : Owned) → StandsAt ranges last r → r.first ≤ last
   pub apart : (last other : ℕ) (r q : Owned) → StandsAt ranges last r → StandsAt ranges other q
       → last < other → last < q.first

@@ -8,10 +8,10 @@ use Rattle.pci_faults.specs.declared.functions.OwnPhase.TheVariants as codes
 use Rattle.pci_faults.specs.Lists.{AreJust}
 use Rattle.pci_faults.specs.OwnLines.{IsBeforeIn, IsOwnLine}
 
-abbrev pub number_of : OwnPhase → ℕ
-number_of codes.Identity = phase_key Identity
-number_of codes.Decoding = phase_key Decoding
-number_of codes.Profile = phase_key Profile
+abbrev pub own_phase_number : OwnPhase → ℕ
+own_phase_number codes.Identity = phase_key Identity
+own_phase_number codes.Decoding = phase_key Decoding
+own_phase_number codes.Profile = phase_key Profile
 
 -- a list has grown by the function's lines
 abbrev pub IsAdding : ℕ → Function → List faults.Fault → List faults.Fault → Type 0

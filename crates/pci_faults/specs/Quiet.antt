@@ -46,8 +46,8 @@ pub record AreQuiet (space : Space) (regions : List Region) (legacy : List Legac
       → IsOffLegacy space bridge r
 
 -- no two regions of some buses claim an address that they may not share
-abbrev pub IsQuiet : Given → System → (ℕ → Type 0) → Space → Type 0
-IsQuiet given s IsOne space =
+abbrev pub IsQuietOnBuses : Given → System → (ℕ → Type 0) → Space → Type 0
+IsQuietOnBuses given s IsOne space =
     (a b c : ℕ) (p q : Slot) (m n : ℕ) → IsOne b → IsOne c
     → ClaimsOnBus given s b (address_in space a) (named_region p m)
     → ClaimsOnBus given s c (address_in space a) (named_region q n)
@@ -55,7 +55,7 @@ IsQuiet given s IsOne space =
 
 -- in each system with the tree
 abbrev pub IsQuietInEach : Given → Tree → (ℕ → Type 0) → Space → Type 0
-IsQuietInEach given t IsOne space = (s : System) → HasTree t s → IsQuiet given s IsOne space
+IsQuietInEach given t IsOne space = (s : System) → HasTree t s → IsQuietOnBuses given s IsOne space
 
 -- with what is told, no two regions of some buses claim an address that they may not share, in each system with the tree
 abbrev pub IsQuietWith : told_claims.Told → Given → Tree → (ℕ → Type 0) → Space → Type 0

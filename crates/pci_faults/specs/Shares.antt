@@ -80,6 +80,6 @@ pub record AreLesser (n i : ℕ) (by : Among) (regions : List Region) : Type 0 w
   pub others : (k : ℕ) → n ≤ k → k < i → group_at by regions i ≤ group_at by regions k
 
 -- the first so many are of lesser groups than each from a place on
-abbrev pub AreBefore : ℕ → ℕ → Among → List Region → Type 0
-AreBefore n i by regions =
+abbrev pub AreOfLesserGroups : ℕ → ℕ → Among → List Region → Type 0
+AreOfLesserGroups n i by regions =
     (k j : ℕ) → k < n → i ≤ j → j < length regions → group_at by regions k < group_at by regions j

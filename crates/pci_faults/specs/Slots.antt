@@ -16,6 +16,6 @@ IsLoneSlot slots others fault =
     (slot : Slot) × (fault ≡ SlotsDiffer slot) × IsLoneIn slots others slot
 
 -- the number of the first slot; where there is none, one above all of them
-abbrev pub IsFront : List Slot → ℕ → Type 0
-IsFront [] n = n ≡ 0x10000
-IsFront (slot ∷ rest) n = n ≡ slot_number slot
+abbrev pub IsFirstSlotNumber : List Slot → ℕ → Type 0
+IsFirstSlotNumber [] n = n ≡ 0x10000
+IsFirstSlotNumber (slot ∷ rest) n = n ≡ slot_number slot

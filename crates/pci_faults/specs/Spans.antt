@@ -7,8 +7,8 @@ use Rattle.judge_spec.specs.Told.{ToldRange}
 use Rattle.judge_spec.specs.ToldClaims.{told_register}
 use Rattle.pci_faults.specs.declared.spans.Span.{Span}
 
-abbrev pub span_of : Region → Span
-span_of r = record { slot = r.slot; register = r.reg; first = r.first; last = r.last }
+abbrev pub region_span : Region → Span
+region_span r = record { slot = r.slot; register = r.reg; first = r.first; last = r.last }
 
 abbrev pub told_span : ℕ → ToldRange → Span
 told_span index r =

@@ -13,16 +13,16 @@ use Rattle.judge_spec.specs.ToldClaims.{Told}
 use Rattle.judge_spec.specs.ToldAllFaults.{IsSplitOf}
 use Rattle.pci_claims.specs.Claim.{Claimed}
 use Rattle.pci_faults.specs.declared.named.Split.{Split}
-use Rattle.pci_faults.specs.Clashes.{claim_at, name_of}
-use Rattle.pci_faults.specs.JustLines.{AreAdded}
+use Rattle.pci_faults.specs.Clashes.{claim_at, claim_name}
+use Rattle.pci_faults.specs.JustLines.{AreFaultsAppended}
 
 -- the split that two claims of a list tell of
 abbrev pub claims_split : Space → List Claimed → Share → Split
 claims_split space claims s = record {
   space = space;
   address = s.address;
-  first = name_of (claim_at claims s.first);
-  second = name_of (claim_at claims s.second);
+  first = claim_name (claim_at claims s.first);
+  second = claim_name (claim_at claims s.second);
 }
 
 abbrev pub split_value : Split → plain.Fault
@@ -42,7 +42,7 @@ IsSplitLine In told given roots s fault = ⊥
 abbrev pub AreSplitsAdded : (system.Space → Type 0) → Told → Given → Tree → List Split → List Split
     → Type 0
 AreSplitsAdded In told given t before after =
-    AreAdded t (IsSplitLine In told given t.roots) (map split_value before) (map split_value after)
+    AreFaultsAppended t (IsSplitLine In told given t.roots) (map split_value before) (map split_value after)
 
 -- of one space
 abbrev pub IsSplitIn : system.Space → system.Space → Type 0

@@ -78,8 +78,8 @@ pub record IsFirstBridgeThatStops (IsSentThere : ℕ → Type 0) (IsPassedAt : �
   pub least : (b : ℕ) → b < a → Holds range b → IsSentThere b → IsPassedAt b bridge
 
 -- each address of a region gets to its bus
-abbrev pub IsWholeAt : Reaches → Needed → Type 0
-IsWholeAt reaches n =
+abbrev pub IsWholeAtOwnBus : Reaches → Needed → Type 0
+IsWholeAtOwnBus reaches n =
     (a : ℕ) → Holds n.range a
     → Covers (ranges_at reaches (space_of n.space) n.prefetch n.name.slot.bus) a
 

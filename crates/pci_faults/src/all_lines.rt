@@ -5,9 +5,9 @@ ghost use Rattle.judge_spec.specs.Given.{nothing_given};
 ghost use Rattle.judge_spec.specs.Told.{IsTold};
 ghost use Rattle.judge_spec.specs.ToldClaims.{nothing_told};
 ghost use Rattle.pci_faults.specs.declared.any_fault.AnyFault.TheVariants as codes;
-ghost use Rattle.pci_claims.specs.Values.{given_value, told_value};
-ghost use Rattle.pci_claims.specs.AllClaims.{IsBoard};
-ghost use Rattle.pci_faults.specs.AllLines.{AreAllLines, fault_of, plain_fault, is_given};
+ghost use Rattle.pci_claims.specs.Values.{code_given_value, told_value};
+ghost use Rattle.pci_claims.specs.AllClaims.{IsClaimsBoard};
+ghost use Rattle.pci_faults.specs.AllLines.{AreAllLines, any_fault_value, plain_fault, is_given};
 
 use super::any_fault::{AnyFault, without_told};
 use super::clash_lines::all_clashes;
@@ -85,7 +85,7 @@ pub fn add_without_told<A: Allocator>(
     faults: &mut Vec<AnyFault, A>,
     known: &[Fault],
 ) -> Result<(), OutOfMemory>
-    ensures { OnOk result (map fault_of faults.new.items ≡ map fault_of faults.old.items
+    ensures { OnOk result (map any_fault_value faults.new.items ≡ map any_fault_value faults.old.items
         ++ map plain_fault known.now) }
 {
     for fault in known {
@@ -99,10 +99,10 @@ fn lines_of<A: Allocator + Copy>(
     alloc: A,
     board: &Board<'_, '_, A>,
 ) -> Result<Vec<AnyFault, A>, OutOfMemory>
-    requires { IsBoard (told_value board.now.told) board.now.outline.now board.now.on.now
+    requires { IsClaimsBoard (told_value board.now.told) board.now.outline.now board.now.on.now
         board.now.bridges.now }
     ensures { IfOk result (λ v. AreAllLines (told_value board.now.told)
-        (given_value board.now.given) board.now.outline.now v.items) }
+        (code_given_value board.now.given) board.now.outline.now v.items) }
 {
     let outside = all_outside(alloc, board)?;
     let unreached = all_unreached(alloc, board)?;
@@ -124,7 +124,7 @@ fn all_by_number<A: Allocator + Copy>(
     outline: &Outline<A>,
 ) -> Result<Vec<AnyFault, A>, OutOfMemory>
     requires { IsTold told.now.ranges.now }
-    ensures { IfOk result (λ v. AreAllLines (told_value told.now) (given_value given.now)
+    ensures { IfOk result (λ v. AreAllLines (told_value told.now) (code_given_value given.now)
         outline.now v.items) }
 {
     let bridges = outline.bridges()?;
@@ -178,7 +178,7 @@ pub fn all_of_judging<A: Allocator + Copy>(
 ) -> Result<Vec<AnyFault, A>, OutOfMemory>
     // they are read of a text
     requires { IsTold told.now.ranges.now }
-    ensures { IfOk result (λ v. AreAllLines (told_value told.now) (given_value given.now)
+    ensures { IfOk result (λ v. AreAllLines (told_value told.now) (code_given_value given.now)
         outline.now v.items) }
 {
     if is_given(given) || !told.ranges.is_empty() {

@@ -2,7 +2,7 @@
 ghost use Rattle.std.specs.Prelude.{◌≡◌, Some};
 ghost use Rattle.judge_spec.specs.ToldLine.{fault_text};
 ghost use Rattle.pci_faults.specs.declared.any_fault.AnyFault.TheVariants as codes;
-ghost use Rattle.pci_faults.specs.AllLines.{fault_of, plain_fault, IsResolved};
+ghost use Rattle.pci_faults.specs.AllLines.{any_fault_value, plain_fault, IsResolved};
 
 use super::named::{Clash, Name, Outside, Split, Unreached};
 use pci_base::slot::Slot;
@@ -28,9 +28,9 @@ pub enum AnyFault {
 }
 
 impl fmt::Display for AnyFault {
-    ghost use Rattle.pci_faults.specs.AllLines.{fault_of};
+    ghost use Rattle.pci_faults.specs.AllLines.{any_fault_value};
 
-    ghost output = { λ fault. Some (fault_text (fault_of fault)) };
+    ghost output = { λ fault. Some (fault_text (any_fault_value fault)) };
 
     fn fmt<W: fmt::Write>(&self, f: &mut fmt::Formatter<W>) -> fmt::Result {
         match resolved(self) {
@@ -99,7 +99,7 @@ fn split(space: Space, address: u64, first: Name, second: Name) -> AnyFault
 
 /// A fault that names no told range.
 pub fn without_told(fault: &Fault) -> AnyFault
-    ensures same { fault_of result ≡ plain_fault fault.now }
+    ensures same { any_fault_value result ≡ plain_fault fault.now }
     ensures resolved { IsResolved result }
 {
     match *fault {
@@ -139,7 +139,7 @@ pub fn without_told(fault: &Fault) -> AnyFault
 
 /// The same fault, and as one of judging where it is one.
 pub fn resolved(fault: &AnyFault) -> AnyFault
-    ensures same { fault_of result ≡ fault_of fault.now }
+    ensures same { any_fault_value result ≡ any_fault_value fault.now }
     ensures resolved { IsResolved result }
 {
     match *fault {

@@ -2,7 +2,7 @@
 ghost use Rattle.std.specs.Prelude.{◌≡◌, ◌++◌, OnOk};
 ghost use Rattle.pci_base.specs.Space.{space_of};
 ghost use Rattle.pci_faults.specs.Clashes.{IsOnBusIn};
-ghost use Rattle.pci_faults.specs.Needed.{needed_among, AreBarsAdded, AreAdded, IsOfBar};
+ghost use Rattle.pci_faults.specs.Needed.{needed_among, AreBarsAdded, AreNeededAppended, IsOfBar};
 
 use super::named::Name;
 use super::needed::Needed;
@@ -73,7 +73,7 @@ pub fn add_bars_and_roms<A: Allocator + Copy>(
     out: &mut Vec<Needed, A>,
     outline: &Outline<A>,
 ) -> Result<(), OutOfMemory>
-    ensures { OnOk result (AreAdded IsOfBar outline.now out.old.items out.new.items) }
+    ensures { OnOk result (AreNeededAppended IsOfBar outline.now out.old.items out.new.items) }
 {
     for bus in 0..BUSES {
         add_on(out, outline, bus as u8)?;

@@ -2,9 +2,9 @@
 ghost use Rattle.std.specs.Prelude.{◌≡◌, ◌<◌, ◌++◌, length, map, IfOk, OnOk};
 ghost use Rattle.pci_base.specs.Space.{space_of};
 ghost use Rattle.pci_faults.specs.Shares.{AreWithin};
-ghost use Rattle.pci_claims.specs.Values.{given_value, told_value};
-ghost use Rattle.pci_claims.specs.AllClaims.{IsBoard};
-ghost use Rattle.pci_faults.specs.Clashes.{name_of, claims_clash, AreClashesAdded, IsOnBusIn};
+ghost use Rattle.pci_claims.specs.Values.{code_given_value, told_value};
+ghost use Rattle.pci_claims.specs.AllClaims.{IsClaimsBoard};
+ghost use Rattle.pci_faults.specs.Clashes.{claim_name, claims_clash, AreClashesAdded, IsOnBusIn};
 ghost use Rattle.pci_faults.specs.Named.{AreAllClashes};
 
 use super::meetings::meetings;
@@ -22,7 +22,7 @@ use std::alloc::Allocator;
 
 /// The region of a claim.
 pub(crate) fn name_of<A: Allocator>(claim: &Claim<A>) -> Name
-    ensures { result ≡ name_of claim.now }
+    ensures { result ≡ claim_name claim.now }
 {
     Name {
         slot: claim.slot(),
@@ -72,10 +72,10 @@ fn add_clashes_in<A: Allocator + Copy>(
     bus: u8,
     space: Space,
 ) -> Result<(), OutOfMemory>
-    requires { IsBoard (told_value board.now.told) board.now.outline.now board.now.on.now
+    requires { IsClaimsBoard (told_value board.now.told) board.now.outline.now board.now.on.now
         board.now.bridges.now }
     ensures { OnOk result (AreClashesAdded (IsOnBusIn bus (space_of space))
-        (told_value board.now.told) (given_value board.now.given) board.now.outline.now
+        (told_value board.now.told) (code_given_value board.now.given) board.now.outline.now
         out.old.items out.new.items) }
 {
     // so it is on most buses, and lists of claims cost more
@@ -94,10 +94,10 @@ fn add_clashes_on<A: Allocator + Copy>(
     board: &Board<'_, '_, A>,
     bus: u8,
 ) -> Result<(), OutOfMemory>
-    requires { IsBoard (told_value board.now.told) board.now.outline.now board.now.on.now
+    requires { IsClaimsBoard (told_value board.now.told) board.now.outline.now board.now.on.now
         board.now.bridges.now }
     ensures { OnOk result (AreClashesAdded (λ b sp. b ≡ bus) (told_value board.now.told)
-        (given_value board.now.given) board.now.outline.now out.old.items out.new.items) }
+        (code_given_value board.now.given) board.now.outline.now out.old.items out.new.items) }
 {
     add_clashes_in(alloc, out, board, bus, Space::Io)?;
     add_clashes_in(alloc, out, board, bus, Space::Mem)
@@ -109,10 +109,10 @@ fn add_clashes<A: Allocator + Copy>(
     out: &mut Vec<Clash, A>,
     board: &Board<'_, '_, A>,
 ) -> Result<(), OutOfMemory>
-    requires { IsBoard (told_value board.now.told) board.now.outline.now board.now.on.now
+    requires { IsClaimsBoard (told_value board.now.told) board.now.outline.now board.now.on.now
         board.now.bridges.now }
     ensures { OnOk result (AreClashesAdded (λ b sp. Unit {0}) (told_value board.now.told)
-        (given_value board.now.given) board.now.outline.now out.old.items out.new.items) }
+        (code_given_value board.now.given) board.now.outline.now out.old.items out.new.items) }
 {
     for bus in 0..BUSES {
         add_clashes_on(alloc, out, board, bus as u8)?;
@@ -129,9 +129,9 @@ pub fn all_clashes<A: Allocator + Copy>(
     alloc: A,
     board: &Board<'_, '_, A>,
 ) -> Result<Vec<Clash, A>, OutOfMemory>
-    requires { IsBoard (told_value board.now.told) board.now.outline.now board.now.on.now
+    requires { IsClaimsBoard (told_value board.now.told) board.now.outline.now board.now.on.now
         board.now.bridges.now }
-    ensures { IfOk result (λ v. AreAllClashes (told_value board.now.told) (given_value board.now.given)
+    ensures { IfOk result (λ v. AreAllClashes (told_value board.now.told) (code_given_value board.now.given)
         board.now.outline.now v.items) }
 {
     let mut clashes = Vec::new(alloc);

@@ -7,9 +7,9 @@ ghost use Rattle.judge_spec.specs.ToldFaultLines.{AreJudged, AreAllFaults};
 ghost use Rattle.judge_spec.specs.UnclaimedLaws.{with_taking};
 ghost use Rattle.pci_tree.specs.Admission.{IsOutlineFor};
 ghost use Rattle.pci_tree.specs.Roots.{buses_of};
-ghost use Rattle.pci_claims.specs.Values.{given_value, told_value};
-ghost use Rattle.pci_faults.specs.AllLines.{fault_of, plain_fault, AreAllLines};
-ghost use Rattle.pci_faults.specs.Every.{first_phase, AreBefore, AreEarlyWith, AreReady, AreSound, IsBeforeJudging, AreTakenFor, IsJudgedOf};
+ghost use Rattle.pci_claims.specs.Values.{code_given_value, told_value};
+ghost use Rattle.pci_faults.specs.AllLines.{any_fault_value, plain_fault, AreAllLines};
+ghost use Rattle.pci_faults.specs.Every.{first_phase, AreBefore, AreEarlyWith, AreReadyForJudging, AreSoundAsTold, IsBeforeJudging, AreTakenFor, IsJudgedOf};
 
 use super::all_lines::{add_without_told, all_of_judging};
 use super::any_fault::AnyFault;
@@ -62,7 +62,7 @@ fn all_without_told<A: Allocator>(
     alloc: A,
     known: &[Fault],
 ) -> Result<Vec<AnyFault, A>, OutOfMemory>
-    ensures { IfOk result (λ v. map fault_of v.items ≡ map plain_fault known.now) }
+    ensures { IfOk result (λ v. map any_fault_value v.items ≡ map plain_fault known.now) }
 {
     let mut faults = Vec::new(alloc);
     add_without_told(&mut faults, known)?;
@@ -71,7 +71,7 @@ fn all_without_told<A: Allocator>(
 
 /// 34 of each of these slots.
 fn all_not_listed<A: Allocator>(alloc: A, slots: &[Slot]) -> Result<Vec<AnyFault, A>, OutOfMemory>
-    ensures { IfOk result (λ v. map fault_of v.items ≡ map NotListed slots.now) }
+    ensures { IfOk result (λ v. map any_fault_value v.items ≡ map NotListed slots.now) }
 {
     let mut faults = Vec::new(alloc);
     for slot in slots {
@@ -103,7 +103,7 @@ fn early_with<A: Allocator + Copy>(
     requires told { IsTold ranges.now }
     requires dump { IsDump dump.now }
     ensures { IfOk result (λ v. AreEarlyWith ranges.now (buses_of roots.now) dump.now early.items
-        (map fault_of v.items)) }
+        (map any_fault_value v.items)) }
 {
     let phase = first_phase(&early);
     if phase == SLOTS {
@@ -166,7 +166,7 @@ fn faults_with<A: Allocator + Copy>(
     // they are read of a text
     requires { IsTold said.now.told.ranges.now }
     ensures { IfOk result (λ v. AreAllLines (told_value said.now.told)
-        (with_taking taking.now (given_value said.now.given)) outline.now v.items) }
+        (with_taking taking.now (code_given_value said.now.given)) outline.now v.items) }
 {
     let lent = all_lent(alloc, taking)?;
     let given = said.given;
@@ -185,7 +185,7 @@ fn judge<A: Allocator + Copy>(
 ) -> Result<AllFaults<A>, OutOfMemory>
     // they are read of a text
     requires { IsTold said.now.told.ranges.now }
-    ensures { IfOk result (λ found. IsJudgedOf (told_value said.now.told) (given_value said.now.given)
+    ensures { IfOk result (λ found. IsJudgedOf (told_value said.now.told) (code_given_value said.now.given)
         said.now.taking.now outline found.judged found.taking.items found.faults.items) }
 {
     let taking = taken(alloc, said, &outline)?;
@@ -214,26 +214,26 @@ pub fn all_faults<A: Allocator + Copy, B: Allocator, C: Allocator>(
     requires { IsTold said.now.told.ranges.now }
     // what is taken where no fault is of an earlier phase
     ensures taken { IfOk result (λ found. AreTakenFor (told_value said.now.told)
-        (given_value said.now.given) (buses_of said.now.roots) dump.now probe.now
+        (code_given_value said.now.given) (buses_of said.now.roots) dump.now probe.now
         said.now.taking.now found.taking.items) }
     // where nothing is judged nothing is taken
-    ensures untaken { IfOk result (λ found. (AreReady (told_value said.now.told)
+    ensures untaken { IfOk result (λ found. (AreReadyForJudging (told_value said.now.told)
         (buses_of said.now.roots) dump.now probe.now → ⊥) → found.taking.items ≡ []) }
     ensures all { IfOk result (λ found. AreAllFaults (told_value said.now.told)
-        (with_taking found.taking.items (given_value said.now.given)) (buses_of said.now.roots)
-        dump.now probe.now (map fault_of found.faults.items)) }
+        (with_taking found.taking.items (code_given_value said.now.given)) (buses_of said.now.roots)
+        dump.now probe.now (map any_fault_value found.faults.items)) }
     ensures none { IfOk result (λ found. (found.faults.items ≡ [])
-        ↔ AreSound (told_value said.now.told)
-        (with_taking found.taking.items (given_value said.now.given)) (buses_of said.now.roots)
+        ↔ AreSoundAsTold (told_value said.now.told)
+        (with_taking found.taking.items (code_given_value said.now.given)) (buses_of said.now.roots)
         dump.now probe.now) }
     // what was judged is told where no fault is of an earlier phase
     ensures judged { IfOk result (λ found. MatchOption found.judged
         (AreBefore (told_value said.now.told)
-        (with_taking found.taking.items (given_value said.now.given)) (buses_of said.now.roots)
-        dump.now probe.now (map fault_of found.faults.items))
+        (with_taking found.taking.items (code_given_value said.now.given)) (buses_of said.now.roots)
+        dump.now probe.now (map any_fault_value found.faults.items))
         (λ outline. AreJudged (told_value said.now.told)
-        (with_taking found.taking.items (given_value said.now.given)) (buses_of said.now.roots)
-        dump.now probe.now (map fault_of found.faults.items) × IsOutlineFor record {
+        (with_taking found.taking.items (code_given_value said.now.given)) (buses_of said.now.roots)
+        dump.now probe.now (map any_fault_value found.faults.items) × IsOutlineFor record {
           roots = buses_of said.now.roots;
           dump = dump.now;
           probe = probe.now;

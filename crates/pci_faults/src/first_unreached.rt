@@ -8,10 +8,10 @@ ghost use Rattle.pci_base.specs.WindowKinds.{kind_value};
 ghost use Rattle.pci_tree.specs.Outline.{RiseBySlot};
 ghost use Rattle.pci_tree.specs.Reaches.{HasSpans};
 ghost use Rattle.pci_check.specs.Stops.{AreReachesOf, AlwaysNested};
-ghost use Rattle.pci_claims.specs.Values.{given_value};
+ghost use Rattle.pci_claims.specs.Values.{code_given_value};
 ghost use Rattle.pci_claims.specs.Outside.{IsSent};
 ghost use Rattle.pci_claims.specs.Reached.{PassesAt};
-ghost use Rattle.pci_faults.specs.Stopped.{ArePortsLeft, HasCut, HasCutAddress, HasTakenPort, IsLeftWhole, NeverCut, PassesSent, IsFirstBridgeThatStops, IsWholeAt, IsNeverUnreached, IsUnreachedLine};
+ghost use Rattle.pci_faults.specs.Stopped.{ArePortsLeft, HasCut, HasCutAddress, HasTakenPort, IsLeftWhole, NeverCut, PassesSent, IsFirstBridgeThatStops, IsWholeAtOwnBus, IsNeverUnreached, IsUnreachedLine};
 
 use super::missed::least_missed;
 use super::needed::Needed;
@@ -60,11 +60,11 @@ fn first_stop<A: Allocator + Copy>(
     // of an empty window no address could be told
     requires spans { All HasSpans way.now.records.now }
     ensures { IfOk result (λ o. MatchOption o
-        (All (PassesSent (given_value given.now) (kind_value kind) way.now.records.now way.now.root range)
+        (All (PassesSent (code_given_value given.now) (kind_value kind) way.now.records.now way.now.root range)
         way.now.bridges.now)
         (λ stop. IsFirstBridgeThatStops
-        (IsSent (given_value given.now) (window_space (kind_value kind)) way.now.root)
-        (PassesAt (given_value given.now) (kind_value kind) way.now.records.now)
+        (IsSent (code_given_value given.now) (window_space (kind_value kind)) way.now.root)
+        (PassesAt (code_given_value given.now) (kind_value kind) way.now.records.now)
         range way.now.bridges.now stop.bridge stop.address)) }
 {
     let sent = sent_to(alloc, given, Space::of(kind), way.root)?;
@@ -91,8 +91,8 @@ fn first_stop_of<A: Allocator + Copy>(
     one: &Needed,
 ) -> Result<Option<Stop>, OutOfMemory>
     ensures { IfOk result (λ o. MatchOption o
-        (IsNeverUnreached (given_value given.now) outline.now one.now)
-        (λ stop. IsUnreachedLine (given_value given.now) outline.now one.now stop.address stop.bridge)) }
+        (IsNeverUnreached (code_given_value given.now) outline.now one.now)
+        (λ stop. IsUnreachedLine (code_given_value given.now) outline.now one.now stop.address stop.bridge)) }
 {
     let slot = one.name.slot;
     match outline.path(slot) {
@@ -111,8 +111,8 @@ fn first_stop_of<A: Allocator + Copy>(
 
 /// Whether ISA Enable takes an address of a space from the window of some bridge.
 pub fn are_any_cut(given: &Given<'_>, space: Space) -> bool
-    ensures cut { IsTrue result → HasCut (given_value given.now) (space_of space) }
-    ensures never { IsFalse result → NeverCut (given_value given.now) (space_of space) }
+    ensures cut { IsTrue result → HasCut (code_given_value given.now) (space_of space) }
+    ensures never { IsFalse result → NeverCut (code_given_value given.now) (space_of space) }
 {
     match space {
         Space::Io => !given.isa.is_empty(),
@@ -133,8 +133,8 @@ fn are_ports_left(range: Range) -> bool
 /// Whether ISA Enable takes an address of a region from the window of some bridge. This bridge may be on no way to the
 /// region.
 fn may_be_cut(given: &Given<'_>, one: &Needed) -> bool
-    ensures cut { IsTrue result → HasCutAddress (given_value given.now) one.now }
-    ensures never { IsFalse result → IsLeftWhole (given_value given.now) one.now }
+    ensures cut { IsTrue result → HasCutAddress (code_given_value given.now) one.now }
+    ensures never { IsFalse result → IsLeftWhole (code_given_value given.now) one.now }
 {
     if are_any_cut(given, one.space) {
         !are_ports_left(one.range)
@@ -145,7 +145,7 @@ fn may_be_cut(given: &Given<'_>, one: &Needed) -> bool
 
 /// Whether windows alone let all of a region to its bus.
 fn is_whole<A: Allocator + Copy>(reached: &Reached<A>, one: &Needed) -> bool
-    ensures { IsTrue result → IsWholeAt reached.now one.now }
+    ensures { IsTrue result → IsWholeAtOwnBus reached.now one.now }
 {
     let range = one.range;
     if range.last < range.first {
@@ -171,8 +171,8 @@ pub fn stop_of_lost<A: Allocator + Copy>(
     // one way alone leads to each bus
     requires nested { AlwaysNested outline.now }
     ensures { IfOk result (λ o. MatchOption o
-        (IsNeverUnreached (given_value given.now) outline.now one.now)
-        (λ stop. IsUnreachedLine (given_value given.now) outline.now one.now stop.address stop.bridge)) }
+        (IsNeverUnreached (code_given_value given.now) outline.now one.now)
+        (λ stop. IsUnreachedLine (code_given_value given.now) outline.now one.now stop.address stop.bridge)) }
 {
     // a window may not pass what it holds
     if may_be_cut(given, one) {

@@ -1,7 +1,7 @@
 //! Faults that are found one by one, put into a list.
 ghost use Rattle.std.specs.Prelude.{◌≡◌, ◌++◌, map, OnOk};
 ghost use Rattle.pci_function.specs.Fault.{fault_of};
-ghost use Rattle.pci_faults.specs.Lists.{told};
+ghost use Rattle.pci_faults.specs.Lists.{present_faults};
 
 use pci_base::memory::OutOfMemory;
 use pci_function::fault::Fault;
@@ -13,7 +13,7 @@ pub fn add_told<A: Allocator>(
     faults: &[Option<Fault>],
 ) -> Result<(), OutOfMemory>
     ensures { OnOk result
-        (map fault_of found.new.items ≡ map fault_of found.old.items ++ told faults.now) }
+        (map fault_of found.new.items ≡ map fault_of found.old.items ++ present_faults faults.now) }
 {
     for fault in faults {
         if let Some(fault) = *fault {

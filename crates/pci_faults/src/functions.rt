@@ -7,7 +7,7 @@ ghost use Rattle.pci_spec.specs.Fault as faults;
 ghost use Rattle.pci_function.specs.Fault.{fault_of};
 ghost use Rattle.pci_faults.specs.Lists.{AreJust};
 ghost use Rattle.pci_faults.specs.OwnLines.{HasNoneBefore, IsBeforeAt, IsOwnLine, IsOwnOf};
-ghost use Rattle.pci_faults.specs.Phases.{number_of, IsAdding};
+ghost use Rattle.pci_faults.specs.Phases.{own_phase_number, IsAdding};
 
 use super::found::add_told;
 use super::identity::identity_faults;
@@ -36,8 +36,8 @@ fn add_function<A: Allocator>(
     block: &Block,
     probe: &Block,
 ) -> Result<(), OutOfMemory>
-    requires { HasNoneBefore (number_of phase) (function_of block.now probe.now) }
-    ensures { OnOk result (IsAdding (number_of phase) (function_of block.now probe.now)
+    requires { HasNoneBefore (own_phase_number phase) (function_of block.now probe.now) }
+    ensures { OnOk result (IsAdding (own_phase_number phase) (function_of block.now probe.now)
         (map fault_of found.old.items) (map fault_of found.new.items)) }
 {
     let slot = block.slot;
@@ -70,9 +70,9 @@ pub fn function_faults<A: Allocator>(
     requires same { slots_of dump.now ≡ slots_of probe.now }
     // a fault of an earlier phase leaves nothing to be decoded
     requires none { (f : Function) → Contains (system_of dump.now probe.now) f
-        → HasNoneBefore (number_of phase) f }
+        → HasNoneBefore (own_phase_number phase) f }
     ensures { IfOk result (λ found. AreJust (IsBeforeAt (system_of dump.now probe.now))
-        (IsOwnOf (IsOwnLine (number_of phase)) (system_of dump.now probe.now))
+        (IsOwnOf (IsOwnLine (own_phase_number phase)) (system_of dump.now probe.now))
         (map fault_of found.items)) }
 {
     let mut found = Vec::new(alloc);

@@ -4,7 +4,7 @@ ghost use Rattle.std.specs.Prelude.{◌≡◌, IfOk, OnOk};
 ghost use Rattle.std.specs.List.Sorted.{IsNonDecreasingBy, IsPermutation};
 ghost use Rattle.judge_spec.specs.ToldAllFaults.{region_number};
 ghost use Rattle.pci_claims.specs.Values.{told_value};
-ghost use Rattle.pci_claims.specs.AllClaims.{IsBoard};
+ghost use Rattle.pci_claims.specs.AllClaims.{IsClaimsBoard};
 ghost use Rattle.pci_faults.specs.Needed.{needed_place, AreAllNeeded, AreToldNeeded};
 
 use super::bars_and_roms::add_bars_and_roms;
@@ -49,7 +49,7 @@ pub fn told_needed<A: Allocator + Copy>(
     alloc: A,
     board: &Board<'_, '_, A>,
 ) -> Result<Vec<Needed, A>, OutOfMemory>
-    requires { IsBoard (told_value board.now.told) board.now.outline.now board.now.on.now
+    requires { IsClaimsBoard (told_value board.now.told) board.now.outline.now board.now.on.now
         board.now.bridges.now }
     ensures { IfOk result
         (λ v. AreToldNeeded (told_value board.now.told) board.now.outline.now v.items) }
@@ -65,7 +65,7 @@ pub fn all_needed<A: Allocator + Copy>(
     alloc: A,
     board: &Board<'_, '_, A>,
 ) -> Result<Vec<Needed, A>, OutOfMemory>
-    requires { IsBoard (told_value board.now.told) board.now.outline.now board.now.on.now
+    requires { IsClaimsBoard (told_value board.now.told) board.now.outline.now board.now.on.now
         board.now.bridges.now }
     ensures { IfOk result
         (λ v. AreAllNeeded (told_value board.now.told) board.now.outline.now v.items) }

@@ -4,7 +4,7 @@ ghost use Rattle.std.specs.List.Sorted.{IsNonDecreasingBy, IsPermutation};
 ghost use Rattle.pci_spec.specs.JudgingLaws.{region_number};
 ghost use Rattle.pci_base.specs.Space.{space_of};
 ghost use Rattle.pci_function.specs.Fault.{fault_of};
-ghost use Rattle.pci_faults.specs.Order.{place_in, judging_place};
+ghost use Rattle.pci_faults.specs.Order.{space_address_key, judging_place};
 
 use pci_base::memory::OutOfMemory;
 use pci_base::slot::Slot;
@@ -22,7 +22,7 @@ fn region(slot: Slot, reg: u8) -> u128
 
 /// The place of a space and an address, below 2^65.
 fn address_in(space: Space, address: u64) -> u128
-    ensures place { result ≡ place_in (space_of space) address }
+    ensures place { result ≡ space_address_key (space_of space) address }
     ensures small { result < 2 ^ 65 }
 {
     let address = u128::from(address);

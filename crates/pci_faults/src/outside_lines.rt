@@ -1,8 +1,8 @@
 //! All regions outside the host's ranges: one fault for each BAR, ROM or told range with an address to which no access
 //! starts on the root above it.
 ghost use Rattle.std.specs.Prelude.{IfOk, MatchOption};
-ghost use Rattle.pci_claims.specs.Values.{given_value, told_value};
-ghost use Rattle.pci_claims.specs.AllClaims.{IsBoard};
+ghost use Rattle.pci_claims.specs.Values.{code_given_value, told_value};
+ghost use Rattle.pci_claims.specs.AllClaims.{IsClaimsBoard};
 ghost use Rattle.pci_faults.specs.Named.{AreAllOutside};
 ghost use Rattle.pci_faults.specs.OutsideLines.{IsNeverOutside, IsOutsideLine, AreOutsideLines};
 
@@ -24,8 +24,8 @@ fn least_outside_host<A: Allocator + Copy>(
     one: &Needed,
 ) -> Result<Option<u64>, OutOfMemory>
     ensures { IfOk result (λ o. MatchOption o
-        (IsNeverOutside (given_value given.now) outline.now one.now)
-        (λ a. IsOutsideLine (given_value given.now) outline.now one.now a)) }
+        (IsNeverOutside (code_given_value given.now) outline.now one.now)
+        (λ a. IsOutsideLine (code_given_value given.now) outline.now one.now a)) }
 {
     let slot = one.name.slot;
     match outline.path(slot) {
@@ -45,7 +45,7 @@ fn outside_among<A: Allocator + Copy>(
     list: &[Needed],
 ) -> Result<Vec<Outside, A>, OutOfMemory>
     ensures { IfOk result
-        (λ v. AreOutsideLines (given_value given.now) outline.now list.now v.items) }
+        (λ v. AreOutsideLines (code_given_value given.now) outline.now list.now v.items) }
 {
     let mut out = Vec::new(alloc);
     for one in list {
@@ -67,10 +67,10 @@ pub fn all_outside<A: Allocator + Copy>(
     alloc: A,
     board: &Board<'_, '_, A>,
 ) -> Result<Vec<Outside, A>, OutOfMemory>
-    requires { IsBoard (told_value board.now.told) board.now.outline.now board.now.on.now
+    requires { IsClaimsBoard (told_value board.now.told) board.now.outline.now board.now.on.now
         board.now.bridges.now }
     ensures { IfOk result (λ v. AreAllOutside (told_value board.now.told)
-        (given_value board.now.given) board.now.outline.now v.items) }
+        (code_given_value board.now.given) board.now.outline.now v.items) }
 {
     let given = &board.given;
     // all is sent to each root bus

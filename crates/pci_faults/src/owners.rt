@@ -31,13 +31,13 @@ pub struct Owners<A: Allocator = Global> {
 }
 
 impl<A: Allocator> Model for Owners<A> {
-    ghost use Rattle.pci_faults.specs.Owners.{OwnedRanges, RangesAreApart};
+    ghost use Rattle.pci_faults.specs.Owners.{OwnedRanges, OwnedRangesAreApart};
 
     ghost Value = { OwnedRanges };
 
     ghost view = { λ o. o.ranges.entries };
 
-    ghost invariant = { λ o. RangesAreApart o.ranges.entries };
+    ghost invariant = { λ o. OwnedRangesAreApart o.ranges.entries };
 }
 
 impl<A: Allocator + Copy> Owners<A> {

@@ -7,7 +7,7 @@ ghost use Rattle.pci_base.specs.Space.{space_of};
 ghost use Rattle.pci_tree.specs.Ranges.{IsCanonical};
 ghost use Rattle.pci_tree.specs.Roots.{buses_of};
 ghost use Rattle.judge_spec.specs.Told.{IsTold};
-ghost use Rattle.pci_claims.specs.Values.{given_value, told_value};
+ghost use Rattle.pci_claims.specs.Values.{code_given_value, told_value};
 ghost use Rattle.pci_faults.specs.Quiet.{IsOff, IsOffLegacy, HasThoseOn, HoldNothing, AreQuiet, IsQuietInEach, IsQuietWith};
 
 use super::spans::{add_root_spans, add_told_spans, are_spans_apart, spans_of};
@@ -169,7 +169,7 @@ fn are_apart_on<A: Allocator + Copy>(
     space: Space,
 ) -> Result<bool, OutOfMemory>
     ensures { IfOk result (λ quiet. IsTrue quiet
-        → IsQuietInEach (given_value board.now.given) board.now.outline.now (λ b. b ≡ bus)
+        → IsQuietInEach (code_given_value board.now.given) board.now.outline.now (λ b. b ≡ bus)
         (space_of space)) }
 {
     let legacy = bridges_on(alloc, board.given.legacy, bus)?;
@@ -191,7 +191,7 @@ fn are_told_apart_on<A: Allocator + Copy>(
 ) -> Result<bool, OutOfMemory>
     requires { IsTold board.now.told.ranges.now }
     ensures { IfOk result (λ quiet. IsTrue quiet
-        → IsQuietWith (told_value board.now.told) (given_value board.now.given)
+        → IsQuietWith (told_value board.now.told) (code_given_value board.now.given)
         board.now.outline.now (λ b. b ≡ bus) (space_of space)) }
 {
     let legacy = bridges_on(alloc, board.given.legacy, bus)?;
@@ -215,7 +215,7 @@ pub fn is_bus_quiet<A: Allocator + Copy>(
     // told ranges stand by slot, so those of a bus are found by halving
     requires { IsTold board.now.told.ranges.now }
     ensures { IfOk result (λ quiet. IsTrue quiet
-        → IsQuietWith (told_value board.now.told) (given_value board.now.given)
+        → IsQuietWith (told_value board.now.told) (code_given_value board.now.given)
         board.now.outline.now (λ b. b ≡ bus) (space_of space)) }
 {
     if ranges_of(board.told.ranges, bus).is_empty() {
@@ -248,7 +248,7 @@ fn are_told_roots_apart<A: Allocator + Copy>(
     requires told { IsTold board.now.told.ranges.now }
     requires roots { buses_of roots.now ≡ board.now.outline.now.roots }
     ensures { IfOk result (λ quiet. IsTrue quiet
-        → IsQuietWith (told_value board.now.told) (given_value board.now.given)
+        → IsQuietWith (told_value board.now.told) (code_given_value board.now.given)
         board.now.outline.now (Contains board.now.outline.now.roots) (space_of space)) }
 {
     let legacy = bridges_on_roots(alloc, board.given.legacy, roots)?;
@@ -271,7 +271,7 @@ fn are_untold_roots_apart<A: Allocator + Copy>(
 ) -> Result<bool, OutOfMemory>
     requires { buses_of roots.now ≡ board.now.outline.now.roots }
     ensures { IfOk result (λ quiet. IsTrue quiet
-        → IsQuietInEach (given_value board.now.given) board.now.outline.now
+        → IsQuietInEach (code_given_value board.now.given) board.now.outline.now
         (Contains board.now.outline.now.roots) (space_of space)) }
 {
     let palette = bridges_on_roots(alloc, board.given.palette, roots)?;
@@ -291,7 +291,7 @@ pub fn are_roots_quiet<A: Allocator + Copy>(
 ) -> Result<bool, OutOfMemory>
     requires { IsTold board.now.told.ranges.now }
     ensures { IfOk result (λ quiet. IsTrue quiet
-        → IsQuietWith (told_value board.now.told) (given_value board.now.given)
+        → IsQuietWith (told_value board.now.told) (code_given_value board.now.given)
         board.now.outline.now (Contains board.now.outline.now.roots) (space_of space)) }
 {
     let roots = board.outline.roots();

@@ -2,7 +2,7 @@
 ghost use Rattle.std.specs.Prelude.{◌≡◌, ◌<◌, ◌^◌, OnOk};
 ghost use Rattle.std.specs.List.Sorted.{IsNonDecreasingBy, IsPermutation};
 ghost use Rattle.pci_base.specs.Space.{space_of};
-ghost use Rattle.pci_faults.specs.Order.{place_in};
+ghost use Rattle.pci_faults.specs.Order.{space_address_key};
 ghost use Rattle.judge_spec.specs.ToldAllFaults.{region_number};
 ghost use Rattle.pci_faults.specs.RegionOrder.{number_on_bus, clash_place, split_place};
 
@@ -31,7 +31,7 @@ fn number_of(slot: Slot, register: u16) -> u128
 
 /// The place of a space and an address, below 2^65.
 fn address_in(space: Space, address: u64) -> u128
-    ensures place { result ≡ place_in (space_of space) address }
+    ensures place { result ≡ space_address_key (space_of space) address }
     ensures small { result < 2 ^ 65 }
 {
     let address = u128::from(address);

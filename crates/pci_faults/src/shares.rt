@@ -1,7 +1,7 @@
 //! Of regions by slot and register: the least address that each shares with one before it, and with which.
 ghost use Rattle.std.specs.Prelude.{◌≡◌, ◌<◌, ◌≤◌, ℕ, length, IfOk, IfSome, MatchOption};
 ghost use Rattle.pci_tree.specs.Ranges.{Covers, IsCanonical, IsLeastFrom};
-ghost use Rattle.pci_faults.specs.Shares.{group_at, GroupsRise, IsShared, IsLeastShared, AreShares, AreOwned, AreBefore, AreLesser, AreWithin};
+ghost use Rattle.pci_faults.specs.Shares.{group_at, GroupsRise, IsShared, IsLeastShared, AreShares, AreOwned, AreOfLesserGroups, AreLesser, AreWithin};
 ghost use Rattle.pci_faults.specs.declared.shares.Among.{Among as AmongValue};
 
 use super::owners::Owners;
@@ -81,7 +81,7 @@ fn add_lesser<A: Allocator + Copy>(
     ensures { IfOk result (λ n. (n ≤ i)
         × AreOwned n compared.now.regions.now compared.now.allowed.now owners.new
         × (GroupsRise compared.now.among compared.now.regions.now
-        → AreBefore added i compared.now.among compared.now.regions.now
+        → AreOfLesserGroups added i compared.now.among compared.now.regions.now
         → AreLesser n i compared.now.among compared.now.regions.now)) }
 {
     let regions = compared.regions;

@@ -5,7 +5,7 @@ ghost use Rattle.pci_spec.specs.System.{system_of};
 ghost use Rattle.pci_spec.specs.Fault as faults;
 ghost use Rattle.pci_function.specs.Fault.{fault_of};
 ghost use Rattle.pci_faults.specs.Lists.{AreJust};
-ghost use Rattle.pci_faults.specs.Slots.{IsFront, IsLoneSlot};
+ghost use Rattle.pci_faults.specs.Slots.{IsFirstSlotNumber, IsLoneSlot};
 ghost use Rattle.pci_faults.specs.OwnLines.{IsBeforeAt};
 
 use pci_base::memory::OutOfMemory;
@@ -18,7 +18,7 @@ const ABOVE_ALL: u32 = 0x1_0000;
 
 /// The number of a block's slot; behind the last block, one above those of all slots.
 fn number_at(blocks: &[Block], k: usize) -> u32
-    ensures front { IsFront (drop k (slots_of blocks.now)) result }
+    ensures front { IsFirstSlotNumber (drop k (slots_of blocks.now)) result }
     ensures inside { (result < 0x10000) ↔ (k < length blocks.now) }
     ensures most { result ≤ 0x10000 }
 {

@@ -5,7 +5,7 @@ ghost use Rattle.std.specs.List.Sorted.{IsPermutation};
 ghost use Rattle.pci_base.specs.Space.{space_of};
 ghost use Rattle.pci_tree.specs.Roots.{buses_of};
 ghost use Rattle.judge_spec.specs.Told.{IsTold};
-ghost use Rattle.pci_faults.specs.Spans.{span_of, AreSpansAdded, AreSpansApart};
+ghost use Rattle.pci_faults.specs.Spans.{region_span, AreSpansAdded, AreSpansApart};
 
 use pci_base::memory::OutOfMemory;
 use pci_base::slot::{BUSES, Slot};
@@ -28,7 +28,7 @@ pub struct Span {
 
 /// Those of regions that registers show.
 pub fn spans_of<A: Allocator>(alloc: A, regions: &[Region]) -> Result<Vec<Span, A>, OutOfMemory>
-    ensures { IfOk result (λ v. v.items ≡ map span_of regions.now) }
+    ensures { IfOk result (λ v. v.items ≡ map region_span regions.now) }
 {
     let mut out = Vec::new(alloc);
     for region in regions {

@@ -2,8 +2,8 @@
 ghost use Rattle.std.specs.Prelude.{◌≡◌, ◌<◌, ◌++◌, length, map, IfOk, OnOk};
 ghost use Rattle.pci_base.specs.Space.{space_of};
 ghost use Rattle.pci_faults.specs.Shares.{AreWithin};
-ghost use Rattle.pci_claims.specs.Values.{given_value, told_value};
-ghost use Rattle.pci_claims.specs.AllClaims.{IsBoard};
+ghost use Rattle.pci_claims.specs.Values.{code_given_value, told_value};
+ghost use Rattle.pci_claims.specs.AllClaims.{IsClaimsBoard};
 ghost use Rattle.pci_faults.specs.Splits.{claims_split, AreSplitsAdded, IsSplitIn};
 ghost use Rattle.pci_faults.specs.Named.{AreAllSplits};
 
@@ -59,10 +59,10 @@ fn add_splits_in<A: Allocator + Copy>(
     board: &Board<'_, '_, A>,
     space: Space,
 ) -> Result<(), OutOfMemory>
-    requires { IsBoard (told_value board.now.told) board.now.outline.now board.now.on.now
+    requires { IsClaimsBoard (told_value board.now.told) board.now.outline.now board.now.on.now
         board.now.bridges.now }
     ensures { OnOk result (AreSplitsAdded (IsSplitIn (space_of space)) (told_value board.now.told)
-        (given_value board.now.given) board.now.outline.now out.old.items out.new.items) }
+        (code_given_value board.now.given) board.now.outline.now out.old.items out.new.items) }
 {
     if are_roots_quiet(alloc, board, space)? {
         return Ok(());
@@ -78,10 +78,10 @@ fn add_splits<A: Allocator + Copy>(
     out: &mut Vec<Split, A>,
     board: &Board<'_, '_, A>,
 ) -> Result<(), OutOfMemory>
-    requires { IsBoard (told_value board.now.told) board.now.outline.now board.now.on.now
+    requires { IsClaimsBoard (told_value board.now.told) board.now.outline.now board.now.on.now
         board.now.bridges.now }
     ensures { OnOk result (AreSplitsAdded (λ sp. Unit {0}) (told_value board.now.told)
-        (given_value board.now.given) board.now.outline.now out.old.items out.new.items) }
+        (code_given_value board.now.given) board.now.outline.now out.old.items out.new.items) }
 {
     add_splits_in(alloc, out, board, Space::Io)?;
     add_splits_in(alloc, out, board, Space::Mem)
@@ -95,9 +95,9 @@ pub fn all_splits<A: Allocator + Copy>(
     alloc: A,
     board: &Board<'_, '_, A>,
 ) -> Result<Vec<Split, A>, OutOfMemory>
-    requires { IsBoard (told_value board.now.told) board.now.outline.now board.now.on.now
+    requires { IsClaimsBoard (told_value board.now.told) board.now.outline.now board.now.on.now
         board.now.bridges.now }
-    ensures { IfOk result (λ v. AreAllSplits (told_value board.now.told) (given_value board.now.given)
+    ensures { IfOk result (λ v. AreAllSplits (told_value board.now.told) (code_given_value board.now.given)
         board.now.outline.now v.items) }
 {
     let mut splits = Vec::new(alloc);

@@ -4,7 +4,7 @@ ghost use Rattle.pci_spec.specs.System.{System};
 ghost use Rattle.pci_tree.specs.Trees.{HasTree};
 ghost use Rattle.judge_spec.specs.Told.{IsTold};
 ghost use Rattle.judge_spec.specs.Unclaimed.{AreTaking};
-ghost use Rattle.pci_claims.specs.Values.{given_value, told_value};
+ghost use Rattle.pci_claims.specs.Values.{code_given_value, told_value};
 
 use super::said::Said;
 use pci_base::memory::OutOfMemory;
@@ -24,7 +24,7 @@ pub fn taken<A: Allocator + Copy>(
     // they are read of a text
     requires { IsTold said.now.told.ranges.now }
     ensures { IfOk result (λ v. (s : System) → HasTree outline.now s
-        → AreTaking (told_value said.now.told) (given_value said.now.given) s said.now.taking.now
+        → AreTaking (told_value said.now.told) (code_given_value said.now.given) s said.now.taking.now
         v.items) }
 {
     // so it is where no word asks for them

@@ -4,7 +4,7 @@ ghost use Rattle.pci_tree.specs.Outline.{Tree};
 ghost use Rattle.judge_spec.specs.Told.{IsTold};
 ghost use Rattle.judge_spec.specs.ToldClaims.{is_marked_held};
 ghost use Rattle.pci_claims.specs.Values.{told_value};
-ghost use Rattle.pci_faults.specs.Needed.{AreAdded, IsNeededRange, IsOfRange};
+ghost use Rattle.pci_faults.specs.Needed.{AreNeededAppended, IsNeededRange, IsOfRange};
 ghost use Rattle.pci_claims.specs.ToldOn.{AreOnIn};
 
 use super::named::Name;
@@ -53,7 +53,7 @@ pub fn add_told<A: Allocator>(
     requires told { IsTold told.now.ranges.now }
     requires on { length on.now ≡ length told.now.ranges.now }
     ensures { OnOk result ((t : Tree) → AreOnIn (told_value told.now) t on.now
-        → AreAdded (IsOfRange (told_value told.now)) t out.old.items out.new.items) }
+        → AreNeededAppended (IsOfRange (told_value told.now)) t out.old.items out.new.items) }
 {
     for (index, range) in told.ranges.iter().enumerate() {
         if is_needed(range, on[index]) {

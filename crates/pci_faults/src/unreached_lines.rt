@@ -4,8 +4,8 @@ ghost use Rattle.std.specs.Prelude.{IfOk, IsTrue};
 ghost use Rattle.pci_spec.specs.System.{Io};
 ghost use Rattle.pci_check.specs.Judgement.{AreHome};
 ghost use Rattle.pci_check.specs.Stops.{AreReachesOf, AlwaysNested};
-ghost use Rattle.pci_claims.specs.Values.{given_value, told_value};
-ghost use Rattle.pci_claims.specs.AllClaims.{IsBoard};
+ghost use Rattle.pci_claims.specs.Values.{code_given_value, told_value};
+ghost use Rattle.pci_claims.specs.AllClaims.{IsClaimsBoard};
 ghost use Rattle.pci_faults.specs.Named.{AreAllUnreached};
 ghost use Rattle.pci_faults.specs.Stopped.{NeverCut};
 ghost use Rattle.pci_faults.specs.UnreachedLines.{AreUnreachedLines};
@@ -34,7 +34,7 @@ fn unreached_among<A: Allocator + Copy>(
     requires reached { AreReachesOf outline.now reached.now }
     requires nested { AlwaysNested outline.now }
     ensures { IfOk result
-        (λ v. AreUnreachedLines (given_value given.now) outline.now list.now v.items) }
+        (λ v. AreUnreachedLines (code_given_value given.now) outline.now list.now v.items) }
 {
     let mut out = Vec::new(alloc);
     for one in list {
@@ -78,7 +78,7 @@ fn are_all_home<A: Allocator + Copy>(
     requires reached { AreReachesOf outline.now reached.now }
     requires nested { AlwaysNested outline.now }
     ensures { IfOk result (λ home. IsTrue home
-        → AreHome outline.now × NeverCut (given_value given.now) Io) }
+        → AreHome outline.now × NeverCut (code_given_value given.now) Io) }
 {
     if are_any_cut(given, Space::Io) {
         Ok(false)
@@ -95,10 +95,10 @@ pub fn all_unreached<A: Allocator + Copy>(
     alloc: A,
     board: &Board<'_, '_, A>,
 ) -> Result<Vec<Unreached, A>, OutOfMemory>
-    requires { IsBoard (told_value board.now.told) board.now.outline.now board.now.on.now
+    requires { IsClaimsBoard (told_value board.now.told) board.now.outline.now board.now.on.now
         board.now.bridges.now }
     ensures { IfOk result (λ v. AreAllUnreached (told_value board.now.told)
-        (given_value board.now.given) board.now.outline.now v.items) }
+        (code_given_value board.now.given) board.now.outline.now v.items) }
 {
     let given = &board.given;
     let reached = Reached::of(board.outline)?;

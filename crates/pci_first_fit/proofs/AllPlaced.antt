@@ -7,7 +7,7 @@ use Rattle.pci_spec.specs.Decoded.{Range as DecodedRange}
 use Rattle.pci_spec.proofs.Members.{in_head, in_tail, in_cons_cases}
 use Rattle.plan_spec.specs.Place.{range_from}
 use Rattle.settle_spec.specs.FirstPlace.{Extent as ExtentValue, else_at}
-use Rattle.settle_spec.specs.Items.{Item, Placed, Placing, AllPlaced, Lacks, and_placed, place_next, taken_by, place_each}
+use Rattle.settle_spec.specs.Items.{PlacingItem, Placed, Placing, AllPlaced, Lacks, and_placed, place_next, taken_by, place_each}
 use Rattle.settle_spec.proofs.SameTaken.{HaveSame, same_cons, same_first_place}
 use Rattle.pci_base.specs.declared.range.Range.{Range}
 use Rattle.pci_base.specs.Ranges.{decoded_range_of}
@@ -25,7 +25,7 @@ pub all_append : (ps : List Placed) (p : Placed) (r : Placing) → and_all (ps +
 all_append [] p r = refl
 all_append (q ∷ ps) p r = ap (and_placed q.item q.at) (all_append ps p r)
 
-pub all_lack : (ps : List Placed) (j : Item) → and_all ps (Lacks j) ≡ Lacks j
+pub all_lack : (ps : List Placed) (j : PlacingItem) → and_all ps (Lacks j) ≡ Lacks j
 all_lack [] j = refl
 all_lack (q ∷ ps) j = ap (and_placed q.item q.at) (all_lack ps j)
 
@@ -33,7 +33,7 @@ pub all_placed : (ps : List Placed) → and_all ps (AllPlaced []) ≡ AllPlaced 
 all_placed [] = refl
 all_placed (q ∷ ps) = ap (and_placed q.item q.at) (all_placed ps)
 
-pub at_append : (items : List Item) (places : List ℕ) (i : Item) (a : ℕ) → length items ≡ length places
+pub at_append : (items : List PlacingItem) (places : List ℕ) (i : PlacingItem) (a : ℕ) → length items ≡ length places
     → at_places (items ++ i ∷ []) (places ++ a ∷ []) ≡ at_places items places ++ record { item = i; at = a } ∷ []
 at_append [] [] i a same = refl
 at_append [] (b ∷ places) i a same = absurd (let no : ⊥ = omega (arith, same) in no)
@@ -66,14 +66,14 @@ put_same (x ∷ taken) (suc index) r within =
 
 -- ---- places that are found the same in any order of what is taken
 
-abbrev pub FindsTheSame : (Item → List DecodedRange → Option ℕ) → Item → Type 0
+abbrev pub FindsTheSame : (PlacingItem → List DecodedRange → Option ℕ) → PlacingItem → Type 0
 FindsTheSame find i = (xs ys : List DecodedRange) → HaveSame xs ys → find i xs ≡ find i ys
 
-next_same : (i : Item) (o : Option ℕ) (f g : ℕ → Placing) → ((a : ℕ) → f a ≡ g a) → place_next i o f ≡ place_next i o g
+next_same : (i : PlacingItem) (o : Option ℕ) (f g : ℕ → Placing) → ((a : ℕ) → f a ≡ g a) → place_next i o f ≡ place_next i o g
 next_same i None f g same = refl
 next_same i (Some a) f g same = ap (and_placed i a) (same a)
 
-pub each_same_taken : (find : Item → List DecodedRange → Option ℕ) (items : List Item) (xs ys : List DecodedRange) → ((i : Item) → Contains items i → FindsTheSame find i) → HaveSame xs ys
+pub each_same_taken : (find : PlacingItem → List DecodedRange → Option ℕ) (items : List PlacingItem) (xs ys : List DecodedRange) → ((i : PlacingItem) → Contains items i → FindsTheSame find i) → HaveSame xs ys
     → place_each find xs items ≡ place_each find ys items
 each_same_taken find [] xs ys finds same = refl
 each_same_taken find (i ∷ items) xs ys finds same =
@@ -87,8 +87,8 @@ same_behind [] xs ys same = same
 same_behind (t ∷ off) xs ys same = same_cons t (off ++ xs) (off ++ ys) (same_behind off xs ys same)
 
 -- what is wanted is found so
-pub wanted_same : (lists behind : List (List Range)) (find : Item → List DecodedRange → Option ℕ) (items : List Item) (wanted : List Wanted) (n : ℕ) → AreWanted lists behind find items wanted → All (HasListAt n) wanted → Wanted
-    → (i : Item) → Contains items i → FindsTheSame find i
+pub wanted_same : (lists behind : List (List Range)) (find : PlacingItem → List DecodedRange → Option ℕ) (items : List PlacingItem) (wanted : List Wanted) (n : ℕ) → AreWanted lists behind find items wanted → All (HasListAt n) wanted → Wanted
+    → (i : PlacingItem) → Contains items i → FindsTheSame find i
 wanted_same lists behind find items wanted n are lawful w i (k, less, here) xs ys same =
     let long = are.count in
     let within : k < length wanted = omega (arith, less, long) in
@@ -103,7 +103,7 @@ wanted_same lists behind find items wanted n are lawful w i (k, less, here) xs y
 
 -- ---- the walk over the items
 
-pub drop_all : (n : ℕ) (items : List Item) → length items ≤ n → drop n items ≡ []
+pub drop_all : (n : ℕ) (items : List PlacingItem) → length items ≤ n → drop n items ≡ []
 drop_all zero [] past = refl
 drop_all zero (i ∷ items) past = absurd (let no : ⊥ = omega (arith, past) in no)
 drop_all (suc n) [] past = refl
@@ -112,14 +112,14 @@ drop_all (suc n) (i ∷ items) past = drop_all n items (omega (arith, past))
 pub record IsSoFar (lists behind : List (List Range)) (start : List DecodedRange) (wanted : List Wanted) (taken : List Range) (places : List ℕ) (n : ℕ) : Type 0 where
   pub listed : AreRisingRanges taken
   pub count : length places ≡ length wanted
-  pub so_far : (find : Item → List DecodedRange → Option ℕ) (items : List Item) → AreWanted lists behind find items wanted
+  pub so_far : (find : PlacingItem → List DecodedRange → Option ℕ) (items : List PlacingItem) → AreWanted lists behind find items wanted
       → place_each find start items ≡ and_all (at_places (take n items) (take n places)) (place_each find (map decoded_range_of taken) (drop n items))
 
 pub so_far_none : (lists behind : List (List Range)) (wanted : List Wanted) (taken : List Range) (places : List ℕ) → AreRisingRanges taken → length places ≡ length wanted
     → IsSoFar lists behind (map decoded_range_of taken) wanted taken places 0
 so_far_none lists behind wanted taken places listed count = record { listed = listed; count = count; so_far = λ find items are. refl }
 
-in_drop : (n : ℕ) (items : List Item) (i : Item) → Contains (drop n items) i → Contains items i
+in_drop : (n : ℕ) (items : List PlacingItem) (i : PlacingItem) → Contains (drop n items) i → Contains items i
 in_drop zero items i listed = listed
 in_drop (suc n) [] i listed = listed
 in_drop (suc n) (j ∷ items) i listed = in_tail j items i (in_drop n items i listed)
@@ -132,11 +132,11 @@ take_table places n a within =
     ∙ ap (λ x. take n places ++ x ∷ []) (get_or-set_at places n n a 0 refl within)
 
 module _ (lists behind : List (List Range)) (start : List DecodedRange) (wanted : List Wanted) (taken : List Range) (places : List ℕ) (n : ℕ) (is : IsSoFar lists behind start wanted taken places n)
-    (within : n < length wanted) (e : Wanted) (find : Item → List DecodedRange → Option ℕ) (items : List Item) (x : Item) (are : AreWanted lists behind find items wanted) where
+    (within : n < length wanted) (e : Wanted) (find : PlacingItem → List DecodedRange → Option ℕ) (items : List PlacingItem) (x : PlacingItem) (are : AreWanted lists behind find items wanted) where
   inside : n < length items
   inside = let same = are.count in omega (arith, same, within)
 
-  abbrev next : Item
+  abbrev next : PlacingItem
   next = get_or items n x
 
   abbrev now : List DecodedRange
@@ -192,7 +192,7 @@ so_far_next lists behind start wanted taken places n count is lawful within e a 
   so_far = λ find items are. by_items find items are;
 }
   where
-    by_items : (find : Item → List DecodedRange → Option ℕ) (items : List Item) → AreWanted lists behind find items wanted
+    by_items : (find : PlacingItem → List DecodedRange → Option ℕ) (items : List PlacingItem) → AreWanted lists behind find items wanted
         → place_each find start items ≡ and_all (at_places (take (n + 1) items) (take (n + 1) (set places n a))) (place_each find (map decoded_range_of new) (drop (n + 1) items))
     by_items find [] are = absurd (let long = are.count in let no : ⊥ = omega (arith, long, within) in no)
     by_items find (x ∷ items) are = places_next lists behind start wanted taken places n is within e find (x ∷ items) x are count lawful a found new put
@@ -200,13 +200,13 @@ so_far_next lists behind start wanted taken places n count is lawful within e a 
 pub so_far_lacks : (lists behind : List (List Range)) (start : List DecodedRange) (wanted : List Wanted) (taken : List Range) (places : List ℕ) (n : ℕ)
     → IsSoFar lists behind start wanted taken places n → n < length wanted → (e : Wanted)
     → None ≡ wanted_place lists (map decoded_range_of (get_or behind n []) ++ map decoded_range_of taken) (get_or wanted n e)
-    → (find : Item → List DecodedRange → Option ℕ) (items : List Item) → AreWanted lists behind find items wanted → place_each find start items ≡ placing_of items places (Some n)
+    → (find : PlacingItem → List DecodedRange → Option ℕ) (items : List PlacingItem) → AreWanted lists behind find items wanted → place_each find start items ≡ placing_of items places (Some n)
 so_far_lacks lists behind start wanted taken places n is within e none find [] are = absurd (let long = are.count in let no : ⊥ = omega (arith, long, within) in no)
 so_far_lacks lists behind start wanted taken places n is within e none find (x ∷ items) are = lacks_next lists behind start wanted taken places n is within e find (x ∷ items) x are none
 
 pub so_far_all : (lists behind : List (List Range)) (start : List DecodedRange) (wanted : List Wanted) (taken : List Range) (places : List ℕ) (n : ℕ)
     → IsSoFar lists behind start wanted taken places n → length wanted ≤ n
-    → (find : Item → List DecodedRange → Option ℕ) (items : List Item) → AreWanted lists behind find items wanted → place_each find start items ≡ placing_of items places None
+    → (find : PlacingItem → List DecodedRange → Option ℕ) (items : List PlacingItem) → AreWanted lists behind find items wanted → place_each find start items ≡ placing_of items places None
 so_far_all lists behind start wanted taken places n is past find items are =
     let long = are.count in
     let count = is.count in

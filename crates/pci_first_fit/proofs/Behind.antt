@@ -18,7 +18,7 @@ use Rattle.pci_base.specs.Ranges.{decoded_range_of}
 use Rattle.pci_first_fit.specs.declared.extent.Extent.{Extent}
 use Rattle.pci_first_fit.specs.declared.placing.Wanted.{Wanted}
 use Rattle.pci_first_fit.specs.Spots.{extent_value, IsExtent, is_near}
-use Rattle.pci_first_fit.specs.Placings.{HasListAt, place_by_list, wanted_place, IsReady}
+use Rattle.pci_first_fit.specs.Placings.{HasListAt, place_by_list, wanted_place, IsWantedReady}
 use Rattle.pci_first_fit.proofs.NearRanges.{AreNear, near_place}
 
 -- ranges in another order are the same
@@ -97,7 +97,7 @@ module _ (count : ℕ) (lists : List (List Range)) (behind taken ranges near : L
       ap (λ rs. first_place (map decoded_range_of rs) (map decoded_range_of behind ++ map decoded_range_of taken) (extent_value w.extent)) (sym ranges_is)
       ∙ place_near ranges behind taken near near_is w.extent has.extent
 
-  pub far_ready : near ≡ [] → IsReady count lists (map decoded_range_of behind) (map decoded_range_of taken) w (Some w)
+  pub far_ready : near ≡ [] → IsWantedReady count lists (map decoded_range_of behind) (map decoded_range_of taken) w (Some w)
   far_ready none = (
     has,
     record {
@@ -113,7 +113,7 @@ module _ (count : ℕ) (lists : List (List Range)) (behind taken ranges near : L
     near_place_is = ap (λ a. else_at a (place_by_list lists (map decoded_range_of behind ++ map decoded_range_of taken) w)) untold ∙ by_near ∙ sym is
 
     pub near_ready : (a : ℕ) → o ≡ Some a → (range_from a w.extent.size).last < 2 ^ 64
-        → IsReady count lists (map decoded_range_of behind) (map decoded_range_of taken) w (Some (record { extent = w.extent; list = w.list; at = Some a }))
+        → IsWantedReady count lists (map decoded_range_of behind) (map decoded_range_of taken) w (Some (record { extent = w.extent; list = w.list; at = Some a }))
     near_ready a some ends = (
       record { extent = has.extent; list = has.list; ends = ends },
       record { extent = refl; place = sym (near_place_is ∙ some) },
@@ -121,16 +121,16 @@ module _ (count : ℕ) (lists : List (List Range)) (behind taken ranges near : L
 
 -- what is wanted then, in the words of the lists
 module _ (count : ℕ) (lists behind : List (List Range)) (taken off slice : List Range) (w : Wanted) (n : ℕ) (off_is : off ≡ get_or behind n []) (lent : slice ≡ taken) where
-  pub ready_is : (o : Option Wanted) → IsReady count lists (map decoded_range_of off) (map decoded_range_of slice) w o
-      → IsReady count lists (map decoded_range_of (get_or behind n [])) (map decoded_range_of taken) w o
+  pub ready_is : (o : Option Wanted) → IsWantedReady count lists (map decoded_range_of off) (map decoded_range_of slice) w o
+      → IsWantedReady count lists (map decoded_range_of (get_or behind n [])) (map decoded_range_of taken) w o
   ready_is o is =
-      subst (λ xs. IsReady count lists (map decoded_range_of (get_or behind n [])) (map decoded_range_of xs) w o) lent
-      (subst (λ xs. IsReady count lists (map decoded_range_of xs) (map decoded_range_of slice) w o) off_is is)
+      subst (λ xs. IsWantedReady count lists (map decoded_range_of (get_or behind n [])) (map decoded_range_of xs) w o) lent
+      (subst (λ xs. IsWantedReady count lists (map decoded_range_of xs) (map decoded_range_of slice) w o) off_is is)
 
-  pub ready_none : (o : Option Wanted) → o ≡ None → IsReady count lists (map decoded_range_of off) (map decoded_range_of slice) w o
+  pub ready_none : (o : Option Wanted) → o ≡ None → IsWantedReady count lists (map decoded_range_of off) (map decoded_range_of slice) w o
       → None ≡ wanted_place lists (map decoded_range_of (get_or behind n []) ++ map decoded_range_of taken) w
-  ready_none o none is = sym (subst (IsReady count lists (map decoded_range_of (get_or behind n [])) (map decoded_range_of taken) w) none (ready_is o is))
+  ready_none o none is = sym (subst (IsWantedReady count lists (map decoded_range_of (get_or behind n [])) (map decoded_range_of taken) w) none (ready_is o is))
 
-  pub ready_some : (o : Option Wanted) (ready : Wanted) → o ≡ Some ready → IsReady count lists (map decoded_range_of off) (map decoded_range_of slice) w o
-      → IsReady count lists (map decoded_range_of (get_or behind n [])) (map decoded_range_of taken) w (Some ready)
-  ready_some o ready some is = subst (IsReady count lists (map decoded_range_of (get_or behind n [])) (map decoded_range_of taken) w) some (ready_is o is)
+  pub ready_some : (o : Option Wanted) (ready : Wanted) → o ≡ Some ready → IsWantedReady count lists (map decoded_range_of off) (map decoded_range_of slice) w o
+      → IsWantedReady count lists (map decoded_range_of (get_or behind n [])) (map decoded_range_of taken) w (Some ready)
+  ready_some o ready some is = subst (IsWantedReady count lists (map decoded_range_of (get_or behind n [])) (map decoded_range_of taken) w) some (ready_is o is)

@@ -17,7 +17,7 @@ use Rattle.pci_first_fit.specs.declared.spot.Spot.{Spot}
 use Rattle.pci_first_fit.specs.declared.spot.Start.{Start}
 use Rattle.pci_first_fit.specs.declared.placing.Wanted.{Wanted}
 use Rattle.pci_first_fit.specs.declared.placing.Cursor.{Cursor}
-use Rattle.pci_first_fit.specs.Spots.{extent_value, IsExtent, AreRisingRanges, extent_range, IsPutIn, IsTakenBy, IsTakenAt, IsReached, IsStart}
+use Rattle.pci_first_fit.specs.Spots.{extent_value, IsExtent, AreRisingRanges, extent_range, IsPutIn, IsTakenBy, IsTakenAt, IsSpotReached, IsStart}
 use Rattle.pci_first_fit.specs.Placings.{HasListAt, wanted_place, AreEnding, IsCursor, AreCursors}
 use Rattle.pci_first_fit.proofs.Inserted.{Under, At, Over, find_where}
 use Rattle.pci_first_fit.proofs.AllPlaced.{put_same, IsSoFar, so_far_none, so_far_next}
@@ -41,7 +41,7 @@ module _ (old new : List Range) (d : Extent) (at : Spot) (listed : AreRisingRang
     | Over j over low is ↦ subst (λ (x : Range). x.last < s.at) (sym (is c)) (below j c (omega (arith, over, less)))
   ]
 
-  reached_stays : (low : ℕ) (e : Extent) (s : Spot) → IsReached old low e s → IsReached new low e s
+  reached_stays : (low : ℕ) (e : Extent) (s : Spot) → IsSpotReached old low e s → IsSpotReached new low e s
   reached_stays low e s is = record {
     least = λ b spot. is.least b (less_spot low (map decoded_range_of old) (map decoded_range_of new) (extent_value e) (extent_value e) b takes_more (same_extent (extent_value e)) spot);
     within =

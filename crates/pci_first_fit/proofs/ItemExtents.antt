@@ -6,7 +6,7 @@ use Rattle.std.proofs.lemmas.List.{take_more, get_or-map, length-map}
 use Rattle.std.proofs.lemmas.List.Sorted.{All-permutation, length_permutation}
 use Rattle.settle_spec.specs.FirstPlace.{Extent as ExtentValue}
 use Rattle.settle_spec.specs.Spares.{with_spare}
-use Rattle.settle_spec.specs.Items.{Item as ItemValue, in_turn, extent_around}
+use Rattle.settle_spec.specs.Items.{PlacingItem as ItemValue, in_turn, extent_around}
 use Rattle.pci_first_fit.specs.declared.extent.Extent.{Extent}
 use Rattle.pci_first_fit.specs.declared.item.Item.{Item}
 use Rattle.pci_first_fit.specs.declared.item.Part.TheVariants.{Bar}

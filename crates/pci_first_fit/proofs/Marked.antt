@@ -16,7 +16,7 @@ use Rattle.settle_spec.specs.FirstPlace.{Extent as ExtentValue, first_spot, firs
 use Rattle.settle_spec.specs.Lists.{Request}
 use Rattle.settle_spec.specs.Parts.{FunctionPart, function_parts}
 use Rattle.settle_spec.specs.Stands.{window_part}
-use Rattle.settle_spec.specs.Items.{Item as ItemValue, Placing, AllPlaced, Lacks, and_placed, place_next, place_all, are_placed, taken_by, in_turn, own_item, is_own, has_of, items_of, bus_items, laid_out, end_of, extent_around}
+use Rattle.settle_spec.specs.Items.{PlacingItem as ItemValue, Placing, AllPlaced, Lacks, and_placed, place_next, place_all, are_placed, taken_by, in_turn, own_item, is_own, has_of, items_of, bus_items, laid_out, end_of, extent_around}
 use Rattle.settle_spec.proofs.InTurn.{turn_same}
 use Rattle.settle_spec.proofs.LaidOut.{laid_keeps, end_behind}
 use Rattle.pci_first_fit.specs.declared.extent.Extent.{Extent}

@@ -20,7 +20,7 @@ use Rattle.settle_spec.specs.FirstPlace.{Extent as ExtentValue}
 use Rattle.settle_spec.specs.Lists.{Request}
 use Rattle.settle_spec.specs.Parts.{bridge_over}
 use Rattle.settle_spec.specs.Spares.{spare_below, with_spare}
-use Rattle.settle_spec.specs.Items.{Item as ItemValue, has_of, bus_items, nothing, highest_in, extent_around, window_around, new_window, new_window_over, window_to}
+use Rattle.settle_spec.specs.Items.{PlacingItem as ItemValue, has_of, bus_items, nothing, highest_in, extent_around, window_around, new_window, new_window_over, window_to}
 use Rattle.settle_spec.proofs.Nested.{on_it, one_bridge}
 use Rattle.settle_spec.proofs.NewWindows.{window_is_around}
 use Rattle.settle_spec.proofs.ItemsBehind.{items_are_behind}
@@ -31,7 +31,7 @@ use Rattle.pci_function.specs.Values.{record_value}
 use Rattle.pci_tree.proofs.Lifting.{same_bridge, same_slot_of}
 use Rattle.pci_tree.proofs.RegionParts.{same_bridge_of}
 use Rattle.pci_place.specs.Items.{function_in, no_function}
-use Rattle.pci_place.specs.Records.{IsRecordOf}
+use Rattle.pci_place.specs.Records.{IsRecordInSystem}
 use Rattle.pci_place.proofs.Records.{FunctionAt, same_count, function_at}
 use Rattle.pci_first_fit.specs.declared.extent.Extent.{Extent}
 use Rattle.pci_first_fit.specs.Spots.{extent_value, IsExtent}
@@ -39,7 +39,7 @@ use Rattle.pci_first_fit.specs.Placings.{item_extent}
 use Rattle.pci_first_fit.specs.Slots.{wanted_at, spare_by}
 use Rattle.pci_first_fit.specs.Own.{IsWindowOf}
 use Rattle.pci_first_fit.specs.Buses.{AreWindows, AreBehind, Classing, TellsClasses}
-use Rattle.pci_first_fit.specs.NewWindows.{highest_by, around_bus, nowhere, IsEntry, IsNewWindowPut, new_window_in, IsTooLarge, IsLastTooLarge, first_large, AreNewWindows, IsMarkedOf, AreMarkedWindows, told_extent}
+use Rattle.pci_first_fit.specs.NewWindows.{highest_by, around_bus, nowhere, IsEntry, IsNewWindowPut, new_window_in, IsTooLarge, IsLastTooLarge, first_large, AreNewWindows, IsMarkedOf, AreMarkedWindows, new_window_extent}
 use Rattle.pci_first_fit.proofs.Highest.{highest_is}
 use Rattle.pci_first_fit.proofs.Spares.{spare_is, before_spare}
 use Rattle.pci_first_fit.proofs.Marked.{told_is, marked_is, IsSameOrOver, told_fits, AreSameOrLarge, same_or_large, around_large, around_mark, some_page}
@@ -131,7 +131,7 @@ module _ (p : Classing) (system : IsSystem p.system) (nested : IsNested p.roots 
 
   -- ---- the next function
 
-  module _ (k : ℕ) (f : Function) (r : Record) (at : slice_get p.system k ≡ Some f) (is : IsRecordOf p.system f r) (old : List (Option Extent)) where
+  module _ (k : ℕ) (f : Function) (r : Record) (at : slice_get p.system k ≡ Some f) (is : IsRecordInSystem p.system f r) (old : List (Option Extent)) where
     -- what isn't it comes later
     later_of : (j : ℕ) (g : Function) → k ≤ j → slice_get p.system j ≡ Some g → (g ≡ f → ⊥) → k + 1 ≤ j
     later_of j g up at_j other = elim (cases_eq j k) [
@@ -177,7 +177,7 @@ module _ (p : Classing) (system : IsSystem p.system) (nested : IsNested p.roots 
       are_behind was q left g listed beside bridge = entries_behind IsWindowOf was q left g listed beside bridge
 
       -- or the extents that it tells
-      told_behind : AreMarkedFrom p c (k + 1) old → (q : Request) → TellsClasses p q → AreBehind q p.system c (told_extent old) b.secondary old
+      told_behind : AreMarkedFrom p c (k + 1) old → (q : Request) → TellsClasses p q → AreBehind q p.system c (new_window_extent old) b.secondary old
       told_behind was q left g listed beside bridge =
           told_is (has_of q p.system c g) (new_window q p.system c g) (get_or old (secondary g) None) (entries_behind IsMarkedOf was q left g listed beside bridge)
 
@@ -272,28 +272,28 @@ module _ (p : Classing) (system : IsSystem p.system) (nested : IsNested p.roots 
       -- ---- a window, or its mark
 
       fits : AreMarkedFrom p c (k + 1) old → (q : Request) → TellsClasses p q → (g : Function) → Contains p.system g → are_siblings q.roots b.secondary g.slot.bus ≡ true → is_bridge g ≡ true → has_of q p.system c g ≡ true
-          → IsSameOrOver (told_extent old g) (new_window q p.system c g)
+          → IsSameOrOver (new_window_extent old g) (new_window q p.system c g)
       fits was q left g listed beside bridge has =
           told_fits (has_of q p.system c g) (new_window q p.system c g) (get_or old (secondary g) None) (entries_behind IsMarkedOf was q left g listed beside bridge) has
 
       same_behind : AreMarkedFrom p c (k + 1) old → (q : Request) → TellsClasses p q
-          → AreSameOrLarge q p.system c nothing (told_extent old) (new_window q p.system c) b.secondary (behind q (told_extent old)) (behind q (new_window q p.system c))
-      same_behind was q left = same_or_large q p.system c nothing (told_extent old) (new_window q p.system c) b.secondary (fits was q left)
+          → AreSameOrLarge q p.system c nothing (new_window_extent old) (new_window q p.system c) b.secondary (behind q (new_window_extent old)) (behind q (new_window q p.system c))
+      same_behind was q left = same_or_large q p.system c nothing (new_window_extent old) (new_window q p.system c) b.secondary (fits was q left)
 
-      around_told : (q : Request) → behind q (told_extent old) ≡ behind q (new_window q p.system c) → around_bus q p.system c (told_extent old) b w ≡ around_bus q p.system c (new_window q p.system c) b w
+      around_told : (q : Request) → behind q (new_window_extent old) ≡ behind q (new_window q p.system c) → around_bus q p.system c (new_window_extent old) b w ≡ around_bus q p.system c (new_window q p.system c) b w
       around_told q same = ap (λ xs. extent_around (page_size c) (highest_by c b.windows) (with_spare spare (map item_extent xs))) same
 
-      marked_entry : (was : AreMarkedFrom p c (k + 1) old) (q : Request) → TellsClasses p q → (entry : Option Extent) → IfSome entry (λ x. x.size < 2 ^ 64) → IsEntry (behind q (told_extent old)) (around_bus q p.system c (told_extent old) b w) entry
+      marked_entry : (was : AreMarkedFrom p c (k + 1) old) (q : Request) → TellsClasses p q → (entry : Option Extent) → IfSome entry (λ x. x.size < 2 ^ 64) → IsEntry (behind q (new_window_extent old)) (around_bus q p.system c (new_window_extent old) b w) entry
           → IsMarkedOf (has_of q p.system c f) (new_window q p.system c f) entry
-      marked_entry was q left None small empty = has_is q left (told_extent old) ∙ le-ltb 0 (length (behind q (told_extent old))) (omega (arith, empty))
+      marked_entry was q left None small empty = has_is q left (new_window_extent old) ∙ le-ltb 0 (length (behind q (new_window_extent old))) (omega (arith, empty))
       marked_entry was q left (Some x) small (some, same) = (
-        has_is q left (told_extent old) ∙ lt-ltb 0 (length (behind q (told_extent old))) some,
+        has_is q left (new_window_extent old) ∙ lt-ltb 0 (length (behind q (new_window_extent old))) some,
         elim (same_behind was q left) [
           | inl one ↦ inl (same ∙ around_told q one ∙ new_is q left)
           | inr has ↦
-              let low : Contains (map item_extent (behind q (told_extent old))) (extent_value nowhere) = subst (Contains (map item_extent (behind q (told_extent old)))) has.mark (in_map_from item_extent (behind q (told_extent old)) _ has.in_low) in
-              let large = around_mark c (highest_by c b.windows) (with_spare spare (map item_extent (behind q (told_extent old)))) (before_spare spare (map item_extent (behind q (told_extent old))) (extent_value nowhere) low) in
-              let size : x.size ≡ (around_bus q p.system c (told_extent old) b w).size = ap (λ (y : ExtentValue). y.size) same in
+              let low : Contains (map item_extent (behind q (new_window_extent old))) (extent_value nowhere) = subst (Contains (map item_extent (behind q (new_window_extent old)))) has.mark (in_map_from item_extent (behind q (new_window_extent old)) _ has.in_low) in
+              let large = around_mark c (highest_by c b.windows) (with_spare spare (map item_extent (behind q (new_window_extent old)))) (before_spare spare (map item_extent (behind q (new_window_extent old))) (extent_value nowhere) low) in
+              let size : x.size ≡ (around_bus q p.system c (new_window_extent old) b w).size = ap (λ (y : ExtentValue). y.size) same in
               absurd (let no : ⊥ = omega (arith, large, size, small) in no)
         ],
       )
@@ -309,7 +309,7 @@ module _ (p : Classing) (system : IsSystem p.system) (nested : IsNested p.roots 
             large = subst (λ x. 2 ^ 64 ≤ (new_window q p.system c x).size) same size;
           }
 
-      large_size : (was : AreMarkedFrom p c (k + 1) old) (q : Request) → TellsClasses p q → 2 ^ 64 ≤ (around_bus q p.system c (told_extent old) b w).size → 2 ^ 64 ≤ (new_window q p.system c f).size
+      large_size : (was : AreMarkedFrom p c (k + 1) old) (q : Request) → TellsClasses p q → 2 ^ 64 ≤ (around_bus q p.system c (new_window_extent old) b w).size → 2 ^ 64 ≤ (new_window q p.system c f).size
       large_size was q left large = subst (λ (e : ExtentValue). 2 ^ 64 ≤ e.size) (new_is q left) (elim (same_behind was q left) [
         | inl one ↦ subst (λ (e : ExtentValue). 2 ^ 64 ≤ e.size) (around_told q one) large
         | inr has ↦
@@ -319,8 +319,8 @@ module _ (p : Classing) (system : IsSystem p.system) (nested : IsNested p.roots 
 
       mark_entry : (was : AreMarkedFrom p c (k + 1) old) (new : List (Option Extent)) → IsNewWindowPut p c b w old new false → (q : Request) → TellsClasses p q → IsMarkedOf (has_of q p.system c f) (new_window q p.system c f) (Some nowhere)
       mark_entry was new is_put q left =
-          let large = is_put.1 q (told_extent old) left (told_behind was q left) in
-          (has_is q left (told_extent old) ∙ lt-ltb 0 (length (behind q (told_extent old))) large.some, inr (refl, large_size was q left large.large))
+          let large = is_put.1 q (new_window_extent old) left (told_behind was q left) in
+          (has_is q left (new_window_extent old) ∙ lt-ltb 0 (length (behind q (new_window_extent old))) large.some, inr (refl, large_size was q left large.large))
 
       -- the next entry
       pub windows_more : (new : List (Option Extent)) (large : Option ℕ) (fit : Bool) → IsNewWindowPut p c b w old new fit → AreWindows new → AreWindowsOrLarge p c (k + 1) old large → AreWindowsOrLarge p c k new (first_large large fit k)
@@ -329,7 +329,7 @@ module _ (p : Classing) (system : IsSystem p.system) (nested : IsNested p.roots 
           (λ q left. entry_for q left is_put.entry (is_put.is q (new_window q p.system c) left (are_behind was q left))) lawful
       windows_more new (Some j) true is_put lawful was =
           named_more is_put.entry new is_put.put was.marked.size j was
-          (λ q left. marked_entry was.marked q left is_put.entry is_put.small (is_put.is q (told_extent old) left (told_behind was.marked q left))) lawful
+          (λ q left. marked_entry was.marked q left is_put.entry is_put.small (is_put.is q (new_window_extent old) left (told_behind was.marked q left))) lawful
       windows_more new (Some j) false is_put lawful was =
           named_more (Some nowhere) new is_put.0 was.marked.size j was (mark_entry was.marked new is_put) lawful
       windows_more new None false is_put lawful was =
@@ -337,8 +337,8 @@ module _ (p : Classing) (system : IsSystem p.system) (nested : IsNested p.roots 
           record {
             up = omega arith;
             marked = entries_more (Some nowhere) new is_put.0 was.size IsMarkedOf marked (mark_entry marked new is_put) lawful;
-            last = λ q left. (let large = is_put.1 q (told_extent old) left (told_behind marked q left) in record {
-              too_large = too_large_by q left (told_extent old) large.some (large_size marked q left large.large);
+            last = λ q left. (let large = is_put.1 q (new_window_extent old) left (told_behind marked q left) in record {
+              too_large = too_large_by q left (new_window_extent old) large.some (large_size marked q left large.large);
               above = above_more (Some nowhere) new is_put.0 was.size q k (omega arith) (λ j up within bridge.
                   was.each q left j (function_in p.system j) (omega (arith, up)) (slice_get-get_or p.system j no_function within) bridge);
             });

@@ -22,7 +22,7 @@ use Rattle.plan_spec.proofs.Planning.AllItems.{slots_rise}
 use Rattle.plan_spec.proofs.Planning.Safe.{slots_of}
 use Rattle.settle_spec.specs.FirstPlace.{Extent as ExtentValue}
 use Rattle.settle_spec.specs.Lists.{Request}
-use Rattle.settle_spec.specs.Items.{Item as ItemValue, highest_of_bar, has_of, items_of}
+use Rattle.settle_spec.specs.Items.{PlacingItem as ItemValue, highest_of_bar, has_of, items_of}
 use Rattle.settle_spec.specs.PlacingLaws.{HasLowerRank}
 use Rattle.pci_image.specs.declared.rom.Rom.{Rom as CodeRom}
 use Rattle.pci_function.specs.declared.record.Bridge.{Bridge}
@@ -33,7 +33,7 @@ use Rattle.pci_tree.proofs.RegionParts.{same_bridge_of}
 use Rattle.pci_place.specs.declared.above.Above.{Above}
 use Rattle.pci_place.specs.Above.{AreAboves}
 use Rattle.pci_place.specs.Items.{no_function}
-use Rattle.pci_place.specs.Records.{IsRecordOf}
+use Rattle.pci_place.specs.Records.{IsRecordInSystem}
 use Rattle.pci_place.proofs.Records.{FunctionAt, same_count, function_at}
 use Rattle.pci_first_fit.specs.declared.extent.Extent.{Extent}
 use Rattle.pci_first_fit.specs.declared.item.Item.{Item}
@@ -80,7 +80,7 @@ roots_apart roots bus other root none = elim (cases_Bool (bus == other)) [
 
 -- the record at a place is that of a function
 pub record_of_place : (s : System) (records : List Record) (has : HasRecords s (map record_value records)) (k : ℕ) (r : Record) (inside : k < length records) (is_at : r ≡ get_or records k r)
-    → IsRecordOf s (function_at s records has k r (slice_get-get_or records k r inside ∙ ap Some (sym is_at))).f r
+    → IsRecordInSystem s (function_at s records has k r (slice_get-get_or records k r inside ∙ ap Some (sym is_at))).f r
 record_of_place s records has k r inside is_at = (function_at s records has k r (slice_get-get_or records k r inside ∙ ap Some (sym is_at))).is
 
 -- the slots of records

@@ -14,15 +14,14 @@ use Rattle.pci_spec.specs.Number.{has_bit, number_at}
 use Rattle.pci_spec.specs.Window.{WindowKind, IoWindow, MemoryWindow, PrefetchWindow, has_window}
 use Rattle.pci_spec.specs.System.{System, Function, Part, Bar, Rom, Window, is_bridge, is_window}
 use Rattle.pci_spec.specs.Bus.{is_root}
-use Rattle.pci_spec.specs.Decoded.{DecodedBar, DecodedRom, decoded_bar, decoded_rom}
-use Rattle.pci_spec.specs.Decoded.{Range as DecodedRange}
+use Rattle.pci_spec.specs.Decoded.{DecodedBar, DecodedRom, decoded_bar, decoded_rom, Range as DecodedRange}
 use Rattle.pci_spec.proofs.Members.{in_filter_to}
 use Rattle.plan_spec.specs.Plan.{same_class, greatest, size_of, class_of, is_open, is_served, bridges_above}
 use Rattle.plan_spec.specs.Planning.Layout.{range_of}
 use Rattle.settle_spec.specs.Lists.{RootRange, Request}
 use Rattle.settle_spec.specs.Parts.{FunctionPart, is_empty, is_left, is_part, header_bars, header_parts, parts_of, function_parts, lies_within, holds_range, bridge_over, upper_pools, new_class, is_in_memory, class_in}
 use Rattle.settle_spec.specs.Stands.{window_part}
-use Rattle.settle_spec.specs.Items.{Item as ItemValue, highest_of, highest_of_bar, own_item, is_own, has_of, items_of}
+use Rattle.settle_spec.specs.Items.{PlacingItem as ItemValue, highest_of, highest_of_bar, own_item, is_own, has_of, items_of}
 use Rattle.settle_spec.proofs.Classes.{class_planned}
 use Rattle.settle_spec.proofs.LaidOut.{greatest_more}
 use Rattle.pci_image.specs.declared.bar.Bar.{Bar as CodeBar}
@@ -30,7 +29,7 @@ use Rattle.pci_image.specs.declared.rom.Rom.{Rom as CodeRom}
 use Rattle.pci_image.specs.Bars.{decoded_bar_of}
 use Rattle.pci_image.specs.Roms.{decoded_rom_of}
 use Rattle.pci_function.specs.declared.record.Record.{Record}
-use Rattle.pci_place.specs.Records.{IsRecordOf}
+use Rattle.pci_place.specs.Records.{IsRecordInSystem}
 use Rattle.pci_place.specs.Classes.{is_io_kind}
 use Rattle.pci_place.specs.Items.{function_in}
 use Rattle.pci_place.specs.Sizes.{span}
@@ -152,7 +151,7 @@ class_cases false true false true h l x plain = refl
 class_cases false true false false true l x plain = refl
 class_cases false true false false false l x plain = refl
 
-module _ (q : Request) (s : System) (f : Function) (r : Record) (over : Over) (t : Terms) (is : IsRecordOf s f r) (terms : AreTerms (demand_of q) t) (over_is : IsOverBus q s f.slot.bus over) where
+module _ (q : Request) (s : System) (f : Function) (r : Record) (over : Over) (t : Terms) (is : IsRecordInSystem s f r) (terms : AreTerms (demand_of q) t) (over_is : IsOverBus q s f.slot.bus over) where
   abbrev class_by_new : ℕ → WindowKind
   class_by_new n = cond (is_io (bar_at f.probe n)) IoWindow (cond (is_prefetchable (bar_at f.probe n)) (new_class q s f n) MemoryWindow)
 

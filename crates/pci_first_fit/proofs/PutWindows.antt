@@ -10,7 +10,7 @@ use Rattle.pci_spec.specs.System.{System, Function}
 use Rattle.settle_spec.specs.FirstPlace.{Extent as ExtentValue}
 use Rattle.settle_spec.specs.Lists.{Request}
 use Rattle.settle_spec.specs.Spares.{with_spare}
-use Rattle.settle_spec.specs.Items.{Item as ItemValue, in_turn, bus_items, nothing, extent_around}
+use Rattle.settle_spec.specs.Items.{PlacingItem as ItemValue, in_turn, bus_items, nothing, extent_around}
 use Rattle.settle_spec.specs.PlacingLaws.{HasLowerRank}
 use Rattle.settle_spec.proofs.InTurn.{turn_same, ranks_differ}
 use Rattle.settle_spec.proofs.Moved.{turn_moved}

@@ -12,7 +12,7 @@ use Rattle.pci_spec.proofs.Members.{in_nil, in_cons_cases, in_filter_to, in_map_
 use Rattle.plan_spec.specs.Plan.{same_class}
 use Rattle.settle_spec.specs.Parts.{FunctionPart, is_part, header_bars}
 use Rattle.settle_spec.specs.Stands.{rank}
-use Rattle.settle_spec.specs.Items.{Item as ItemValue, own_item, is_own, has_of, items_of}
+use Rattle.settle_spec.specs.Items.{PlacingItem as ItemValue, own_item, is_own, has_of, items_of}
 use Rattle.settle_spec.specs.PlacingLaws.{HasLowerRank}
 use Rattle.pci_image.specs.declared.rom.Rom.{Rom as CodeRom}
 use Rattle.pci_function.specs.declared.record.Record.{Record}

@@ -26,7 +26,7 @@ use Rattle.pci_base.specs.declared.range.Range.{Range}
 use Rattle.pci_base.specs.Ranges.{decoded_range_of}
 use Rattle.pci_base.specs.Space.{space_of}
 use Rattle.pci_first_fit.specs.declared.lines.Line.{Line}
-use Rattle.pci_first_fit.specs.Lines.{level_of, Row, row_of, told_row, rows_from, line_range, IsForwardLine, AreLines, is_row_between, is_root_row, is_on_levels, is_root_line, row_keeps_off, line_keeps_off, AreForwardRanges, AreAdded}
+use Rattle.pci_first_fit.specs.Lines.{level_of, Row, row_of, told_row, rows_from, line_code_range, IsForwardLine, AreLines, is_row_between, is_root_row, is_on_levels, is_root_line, row_keeps_off, line_keeps_off, AreForwardRanges, AreAdded}
 use Rattle.pci_first_fit.proofs.OnBus.{roots_beside, roots_apart}
 use Rattle.pci_first_fit.proofs.Filtered.{filter_permuted, filter_map, map_map, filter_twice, filter_off, filter_part}
 
@@ -222,18 +222,18 @@ module _ (roots : List ℕ) (first last : ℕ) (space : Space) where
 
 module _ (roots : List ℕ) (ranges : List ToldRange) (lines : List Line) (are : AreLines roots ranges lines) (p : Row → Bool) where
   -- the rows that pass
-  pub passing : IsPermutation (map row_range (filter p (rows_from roots 0 ranges))) (map decoded_range_of (map line_range (filter (λ l. p (row_of l)) lines)))
+  pub passing : IsPermutation (map row_range (filter p (rows_from roots 0 ranges))) (map decoded_range_of (map line_code_range (filter (λ l. p (row_of l)) lines)))
   passing =
       subst (IsPermutation (map row_range (filter p (rows_from roots 0 ranges))))
-      (ap (map row_range) (filter_map p row_of lines) ∙ map_map row_range row_of (filter (λ l. p (row_of l)) lines) ∙ sym (map_map decoded_range_of line_range (filter (λ l. p (row_of l)) lines)))
+      (ap (map row_range) (filter_map p row_of lines) ∙ map_map row_range row_of (filter (λ l. p (row_of l)) lines) ∙ sym (map_map decoded_range_of line_code_range (filter (λ l. p (row_of l)) lines)))
       (IsPermutation-map row_range (filter p (rows_from roots 0 ranges)) (filter p (map row_of lines)) (filter_permuted p (rows_from roots 0 ranges) (map row_of lines) are.rows))
 
 pub added_on : (q : Request) (bus level : ℕ) (space : Space) (lines : List Line) (old new : List Range) → AreLines q.roots q.told.ranges lines → level ≡ level_of q.roots bus
-    → new ≡ old ++ map line_range (filter (is_on_levels level level space) lines) → AreAdded old new (lines_on q space bus)
+    → new ≡ old ++ map line_code_range (filter (is_on_levels level level space) lines) → AreAdded old new (lines_on q space bus)
 added_on q bus level space lines old new are same put = record {
-  added = map line_range (filter (is_on_levels level level space) lines);
+  added = map line_code_range (filter (is_on_levels level level space) lines);
   put = put;
-  same = subst (λ xs. IsPermutation xs (map decoded_range_of (map line_range (filter (is_on_levels level level space) lines))))
+  same = subst (λ xs. IsPermutation xs (map decoded_range_of (map line_code_range (filter (is_on_levels level level space) lines))))
       (ap (λ n. map row_range (filter (is_row_between n n space) (rows_from q.roots 0 q.told.ranges))) same ∙ sym (on_rows q space bus (told_register 0) 0 q.told.ranges))
       (passing q.roots q.told.ranges lines are (is_row_between level level space));
 }
@@ -244,10 +244,10 @@ module _ (q : Request) (b : Function) (class : WindowKind) (first last : ℕ) (s
   rows = rows_from q.roots 0 q.told.ranges
 
   abbrev on_roots : List Range
-  on_roots = map line_range (filter (is_root_line first last space) lines)
+  on_roots = map line_code_range (filter (is_root_line first last space) lines)
 
   abbrev on_others : List Range
-  on_others = map line_range (filter (is_on_levels (first + 1) (last + 1) space) lines)
+  on_others = map line_code_range (filter (is_on_levels (first + 1) (last + 1) space) lines)
 
   pub added_behind : (old mid new : List Range) → mid ≡ old ++ on_roots → new ≡ mid ++ on_others → AreAdded old new (lines_behind q (window_part class b))
   added_behind old mid new roots others = record {
@@ -276,15 +276,15 @@ pub none_behind : (q : Request) (b : Function) (class : WindowKind) (lines : Lis
 none_behind q b class lines old are empty =
     let none : lines ≡ [] = is_nil lines empty in
     added_behind q b class (secondary b) (subordinate b) (window_space class) lines are refl refl refl old old old
-    (sym (append-nil old) ∙ ap (λ ls. old ++ map line_range (filter (is_root_line (secondary b) (subordinate b) (window_space class)) ls)) (sym none))
-    (sym (append-nil old) ∙ ap (λ ls. old ++ map line_range (filter (is_on_levels (secondary b + 1) (subordinate b + 1) (window_space class)) ls)) (sym none))
+    (sym (append-nil old) ∙ ap (λ ls. old ++ map line_code_range (filter (is_root_line (secondary b) (subordinate b) (window_space class)) ls)) (sym none))
+    (sym (append-nil old) ∙ ap (λ ls. old ++ map line_code_range (filter (is_on_levels (secondary b + 1) (subordinate b + 1) (window_space class)) ls)) (sym none))
 
 -- ranges that are added are not backward
-pub forward_more : (lines : List Line) (p : Line → Bool) (old new : List Range) → All IsForwardLine lines → new ≡ old ++ map line_range (filter p lines) → AreForwardRanges old → AreForwardRanges new
+pub forward_more : (lines : List Line) (p : Line → Bool) (old new : List Range) → All IsForwardLine lines → new ≡ old ++ map line_code_range (filter p lines) → AreForwardRanges old → AreForwardRanges new
 forward_more lines p old new forward put fine =
-    subst AreForwardRanges (sym put) (All-append (λ (r : Range). r.first ≤ r.last) old (map line_range (filter p lines)) fine (λ k d less.
-    let r = get_or (map line_range (filter p lines)) k d in
-    let made = in_map_to line_range (filter p lines) r (Contains-get_or (map line_range (filter p lines)) k d less) in
+    subst AreForwardRanges (sym put) (All-append (λ (r : Range). r.first ≤ r.last) old (map line_code_range (filter p lines)) fine (λ k d less.
+    let r = get_or (map line_code_range (filter p lines)) k d in
+    let made = in_map_to line_code_range (filter p lines) r (Contains-get_or (map line_code_range (filter p lines)) k d less) in
     let passed = in_filter_to p lines made.from made.has in
     subst (λ (x : Range). x.first ≤ x.last) made.is (All-contains IsForwardLine lines made.from forward passed.0)))
 

@@ -18,7 +18,7 @@ use Rattle.pci_image.specs.declared.rom.Rom.{Rom as CodeRom}
 use Rattle.pci_image.specs.Roms.{decoded_rom_of}
 use Rattle.pci_function.specs.declared.record.Record.{Record}
 use Rattle.pci_tree.proofs.Regions.{IsBarAt, bar_at_register}
-use Rattle.pci_place.specs.Records.{IsRecordOf}
+use Rattle.pci_place.specs.Records.{IsRecordInSystem}
 use Rattle.pci_place.specs.Sizes.{span}
 use Rattle.pci_place.proofs.Parts.{bar_span, rom_of, rom_there, rom_span}
 use Rattle.pci_first_fit.specs.Own.{IsSpanned, HasBarRegister}
@@ -38,7 +38,7 @@ pow_low k low = pow-lt {i = k} {j = 64} (omega (arith, low))
 spanned : (first last size : ℕ) → first ≤ last → span first last ≡ size → size < 2 ^ 64 → IsSpanned first last
 spanned first last size some is low = record { some = some; few = subst (λ n. n < 2 ^ 64) (sym is) low }
 
-pub bars_sized : (s : System) (f : Function) (r : Record) → IsRecordOf s f r → All HasBarRegister r.bars.items
+pub bars_sized : (s : System) (f : Function) (r : Record) → IsRecordInSystem s f r → All HasBarRegister r.bars.items
 bars_sized s f r is k d within =
     let bar = get_or r.bars.items k d in
     let at : (n : ℕ) × IsBarAt f bar n = bar_at_register r f bar is.value (Contains-get_or r.bars.items k d within) in
@@ -64,5 +64,5 @@ rom_by f (Some rom) none e =
     let low = (lawful_rom f.image f.probe there none).1 in
     spanned rom.first rom.last (size_of f Rom) size.0 size.1 (pow_low (lowest_one 0 (rom_at f.image f.probe)) (omega (arith, low)))
 
-pub rom_sized : (s : System) (f : Function) (r : Record) → IsRecordOf s f r → IfSome r.rom (λ (x : CodeRom). IsSpanned x.first x.last)
+pub rom_sized : (s : System) (f : Function) (r : Record) → IsRecordInSystem s f r → IfSome r.rom (λ (x : CodeRom). IsSpanned x.first x.last)
 rom_sized s f r is = rom_by f r.rom is.decodable.rom (rom_of s f r is)

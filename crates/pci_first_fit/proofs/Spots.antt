@@ -15,7 +15,7 @@ use Rattle.pci_base.specs.declared.range.Range.{Range}
 use Rattle.pci_base.specs.Ranges.{decoded_range_of}
 use Rattle.pci_first_fit.specs.declared.extent.Extent.{Extent}
 use Rattle.pci_first_fit.specs.declared.spot.Spot.{Spot}
-use Rattle.pci_first_fit.specs.Spots.{extent_value, IsExtent, FirstsRise, IsSpotAt, IsReached}
+use Rattle.pci_first_fit.specs.Spots.{extent_value, IsExtent, FirstsRise, IsSpotAt, IsSpotReached}
 
 -- what an index past the end is read as
 abbrev pub no_range : Range
@@ -67,7 +67,7 @@ pub record IsAlong (taken : List Range) (low : ℕ) (e : Extent) (at index : ℕ
   pub least : (b : ℕ) → IsTrue (is_spot low (map decoded_range_of taken) (extent_value e) b) → at ≤ b
   pub below : (k : ℕ) (d : Range) → k < index → (get_or taken k d).last < at
 
-pub along_from : (taken : List Range) (low : ℕ) (e : Extent) (s : Spot) (at : ℕ) → IsExtent e → IsReached taken low e s → at ≡ raised_to e.alignment (max low s.at) → IsAlong taken low e at s.index
+pub along_from : (taken : List Range) (low : ℕ) (e : Extent) (s : Spot) (at : ℕ) → IsExtent e → IsSpotReached taken low e s → at ≡ raised_to e.alignment (max low s.at) → IsAlong taken low e at s.index
 along_from taken low e s at extent reached is =
     let r = raised e.alignment (max low s.at) extent.alignment in
     let from = r.from in
@@ -84,7 +84,7 @@ along_from taken low e s at extent reached is =
     })
 
 -- where that is above 64 bits there is none in 64 bits
-pub from_too_high : (taken : List Range) (low : ℕ) (e : Extent) (s : Spot) → IsExtent e → IsReached taken low e s → (raised_to e.alignment (max low s.at) < 2 ^ 64 → ⊥)
+pub from_too_high : (taken : List Range) (low : ℕ) (e : Extent) (s : Spot) → IsExtent e → IsSpotReached taken low e s → (raised_to e.alignment (max low s.at) < 2 ^ 64 → ⊥)
     → (b : ℕ) → IsTrue (is_spot low (map decoded_range_of taken) (extent_value e) b) → 2 ^ 64 ≤ b + (e.size - 1)
 from_too_high taken low e s extent reached high b spot =
     let along = along_from taken low e s (raised_to e.alignment (max low s.at)) extent reached refl in

@@ -6,18 +6,18 @@ use Rattle.pci_base.specs.Ranges.{decoded_range_of}
 use Rattle.pci_first_fit.specs.declared.extent.Extent.{Extent}
 use Rattle.pci_first_fit.specs.declared.spot.Spot.{Spot}
 use Rattle.pci_first_fit.specs.declared.spot.Start.{Start}
-use Rattle.pci_first_fit.specs.Spots.{extent_value, IsSpotAt, IsReached, IsStart}
+use Rattle.pci_first_fit.specs.Spots.{extent_value, IsSpotAt, IsSpotReached, IsStart}
 use Rattle.pci_first_fit.proofs.FirstPlaces.{none_so_far}
 
 -- nothing is below address 0
-pub lowest_reached : (taken : List Range) (low : ℕ) (e : Extent) (s : Spot) → s.at ≡ 0 → s.index ≡ 0 → IsReached taken low e s
+pub lowest_reached : (taken : List Range) (low : ℕ) (e : Extent) (s : Spot) → s.at ≡ 0 → s.index ≡ 0 → IsSpotReached taken low e s
 lowest_reached taken low e s at index = record {
   least = λ b spot. omega (arith, at);
   within = omega (arith, index);
   below = λ k d less. absurd (let no : ⊥ = omega (arith, less, index) in no);
 }
 
-pub spot_reached : (taken : List Range) (low : ℕ) (e : Extent) (s : Spot) → IsSpotAt taken low e s → IsReached taken low e s
+pub spot_reached : (taken : List Range) (low : ℕ) (e : Extent) (s : Spot) → IsSpotAt taken low e s → IsSpotReached taken low e s
 spot_reached taken low e s is = record { least = is.least.least; within = is.between.within; below = is.between.below }
 
 pub start_lowest : (ranges taken : List Range) (e : Extent) (s : Spot) → s.at ≡ 0 → s.index ≡ 0 → IsStart ranges taken e (record { range = 0; spot = s })
@@ -32,7 +32,7 @@ start_lowest ranges taken e s at index = record {
 pub record IsSearched (ranges taken : List Range) (e : Extent) (old now : Start) (from : Spot) (index : ℕ) : Type 0 where
   pub same : now ≡ old
   pub before : (k : ℕ) (d : Range) → k < index → first_place_in (decoded_range_of (get_or ranges k d)) (map decoded_range_of taken) (extent_value e) ≡ None
-  pub reached : (d : Range) → index < length ranges → IsReached taken (get_or ranges index d).first e from
+  pub reached : (d : Range) → index < length ranges → IsSpotReached taken (get_or ranges index d).first e from
 
 pub searched_next : (ranges taken : List Range) (e : Extent) (old now : Start) (from next : Spot) (index : ℕ) (d : Range) → IsSearched ranges taken e old now from index → index < length ranges
     → first_place_in (decoded_range_of (get_or ranges index d)) (map decoded_range_of taken) (extent_value e) ≡ None → next.at ≡ 0 → next.index ≡ 0

@@ -9,7 +9,7 @@ use Rattle.pci_spec.proofs.Members.{pairs_map}
 use Rattle.plan_spec.proofs.Planning.AllItems.{pairs_unmap}
 use Rattle.settle_spec.specs.Stands.{rank}
 use Rattle.settle_spec.specs.FirstPlace.{Extent as ExtentValue}
-use Rattle.settle_spec.specs.Items.{Item as ItemValue, in_turn}
+use Rattle.settle_spec.specs.Items.{PlacingItem as ItemValue, in_turn}
 use Rattle.settle_spec.specs.PlacingLaws.{HasLowerRank, ComesBefore}
 use Rattle.settle_spec.proofs.InTurn.{turn_only, ranks_differ}
 use Rattle.pci_first_fit.specs.declared.item.Item.{Item}

@@ -8,7 +8,7 @@ use Rattle.pci_spec.specs.Bus.{secondary, are_siblings}
 use Rattle.settle_spec.specs.FirstPlace.{Extent as ExtentValue}
 use Rattle.settle_spec.specs.Lists.{Request}
 use Rattle.settle_spec.specs.Stands.{rank}
-use Rattle.settle_spec.specs.Items.{Item as ItemValue, has_of, items_of, bus_items}
+use Rattle.settle_spec.specs.Items.{PlacingItem as ItemValue, has_of, items_of, bus_items}
 use Rattle.pci_base.specs.WindowKinds.{kind_value}
 use Rattle.pci_function.specs.declared.record.Bridge.{Bridge}
 use Rattle.pci_tree.specs.Admission.{Admission}

@@ -10,7 +10,7 @@ use Rattle.pci_spec.specs.Bus.{secondary}
 use Rattle.settle_spec.specs.Lists.{Request}
 use Rattle.settle_spec.specs.Parts.{FunctionPart, addresses}
 use Rattle.settle_spec.specs.Stands.{window_part, stands}
-use Rattle.settle_spec.specs.Items.{Item, taken_by, place_in}
+use Rattle.settle_spec.specs.Items.{PlacingItem, taken_by, place_in}
 use Rattle.settle_spec.specs.Kept.{Kept, range_or}
 use Rattle.settle_spec.specs.Keeping.Places.{space_items}
 use Rattle.pci_base.specs.declared.range.Range.{Range}
@@ -48,7 +48,7 @@ AreKeptRanges s keep grown =
     ≡ range_or (grown_of grown n part) (addresses record { function = f; part = part })
 
 -- an item is placed behind a bridge, in a window that stays: `n` and `m` are the functions of the window and of the item
-pub record IsInKept (q : Request) (s : System) (keep : Kept) (n m : ℕ) (b : Function) (i : Item) : Type 0 where
+pub record IsInKept (q : Request) (s : System) (keep : Kept) (n m : ℕ) (b : Function) (i : PlacingItem) : Type 0 where
   pub bridge_is : slice_get s n ≡ Some b
   pub function_is : slice_get s m ≡ Some i.region.function
   pub leads : IsTrue (is_bridge b)
@@ -60,7 +60,7 @@ pub record TellsKept (q : Request) (s : System) (keep : Kept) (left : Left) : Ty
   pub standing : (r : FunctionPart) → IsTrue (keep.stays r) → IsTrue (stands q s r)
   pub stays_are : AreKeptParts s keep.stays left.kept.now
   pub ranges_are : AreKeptRanges s keep left.grown.now
-  pub places_are : (n m : ℕ) (b : Function) (i : Item) → IsInKept q s keep n m b i
+  pub places_are : (n m : ℕ) (b : Function) (i : PlacingItem) → IsInKept q s keep n m b i
       → (taken : List DecodedRange)
       → keep.place b i taken
       ≡ told_if_grown (grown_of left.grown.now n (Window i.class)) (placed left.places.now m i.region.part)
@@ -70,6 +70,6 @@ pub record TellsKept (q : Request) (s : System) (keep : Kept) (left : Left) : Ty
       → IfSome (grown_of left.grown.now n (Window c)) (λ _. IsTrue (keep.stays (window_part c f)))
   -- 64 bits hold all addresses
   pub forward : AreForward left.grown.now
-  pub ends : (n m : ℕ) (b : Function) (i : Item) → IsInKept q s keep n m b i
+  pub ends : (n m : ℕ) (b : Function) (i : PlacingItem) → IsInKept q s keep n m b i
       → IfSome (grown_of left.grown.now n (Window i.class)) (λ _.
       IfSome (placed left.places.now m i.region.part) (λ a. (taken_by i a).last < 2 ^ 64))

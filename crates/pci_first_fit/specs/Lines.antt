@@ -62,8 +62,8 @@ rows_from roots index (r ∷ ranges) = told_row roots index r ∷ rows_from root
 abbrev pub line_level : Line → ℕ
 line_level l = l.level
 
-abbrev pub line_range : Line → Range
-line_range l = l.range
+abbrev pub line_code_range : Line → Range
+line_code_range l = l.range
 
 abbrev pub IsForwardLine : Line → Type 0
 IsForwardLine l = l.range.first ≤ l.range.last

@@ -9,7 +9,7 @@ use Rattle.settle_spec.specs.FirstPlace.{Extent as ExtentValue}
 use Rattle.settle_spec.specs.Lists.{Request}
 use Rattle.settle_spec.specs.Parts.{FunctionPart}
 use Rattle.settle_spec.specs.Spares.{with_spare}
-use Rattle.settle_spec.specs.Items.{Item as ItemValue, has_of, bus_items, nothing, extent_around, new_window, window_to}
+use Rattle.settle_spec.specs.Items.{PlacingItem as ItemValue, has_of, bus_items, nothing, extent_around, new_window, window_to}
 use Rattle.pci_image.specs.declared.window.Windows.{Windows}
 use Rattle.pci_function.specs.declared.record.Bridge.{Bridge}
 use Rattle.pci_place.specs.Above.{is_wide_in}
@@ -150,5 +150,5 @@ abbrev pub extent_or : Option Extent → ExtentValue
 extent_or None = extent_value nowhere
 extent_or (Some x) = extent_value x
 
-abbrev pub told_extent : List (Option Extent) → Function → ExtentValue
-told_extent windows f = extent_or (slice_index_or windows (secondary f) None)
+abbrev pub new_window_extent : List (Option Extent) → Function → ExtentValue
+new_window_extent windows f = extent_or (slice_index_or windows (secondary f) None)

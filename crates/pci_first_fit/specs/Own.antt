@@ -12,7 +12,7 @@ use Rattle.plan_spec.specs.Plan as plan
 use Rattle.settle_spec.specs.FirstPlace.{Extent as ExtentValue}
 use Rattle.settle_spec.specs.Lists.{RootRange, Request}
 use Rattle.settle_spec.specs.Parts.{FunctionPart, is_empty}
-use Rattle.settle_spec.specs.Items.{Item as ItemValue, highest_of_bar, has_of, items_of}
+use Rattle.settle_spec.specs.Items.{PlacingItem as ItemValue, highest_of_bar, has_of, items_of}
 use Rattle.settle_spec.specs.PlacingLaws.{HasLowerRank}
 use Rattle.pci_base.specs.declared.range.Range.{Range as CodeRange}
 use Rattle.pci_base.specs.Ranges.{decoded_range_of}
@@ -22,7 +22,7 @@ use Rattle.pci_image.specs.declared.rom.Rom.{Rom as CodeRom}
 use Rattle.pci_function.specs.declared.record.Record.{Record}
 use Rattle.pci_place.specs.declared.above.Above.{Above}
 use Rattle.pci_place.specs.declared.pools.Pools.{Pools}
-use Rattle.pci_place.specs.Records.{IsRecordOf}
+use Rattle.pci_place.specs.Records.{IsRecordInSystem}
 use Rattle.pci_place.specs.Classes.{is_io_kind, bar_class}
 use Rattle.pci_place.specs.Items.{function_in}
 use Rattle.pci_first_fit.specs.declared.extent.Extent.{Extent}
@@ -196,7 +196,7 @@ pub record Asking : Type 0 where
 -- the record is that of a function of a system, with these windows over it, this new one, and what keeps its place
 pub record IsAskedFor (a : Asking) (s : System) (f : Function) (o : Situation) (r : Record) : Type 0 where
   pub terms : AreTerms (demand_of a.request) o.terms
-  pub is : IsRecordOf s f r
+  pub is : IsRecordInSystem s f r
   pub here : function_in s o.place ≡ f
   pub probe_is : o.probe ≡ f.probe
   pub over_is : IsOverBus a.request s f.slot.bus o.over

@@ -14,12 +14,12 @@ IsItemPart parts.Rom = Unit {0}
 IsItemPart parts.Window = Unit {0}
 
 -- the place that a part of a function gets
-abbrev pub place_in : Places → Part → Option ℕ
-place_in p (Bar n) = slice_index_or p.bars n None
-place_in p Rom = p.rom
-place_in p (Window IoWindow) = p.windows.io
-place_in p (Window MemoryWindow) = p.windows.memory
-place_in p (Window PrefetchWindow) = p.windows.prefetchable
+abbrev pub part_place : Places → Part → Option ℕ
+part_place p (Bar n) = slice_index_or p.bars n None
+part_place p Rom = p.rom
+part_place p (Window IoWindow) = p.windows.io
+part_place p (Window MemoryWindow) = p.windows.memory
+part_place p (Window PrefetchWindow) = p.windows.prefetchable
 
 -- no part gets any
 abbrev pub no_place : Places
@@ -31,11 +31,11 @@ no_place = record {
 
 -- what a table tells of a part; a function without an entry gets no place
 abbrev pub placed : List Places → ℕ → Part → Option ℕ
-placed table k part = place_in (slice_index_or table k no_place) part
+placed table k part = part_place (slice_index_or table k no_place) part
 
 -- it tells of no part that it gets a place
 abbrev pub ArePlaceless : List Places → Type 0
-ArePlaceless table = All (λ p. (part : Part) → place_in p part ≡ None) table
+ArePlaceless table = All (λ p. (part : Part) → part_place p part ≡ None) table
 
 -- of other parts a table tells the same as another one
 abbrev pub PlacesSame : List Places → List Places → ℕ → Part → Type 0

@@ -3,14 +3,14 @@ use Rattle.std.specs.Prelude.{ℕ, ◌≡◌, ◌<◌, ◌^◌, List, [], ◌∷
 use Rattle.pci_spec.specs.Decoded.{Range as DecodedRange}
 use Rattle.plan_spec.specs.Place.{range_from}
 use Rattle.settle_spec.specs.FirstPlace.{Extent, else_at, first_place}
-use Rattle.settle_spec.specs.Items.{Item, Placed, Placing, AllPlaced, Lacks}
+use Rattle.settle_spec.specs.Items.{PlacingItem, Placed, Placing, AllPlaced, Lacks}
 use Rattle.pci_base.specs.declared.range.Range.{Range}
 use Rattle.pci_base.specs.Ranges.{decoded_range_of}
 use Rattle.pci_first_fit.specs.declared.placing.Wanted.{Wanted}
 use Rattle.pci_first_fit.specs.declared.placing.Cursor.{Cursor}
 use Rattle.pci_first_fit.specs.Spots.{extent_value, IsExtent, IsStart}
 
-abbrev pub item_extent : Item → Extent
+abbrev pub item_extent : PlacingItem → Extent
 item_extent i = i.extent
 
 -- ---- what is wanted
@@ -32,16 +32,16 @@ wanted_place lists taken w = else_at w.at (place_by_list lists taken w)
 
 -- an item has this extent, and this place is found for it, whatever is taken
 pub record IsWanted (lists : List (List Range)) (behind : List Range)
-    (find : Item → List DecodedRange → Option ℕ) (i : Item) (w : Wanted) : Type 0 where
+    (find : PlacingItem → List DecodedRange → Option ℕ) (i : PlacingItem) (w : Wanted) : Type 0 where
   pub extent : i.extent ≡ extent_value w.extent
   pub place : (taken : List DecodedRange)
       → find i taken ≡ wanted_place lists (map decoded_range_of behind ++ taken) w
 
 -- each off what is behind it, by index: nothing is behind those past the end
-pub record AreWanted (lists behind : List (List Range)) (find : Item → List DecodedRange → Option ℕ)
-    (items : List Item) (wanted : List Wanted) : Type 0 where
+pub record AreWanted (lists behind : List (List Range)) (find : PlacingItem → List DecodedRange → Option ℕ)
+    (items : List PlacingItem) (wanted : List Wanted) : Type 0 where
   pub count : length items ≡ length wanted
-  pub each : (k : ℕ) (i : Item) (w : Wanted) → k < length wanted
+  pub each : (k : ℕ) (i : PlacingItem) (w : Wanted) → k < length wanted
       → IsWanted lists (slice_index_or behind k []) find (slice_index_or items k i) (slice_index_or wanted k w)
 
 -- another extent is placed by what is taken as one is by that and by what is behind it
@@ -50,9 +50,9 @@ pub record IsPlacedAs (lists : List (List Range)) (behind taken : List DecodedRa
   pub place : wanted_place lists taken ready ≡ wanted_place lists (behind ++ taken) w
 
 -- one that is, or none where there is no place
-abbrev pub IsReady : ℕ → List (List Range) → List DecodedRange → List DecodedRange → Wanted → Option Wanted → Type 0
-IsReady count lists behind taken w None = wanted_place lists (behind ++ taken) w ≡ None
-IsReady count lists behind taken w (Some ready) =
+abbrev pub IsWantedReady : ℕ → List (List Range) → List DecodedRange → List DecodedRange → Wanted → Option Wanted → Type 0
+IsWantedReady count lists behind taken w None = wanted_place lists (behind ++ taken) w ≡ None
+IsWantedReady count lists behind taken w (Some ready) =
     HasListAt count ready × IsPlacedAs lists behind taken w ready
 
 -- a list can be searched for this extent from there on
@@ -75,16 +75,16 @@ AreEnding wanted places count =
     → (range_from (slice_index_or places k 0) (slice_index_or wanted k w).extent.size).last < 2 ^ 64
 
 -- each item with its place
-abbrev pub at_places : List Item → List ℕ → List Placed
+abbrev pub at_places : List PlacingItem → List ℕ → List Placed
 at_places [] places = []
 at_places (i ∷ items) [] = []
 at_places (i ∷ items) (a ∷ places) = record { item = i; at = a } ∷ at_places items places
 
-abbrev pub lacks_first : List Item → Placing
+abbrev pub lacks_first : List PlacingItem → Placing
 lacks_first [] = AllPlaced []
 lacks_first (i ∷ items) = Lacks i
 
 -- what a table and the number of the first item without a place tell
-abbrev pub placing_of : List Item → List ℕ → Option ℕ → Placing
+abbrev pub placing_of : List PlacingItem → List ℕ → Option ℕ → Placing
 placing_of items places None = AllPlaced (at_places items places)
 placing_of items places (Some k) = lacks_first (drop k items)

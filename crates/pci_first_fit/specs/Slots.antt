@@ -5,7 +5,7 @@ use Rattle.pci_spec.specs.Slot.{Slot, same_slot}
 use Rattle.pci_spec.specs.Window.{WindowKind, IoWindow, MemoryWindow, PrefetchWindow}
 use Rattle.judge_spec.specs.ToldClaims.{Told, nothing_told}
 use Rattle.settle_spec.specs.FirstPlace.{Extent as ExtentValue}
-use Rattle.settle_spec.specs.Lists.{Request, Spares}
+use Rattle.settle_spec.specs.Lists.{Request, Spares, no_spares}
 use Rattle.settle_spec.specs.Lists as ranges
 use Rattle.settle_spec.specs.Spares.{spare_extent}
 use Rattle.pci_first_fit.specs.declared.list.Lists.{Lists}
@@ -48,17 +48,13 @@ spares_value w = record {
   prefetch = wanted_of w PrefetchWindow;
 }
 
--- nothing is wanted behind any slot
-abbrev pub no_spares : Spares
-no_spares = record { io = 0; memory = 0; prefetch = 0 }
-
 -- lists alone, with no room behind slots, and nothing told
 abbrev pub lists_alone : ranges.Lists → Demand
 lists_alone l = record { lists = l; slots = []; spares = no_spares; told = nothing_told [] }
 
 -- what lists tell of beside BARs and ROMs: nobody is asleep where settling is asked for
-abbrev pub told_of : Lists → Told
-told_of l = record { ranges = l.told.ranges.now; asleep = [] }
+abbrev pub told_of_lists : Lists → Told
+told_of_lists l = record { ranges = l.told.ranges.now; asleep = [] }
 
 -- that of the code
 abbrev pub demand_value : Lists → Demand
@@ -66,7 +62,7 @@ demand_value l = record {
   lists = lists_value l;
   slots = l.slots.bridges.now;
   spares = spares_value l.slots;
-  told = told_of l;
+  told = told_of_lists l;
 }
 
 -- the same with the list of I/O alone

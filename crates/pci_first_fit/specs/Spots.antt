@@ -53,7 +53,7 @@ is_near ranges t =
 -- ---- how far a search has come
 
 -- no free place from an address on is below that of a spot, and what is taken before its index is
-pub record IsReached (taken : List Range) (low : ℕ) (e : Extent) (s : Spot) : Type 0 where
+pub record IsSpotReached (taken : List Range) (low : ℕ) (e : Extent) (s : Spot) : Type 0 where
   pub least : (b : ℕ) → IsTrue (is_spot low (map decoded_range_of taken) (extent_value e) b) → s.at ≤ b
   pub within : s.index ≤ length taken
   pub below : (k : ℕ) (d : Range) → k < s.index → (slice_index_or taken k d).last < s.at
@@ -64,7 +64,7 @@ pub record IsStart (ranges taken : List Range) (e : Extent) (s : Start) : Type 0
       → first_place_in (decoded_range_of (slice_index_or ranges k d)) (map decoded_range_of taken)
       (extent_value e) ≡ None
   pub reached : (d : Range) → s.range < length ranges
-      → IsReached taken (slice_index_or ranges s.range d).first e s.spot
+      → IsSpotReached taken (slice_index_or ranges s.range d).first e s.spot
 
 -- ---- what is taken
 

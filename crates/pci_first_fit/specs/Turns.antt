@@ -1,6 +1,6 @@
 -- The order in which items are placed, by a number that stands for slot and register.
 use Rattle.std.specs.Prelude.{◌≡◌, ℕ, ◌<◌, ◌⊎◌}
-use Rattle.settle_spec.specs.Items.{Item as ItemValue}
+use Rattle.settle_spec.specs.Items.{PlacingItem as ItemValue}
 use Rattle.pci_first_fit.specs.declared.item.Item.{Item}
 use Rattle.pci_first_fit.specs.declared.extent.Extent.{Extent}
 use Rattle.pci_first_fit.specs.Spots.{extent_value, IsExtent}

@@ -3,7 +3,7 @@ ghost use Rattle.std.specs.Prelude.{◌≡◌, ℕ, ◌<◌, OnOk, map};
 ghost use Rattle.std.specs.List.{AllPairs};
 ghost use Rattle.std.specs.List.Sorted.{IsPermutation};
 ghost use Rattle.settle_spec.specs.PlacingLaws.{HasLowerRank};
-ghost use Rattle.settle_spec.specs.Items.{Item as ItemValue, in_turn};
+ghost use Rattle.settle_spec.specs.Items.{PlacingItem as ItemValue, in_turn};
 ghost use Rattle.pci_first_fit.specs.Turns.{IsLargerItem, IsItemInTurn, IsValued};
 
 use crate::extent::Extent;

@@ -13,7 +13,7 @@ ghost use Rattle.settle_spec.specs.Parts.{are_same_space};
 ghost use Rattle.pci_base.specs.Ranges.{decoded_range_of};
 ghost use Rattle.pci_base.specs.Space.{space_of};
 ghost use Rattle.pci_tree.specs.Roots.{buses_of};
-ghost use Rattle.pci_first_fit.specs.Lines.{level_of, row_of, told_row, line_level, line_range, is_on_levels, is_root_line, line_keeps_off, AreForwardRanges, AreLineRows, AreLines, AreAdded};
+ghost use Rattle.pci_first_fit.specs.Lines.{level_of, row_of, told_row, line_level, line_code_range, is_on_levels, is_root_line, line_keeps_off, AreForwardRanges, AreLineRows, AreLines, AreAdded};
 
 use crate::list::{are_apart, is_root};
 use crate::told::ToldRanges;
@@ -142,7 +142,7 @@ fn add_levels<A: Allocator>(
 ) -> Result<(), OutOfMemory>
     requires { IsNonDecreasingBy line_level lines.now }
     ensures { OnOk result (out.new.items
-        ≡ out.old.items ++ map line_range (filter (is_on_levels low high (space_of space)) lines.now)) }
+        ≡ out.old.items ++ map line_code_range (filter (is_on_levels low high (space_of space)) lines.now)) }
 {
     for line in rows_between(lines, low, high) {
         if low <= line.level && line.level <= high && is_in(line, space) {
@@ -162,7 +162,7 @@ fn add_roots<A: Allocator>(
 ) -> Result<(), OutOfMemory>
     requires { IsNonDecreasingBy line_level lines.now }
     ensures { OnOk result (out.new.items
-        ≡ out.old.items ++ map line_range (filter (is_root_line first last (space_of space)) lines.now)) }
+        ≡ out.old.items ++ map line_code_range (filter (is_root_line first last (space_of space)) lines.now)) }
 {
     for line in rows_between(lines, 0, 0) {
         if line.level == 0 && first <= line.bus && line.bus <= last && is_in(line, space) {

@@ -3,7 +3,7 @@ ghost use Rattle.std.specs.Prelude.{◌≡◌, ◌<◌, IfOk, Some, length};
 ghost use Rattle.pci_spec.specs.System.{Part as PartValue};
 ghost use Rattle.pci_base.specs.WindowKinds.{kind_value};
 ghost use Rattle.pci_first_fit.specs.Own.{class_part};
-ghost use Rattle.pci_first_fit.specs.PlaceTables.{IsItemPart, place_in, placed, ArePlaceless, PlacesSame};
+ghost use Rattle.pci_first_fit.specs.PlaceTables.{IsItemPart, part_place, placed, ArePlaceless, PlacesSame};
 
 use crate::item::{Item, Part};
 use pci_base::memory::OutOfMemory;
@@ -33,7 +33,7 @@ const NONE: Places = Places {
 impl Places {
     /// The place of an item of a class.
     fn get(&self, class: WindowKind, part: Part) -> Option<u64>
-        ensures { result ≡ place_in self.now (class_part (kind_value class) part) }
+        ensures { result ≡ part_place self.now (class_part (kind_value class) part) }
     {
         match part {
             Part::Bar(n) => match self.bars.get(usize::from(n)) {
@@ -48,9 +48,9 @@ impl Places {
     /// Sets the place of an item of a class.
     fn set(&mut self, class: WindowKind, part: Part, at: u64)
         requires { IsItemPart part }
-        ensures set { place_in self.new (class_part (kind_value class) part) ≡ Some at }
+        ensures set { part_place self.new (class_part (kind_value class) part) ≡ Some at }
         ensures others { (other : PartValue) → (other ≡ class_part (kind_value class) part → ⊥)
-            → place_in self.new other ≡ place_in self.old other }
+            → part_place self.new other ≡ part_place self.old other }
     {
         match part {
             Part::Bar(n) => self.bars[usize::from(n)] = Some(at),

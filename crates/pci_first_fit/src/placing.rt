@@ -8,10 +8,10 @@ ghost use Rattle.std.specs.List.{All};
 ghost use Rattle.pci_spec.specs.Decoded.{Range as DecodedRange};
 ghost use Rattle.plan_spec.specs.Place.{range_from};
 ghost use Rattle.settle_spec.specs.FirstPlace.{first_place as place_in_ranges};
-ghost use Rattle.settle_spec.specs.Items.{Item, place_each};
+ghost use Rattle.settle_spec.specs.Items.{PlacingItem, place_each};
 ghost use Rattle.pci_base.specs.Ranges.{decoded_range_of};
 ghost use Rattle.pci_first_fit.specs.Spots.{extent_value, IsExtent, FirstsRise, AreRisingRanges, IsTakenBy, IsTakenAt, IsStart, place_if};
-ghost use Rattle.pci_first_fit.specs.Placings.{HasListAt, place_by_list, wanted_place, AreWanted, AreEnding, IsCursor, AreCursors, IsReady, placing_of};
+ghost use Rattle.pci_first_fit.specs.Placings.{HasListAt, place_by_list, wanted_place, AreWanted, AreEnding, IsCursor, AreCursors, IsWantedReady, placing_of};
 
 use crate::extent::Extent;
 use crate::near::add_near;
@@ -260,7 +260,7 @@ fn wanted_beside<A: Allocator, B: Allocator>(
     wanted: &Wanted,
 ) -> Result<Option<Wanted>, OutOfMemory>
     requires { HasListAt (length lists.now) wanted.now }
-    ensures { IfOk result (IsReady (length lists.now) (map (λ list. list.items) lists.now)
+    ensures { IfOk result (IsWantedReady (length lists.now) (map (λ list. list.items) lists.now)
         (map decoded_range_of behind.now) (map decoded_range_of taken.now) wanted.now) }
 {
     let extent = wanted.extent;
@@ -287,7 +287,7 @@ fn wanted_near<A: Allocator + Copy, B: Allocator>(
     wanted: &Wanted,
 ) -> Result<Option<Wanted>, OutOfMemory>
     requires { HasListAt (length lists.now) wanted.now }
-    ensures { IfOk result (IsReady (length lists.now) (map (λ list. list.items) lists.now)
+    ensures { IfOk result (IsWantedReady (length lists.now) (map (λ list. list.items) lists.now)
         (map decoded_range_of behind.now) (map decoded_range_of taken.now) wanted.now) }
 {
     let extent = wanted.extent;
@@ -321,7 +321,7 @@ fn wanted_off<A: Allocator + Copy, B: Allocator>(
     wanted: &Wanted,
 ) -> Result<Option<Wanted>, OutOfMemory>
     requires { HasListAt (length lists.now) wanted.now }
-    ensures { IfOk result (IsReady (length lists.now) (map (λ list. list.items) lists.now)
+    ensures { IfOk result (IsWantedReady (length lists.now) (map (λ list. list.items) lists.now)
         (map decoded_range_of behind.now) (map decoded_range_of taken.now) wanted.now) }
 {
     if lists[wanted.list].len() <= FEW_RANGES {
@@ -347,7 +347,7 @@ pub fn place_all<A: Allocator + Copy, B: Allocator, C: Allocator>(
     requires listed { AreRisingRanges taken.old.items }
     // an extent's place stands at its index
     requires count { length places.old ≡ length wanted.now }
-    ensures placing { IfOk result (λ lack. (find : Item → List DecodedRange → Option ℕ) (items : List Item)
+    ensures placing { IfOk result (λ lack. (find : PlacingItem → List DecodedRange → Option ℕ) (items : List PlacingItem)
         → AreWanted (map (λ list. list.items) within.now.lists.now)
         (map (λ list. list.items) within.now.behind.now) find items wanted.now
         → place_each find (map decoded_range_of taken.old.items) items

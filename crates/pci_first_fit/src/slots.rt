@@ -3,7 +3,8 @@ ghost use Rattle.std.specs.Prelude.{◌≡◌, []};
 ghost use Rattle.std.specs.List.{list_any};
 ghost use Rattle.pci_spec.specs.Slot.{same_slot};
 ghost use Rattle.pci_base.specs.WindowKinds.{kind_value};
-ghost use Rattle.pci_first_fit.specs.Slots.{wanted_of, wanted_at, no_spares, spares_value};
+ghost use Rattle.pci_first_fit.specs.Slots.{wanted_of, wanted_at, spares_value};
+ghost use Rattle.settle_spec.specs.Lists.{no_spares};
 
 use pci_base::slot::Slot;
 use pci_base::window_kind::WindowKind;

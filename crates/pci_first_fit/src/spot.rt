@@ -5,7 +5,7 @@ ghost use Rattle.settle_spec.specs.FirstPlace.{is_spot, ends_by as place_ends_in
 ghost use Rattle.plan_spec.specs.Plan.{raised_to};
 ghost use Rattle.plan_spec.specs.Place.{range_from};
 ghost use Rattle.pci_base.specs.Ranges.{decoded_range_of};
-ghost use Rattle.pci_first_fit.specs.Spots.{extent_value, IsExtent, FirstsRise, IsBetweenTaken, IsSpotAt, spot_place, place_if, IsReached, IsStart};
+ghost use Rattle.pci_first_fit.specs.Spots.{extent_value, IsExtent, FirstsRise, IsBetweenTaken, IsSpotAt, spot_place, place_if, IsSpotReached, IsStart};
 
 use crate::extent::Extent;
 use pci_base::range::Range;
@@ -78,7 +78,7 @@ fn behind(range: Range, alignment: u64) -> Option<u64>
 fn next_spot(taken: &[Range], low: u64, from: Spot, extent: Extent) -> Option<Spot>
     requires extent { IsExtent extent }
     requires order { FirstsRise taken.now }
-    requires reached { IsReached taken.now low extent from }
+    requires reached { IsSpotReached taken.now low extent from }
     ensures found { IfSome result (IsSpotAt taken.now low extent) }
     ensures none { IfNone result ((b : ℕ)
         → IsTrue (is_spot low (map decoded_range_of taken.now) (extent_value extent) b)
@@ -132,7 +132,7 @@ fn ends_in(range: Range, extent: Extent, at: u64) -> bool
 fn spot_in(range: Range, taken: &[Range], from: Spot, extent: Extent) -> Option<Spot>
     requires extent { IsExtent extent }
     requires order { FirstsRise taken.now }
-    requires reached { IsReached taken.now range.first extent from }
+    requires reached { IsSpotReached taken.now range.first extent from }
     ensures place { spot_place result ≡ first_place_in (decoded_range_of range)
         (map decoded_range_of taken.now) (extent_value extent) }
     ensures spot { IfSome result (IsSpotAt taken.now range.first extent) }

@@ -6,7 +6,7 @@ ghost use Rattle.pci_spec.specs.Window.{page_size};
 ghost use Rattle.plan_spec.specs.Plan.{greatest};
 ghost use Rattle.settle_spec.specs.FirstPlace.{least_number};
 ghost use Rattle.settle_spec.specs.Spares.{spare_extent, with_spare};
-ghost use Rattle.settle_spec.specs.Items.{Item as ItemValue, in_turn, laid_out, end_of as end_behind, extent_around};
+ghost use Rattle.settle_spec.specs.Items.{PlacingItem as ItemValue, in_turn, laid_out, end_of as end_behind, extent_around};
 ghost use Rattle.settle_spec.specs.PlacingLaws.{HasLowerRank};
 ghost use Rattle.pci_base.specs.WindowKinds.{kind_value};
 ghost use Rattle.pci_first_fit.specs.Spots.{extent_value, IsExtent, AreRisingRanges};

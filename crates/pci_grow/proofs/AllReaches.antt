@@ -30,16 +30,16 @@ use Rattle.pci_first_fit.specs.Kept.{spec_part}
 use Rattle.pci_kept.specs.declared.region.Region.{Region}
 use Rattle.pci_kept.specs.declared.rules.Rules.{Rules}
 use Rattle.pci_kept.specs.Boards.{IsBoard}
-use Rattle.pci_kept.specs.Known.{asked_by, region_value, AreParts}
+use Rattle.pci_kept.specs.Known.{asked_by_rules, region_value, AreParts}
 use Rattle.pci_kept.specs.Passing.{AreStanding}
-use Rattle.pci_grow.specs.Reaches.{Given, StandsInRows, TellsSameOutside}
-use Rattle.pci_grow.specs.Rows.{AreRows}
+use Rattle.pci_grow.specs.Reaches.{ListsAndLines, StandsInRows, TellsSameOutside}
+use Rattle.pci_grow.specs.Rows.{AreRowsOfStanding}
 use Rattle.pci_first_fit.specs.Tables.{told, AreUntold}
 use Rattle.pci_grow.proofs.StandingRows.{row_at}
 use Rattle.pci_grow.proofs.Untold.{at_untold, untold_is}
 
-pub stand_in_rows : (q : Request) (s : System) (records : List Record) (given : Given) → IsBoard q s records given.lists → q.told.ranges ≡ given.told → AreLineRows given.lines → AreLines q.roots given.told given.lines → IsInProfile q.roots s
-    → (regions : List Region) → AreParts q s regions → (kept : List Kept) → AreStanding q s kept → (rows : List Region) → AreRows regions kept rows → StandsInRows q s records given rows
+pub stand_in_rows : (q : Request) (s : System) (records : List Record) (given : ListsAndLines) → IsBoard q s records given.lists → q.told.ranges ≡ given.told → AreLineRows given.lines → AreLines q.roots given.told given.lines → IsInProfile q.roots s
+    → (regions : List Region) → AreParts q s regions → (kept : List Kept) → AreStanding q s kept → (rows : List Region) → AreRowsOfStanding regions kept rows → StandsInRows q s records given rows
 stand_in_rows q s records given board told line_rows lines profile regions parts kept stand rows sorted = record {
   board = board;
   told_is = told;
@@ -49,7 +49,7 @@ stand_in_rows q s records given board told line_rows lines profile regions parts
   has = record { regions = regions; standing = kept; parts = parts; stand = stand; sorted = sorted };
 }
 
-module _ (q : Request) (s : System) (records : List Record) (given : Given) (rows : List Region) (is : StandsInRows q s records given rows) where
+module _ (q : Request) (s : System) (records : List Record) (given : ListsAndLines) (rows : List Region) (is : StandsInRows q s records given rows) where
   pub only_standing : (old new : List (ByKind (Option Range))) → AreUntold old → TellsSameOutside rows (length rows) old new
       → (k : ℕ) (f : Function) (class : CodeKind) → slice_get s k ≡ Some f → stands q s (window_part (kind_value class) f) ≡ false → told new k class ≡ None
   only_standing old new none same k f class at off =
@@ -66,14 +66,14 @@ module _ (q : Request) (s : System) (records : List Record) (given : Given) (row
 
 -- so it is of what is asked for of an admitted system
 module _ (a : Admission) (d : Demand) (rules : Rules) (admitted : IsAdmitted a) (told : List ToldRange) (told_is : d.told.ranges ≡ told) (lines : List Line) (line_rows : AreLineRows lines) (are : AreLines a.roots told lines) where
-  abbrev given : Given
+  abbrev given : ListsAndLines
   given = record { lists = d.lists; told = told; lines = lines }
 
   pub rows_of : (records : List Record) {values : List decoded.Record} → map record_value records ≡ values → HasRecords (system_in a) values
-      → (regions : List Region) → AreParts (asked_by a.roots d rules) (system_in a) regions → (kept : List Kept) → AreStanding (asked_by a.roots d rules) (system_in a) kept
-      → (rows : List Region) → AreRows regions kept rows → (slice : List Region) → slice ≡ rows → StandsInRows (asked_by a.roots d rules) (system_in a) records given slice
+      → (regions : List Region) → AreParts (asked_by_rules a.roots d rules) (system_in a) regions → (kept : List Kept) → AreStanding (asked_by_rules a.roots d rules) (system_in a) kept
+      → (rows : List Region) → AreRowsOfStanding regions kept rows → (slice : List Region) → slice ≡ rows → StandsInRows (asked_by_rules a.roots d rules) (system_in a) records given slice
   rows_of records same has regions parts kept stand rows sorted slice slice_is =
-      subst (StandsInRows (asked_by a.roots d rules) (system_in a) records given) (sym slice_is)
-      (stand_in_rows (asked_by a.roots d rules) (system_in a) records given
+      subst (StandsInRows (asked_by_rules a.roots d rules) (system_in a) records given) (sym slice_is)
+      (stand_in_rows (asked_by_rules a.roots d rules) (system_in a) records given
       record { has = lent (system_in a) records same has; system = admitted.system; nested = admitted.nested; same = refl }
       told_is line_rows are admitted.profile regions parts kept stand rows sorted)

@@ -25,10 +25,10 @@ use Rattle.pci_kept.specs.Tables.{index_of, stands_in}
 use Rattle.pci_kept.proofs.Indexes.{table_at}
 use Rattle.pci_kept.proofs.Rooms.{part_there}
 use Rattle.pci_first_fit.specs.declared.place.Places.{Places}
-use Rattle.pci_first_fit.specs.PlaceTables.{place_in, no_place, placed, ArePlaceless}
+use Rattle.pci_first_fit.specs.PlaceTables.{part_place, no_place, placed, ArePlaceless}
 use Rattle.pci_first_fit.specs.Tables.{untold}
 use Rattle.pci_grow.specs.There.{Tables, by_class, grown_in, with_own, grown_told, there_told}
-use Rattle.pci_grow.specs.Telling.{part_row, AreToldFrom, IsBegun}
+use Rattle.pci_grow.specs.Telling.{part_row_number, AreToldFrom, IsNothingGrown}
 use Rattle.pci_grow.proofs.Ranked.{at_index}
 use Rattle.pci_grow.proofs.Told.{row_high, level_root, level_off}
 use Rattle.pci_grow.proofs.Untold.{at_untold}
@@ -40,7 +40,7 @@ none_in (Window IoWindow) table k is = ap (λ (b : ByKind (Option Range)). optio
 none_in (Window MemoryWindow) table k is = ap (λ (b : ByKind (Option Range)). option_map decoded_range_of (by_class b MemoryWindow)) is
 none_in (Window PrefetchWindow) table k is = ap (λ (b : ByKind (Option Range)). option_map decoded_range_of (by_class b PrefetchWindow)) is
 
-no_places : (p : Part) → place_in no_place p ≡ None
+no_places : (p : Part) → part_place no_place p ≡ None
 no_places (Bar n) = refl
 no_places Rom = refl
 no_places (Window IoWindow) = refl
@@ -50,10 +50,10 @@ no_places (Window PrefetchWindow) = refl
 at_placeless : (table : List Places) → ArePlaceless table → (k : ℕ) (p : Part) → placed table k p ≡ None
 at_placeless table none k p = elim (cases_lt k (length table)) [
   | inl less ↦ none k no_place less p
-  | inr past ↦ ap (λ (x : Places). place_in x p) (get_or_past table k no_place past) ∙ no_places p
+  | inr past ↦ ap (λ (x : Places). part_place x p) (get_or_past table k no_place past) ∙ no_places p
 ]
 
-module _ (q : Request) (s : System) (system : IsSystem s) (nested : IsNested q.roots s) (t : Tables) (begun : IsBegun q s t) where
+module _ (q : Request) (s : System) (system : IsSystem s) (nested : IsNested q.roots s) (t : Tables) (begun : IsNothingGrown q s t) where
   grown_none : (r : FunctionPart) → grown_told s t r ≡ None
   grown_none r = none_in r.part t.grown (index_of s r.function.slot) (at_untold t.grown begun.untold (index_of s r.function.slot))
 
@@ -79,13 +79,13 @@ module _ (q : Request) (s : System) (system : IsSystem s) (nested : IsNested q.r
       ∙ false_from_ne_true (has_room_behind q s (record { function = f; part = Rom })) (λ holds. both_ways (stands q s (record { function = f; part = Rom })) off (stands_where_holds q s (record { function = f; part = Rom }) holds))
 
   -- each row is of a bus below 256
-  few_rows : (r : FunctionPart) → Contains (system_parts q s) r → part_row q r < 514
+  few_rows : (r : FunctionPart) → Contains (system_parts q s) r → part_row_number q r < 514
   few_rows r listed =
       let small = (slots_of s system r.function (part_of q s r listed).listed).0 in
       let high = row_high (level q r.function.slot.bus) (part_space r) in
       by (cases_Bool (is_root q.roots r.function.slot.bus)) small high
     where
-      by : (is_root q.roots r.function.slot.bus ≡ true) ⊎ (is_root q.roots r.function.slot.bus ≡ false) → r.function.slot.bus < 256 → part_row q r < 2 * level q r.function.slot.bus + 2 → part_row q r < 514
+      by : (is_root q.roots r.function.slot.bus ≡ true) ⊎ (is_root q.roots r.function.slot.bus ≡ false) → r.function.slot.bus < 256 → part_row_number q r < 2 * level q r.function.slot.bus + 2 → part_row_number q r < 514
       by (inl root) small high = let e = level_root q r.function.slot.bus root in omega (arith, high, e)
       by (inr off) small high = let e = level_off q r.function.slot.bus off in omega (arith, high, e, small)
 

@@ -28,7 +28,7 @@ use Rattle.pci_function.specs.declared.record.Record.{Record}
 use Rattle.pci_tree.proofs.Lifting.{same_bridge}
 use Rattle.pci_tree.proofs.Faces.{SameFace, face_of}
 use Rattle.pci_place.specs.Items.{no_function, function_in}
-use Rattle.pci_place.specs.Records.{IsRecordOf}
+use Rattle.pci_place.specs.Records.{IsRecordInSystem}
 use Rattle.pci_place.proofs.Records.{same_count}
 use Rattle.pci_first_fit.specs.declared.item.Item.{Item}
 use Rattle.pci_first_fit.specs.declared.item.Part.{Part as ItemPart}
@@ -40,7 +40,7 @@ use Rattle.pci_first_fit.specs.Lines.{row_of, told_row, rows_from, AreForwardRan
 use Rattle.pci_first_fit.specs.Own.{class_part}
 use Rattle.pci_first_fit.specs.Spots.{IsBetweenTaken, extent_range}
 use Rattle.pci_kept.proofs.HeldTables.{record_at}
-use Rattle.pci_grow.specs.Arounds.{AreInOrder, IsPutAt}
+use Rattle.pci_grow.specs.Arounds.{AreRisingAtBothEnds, IsPutAt}
 use Rattle.pci_grow.specs.Grounds.{is_new_window, Ground, IsBehindItem, AreOff, AreAlike}
 use Rattle.pci_grow.specs.Widest.{LiesInOne}
 use Rattle.pci_grow.proofs.AlikeTaken.{alike_same, alike_trans}
@@ -121,7 +121,7 @@ module _ (g : Ground) (i : Item) (held : List DecodedRange) (is : IsBehindItem g
   has_record = let count = same_count is.s g.records is.has in let less = inside in omega (arith, count, less)
 
   module _ (x : Record) (x_is : x ≡ get_or g.records i.function x) where
-    record_is : IsRecordOf is.s f x
+    record_is : IsRecordInSystem is.s f x
     record_is = record_at is.s g.records is.has i.function f at_f x x_is
 
     pub has_bridge : x.bridge ≡ None → ⊥
@@ -159,7 +159,7 @@ in_one xs r size a lies off =
       | inr over ↦ inr (omega (arith, over, last))
     ]
 
-pub forward_taken : (taken : List Range) → AreInOrder taken → AreForwardRanges taken
+pub forward_taken : (taken : List Range) → AreRisingAtBothEnds taken → AreForwardRanges taken
 forward_taken taken ordered = ordered.rising.forward
 
 pub forward_both : (xs ys : List Range) → AreForwardRanges xs → AreForwardRanges ys → AreForwardRanges (xs ++ ys)
@@ -222,7 +222,7 @@ module _ (taken more raw all : List Range) (raw_is : raw ≡ more ++ taken)
 
 -- ---- where such a place is put
 
-module _ (taken : List Range) (ordered : AreInOrder taken) (all : List Range) (cover : (r : Range) → Contains taken r → LiesInOne all r) (e : Extent) (s : Spot) (between : IsBetweenTaken all e s)
+module _ (taken : List Range) (ordered : AreRisingAtBothEnds taken) (all : List Range) (cover : (r : Range) → Contains taken r → LiesInOne all r) (e : Extent) (s : Spot) (between : IsBetweenTaken all e s)
     (index : ℕ) (bound : index ≤ length taken) (before : (k : ℕ) (d : Range) → 0 ≤ k → k < index → (get_or taken k d).first < s.at) (after : (k : ℕ) (d : Range) → index ≤ k → k < length taken → s.at ≤ (get_or taken k d).first) where
   off_each : (r : Range) → Contains taken r → (s.at + (e.size - 1) < r.first) ⊎ (r.last < s.at)
   off_each r has =
@@ -256,7 +256,7 @@ module _ (taken : List Range) (ordered : AreInOrder taken) (all : List Range) (c
         ];
   }
 
-pub put_off : (taken : List Range) → AreInOrder taken → (all : List Range) → ((r : Range) → Contains taken r → LiesInOne all r) → (e : Extent) (s : Spot) → IsBetweenTaken all e s
+pub put_off : (taken : List Range) → AreRisingAtBothEnds taken → (all : List Range) → ((r : Range) → Contains taken r → LiesInOne all r) → (e : Extent) (s : Spot) → IsBetweenTaken all e s
     → (slice : List Range) → slice ≡ taken → (index : ℕ) → index ≤ length slice → AllWithin (λ (r : Range). r.first < s.at) slice 0 index → AllWithin (λ (r : Range). s.at ≤ r.first) slice index (length slice)
     → (new : List Range) → new ≡ insert taken index (extent_range e s.at) → IsPutAt taken new e s.at
 put_off taken ordered all cover e s between slice same index bound before after new put = record {

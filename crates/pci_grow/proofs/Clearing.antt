@@ -17,7 +17,7 @@ use Rattle.settle_spec.specs.Lists.{Request}
 use Rattle.settle_spec.specs.Parts.{FunctionPart, system_parts, addresses}
 use Rattle.settle_spec.specs.Stands.{are_beside, stands}
 use Rattle.settle_spec.specs.Items.{has_room_behind}
-use Rattle.settle_spec.specs.Growth.{range_list, is_before, is_off, is_clear, there, comes_to, takes}
+use Rattle.settle_spec.specs.Growth.{range_list, is_lower_beside, is_off, is_clear, there, comes_to, takes_growth}
 use Rattle.settle_spec.proofs.Grown.{part_holds}
 use Rattle.settle_spec.proofs.Reaching.{LiesIn, ends_apart, within_gives}
 use Rattle.settle_laws.proofs.Standing.{part_of}
@@ -27,8 +27,8 @@ use Rattle.pci_base.specs.declared.range.Range.{Range}
 use Rattle.pci_base.specs.Ranges.{decoded_range_of}
 use Rattle.pci_kept.specs.declared.region.Region.{Region}
 use Rattle.pci_kept.specs.Known.{region_value}
-use Rattle.pci_grow.specs.There.{in_row, is_past, later_of}
-use Rattle.pci_grow.specs.Telling.{AreStandingRows, as_it_stands, IsLatest, there_among}
+use Rattle.pci_grow.specs.There.{in_row, is_past, later_range_end}
+use Rattle.pci_grow.specs.Telling.{AreStandingRows, range_as_it_stands, IsLatest, there_among}
 use Rattle.pci_grow.proofs.InRows.{of_row, known_in, in_first, before_ends, before_done, v_known, v_row, part_in_row}
 use Rattle.pci_grow.proofs.Told.{region_range, row_beside}
 
@@ -65,11 +65,11 @@ later_some rs e r is = (
         let h = ltb-false e r.last more in
         (t, Contains-append_left rs (r ∷ []) t old.1, omega (arith, at, h))
 
-pub latest_more : (rs : List DecodedRange) (end : Option ℕ) (o : Option Range) (there : Option DecodedRange) → there ≡ option_map decoded_range_of o → IsLatest rs end → IsLatest (rs ++ range_list there) (later_of end o)
+pub latest_more : (rs : List DecodedRange) (end : Option ℕ) (o : Option Range) (there : Option DecodedRange) → there ≡ option_map decoded_range_of o → IsLatest rs end → IsLatest (rs ++ range_list there) (later_range_end end o)
 latest_more rs end None there is was =
-    subst (λ x. IsLatest (rs ++ range_list x) (later_of end None)) (sym is) (subst (λ xs. IsLatest xs (later_of end None)) (sym (append-nil rs)) (same end was))
+    subst (λ x. IsLatest (rs ++ range_list x) (later_range_end end None)) (sym is) (subst (λ xs. IsLatest xs (later_range_end end None)) (sym (append-nil rs)) (same end was))
   where
-    same : (end : Option ℕ) → IsLatest rs end → IsLatest rs (later_of end None)
+    same : (end : Option ℕ) → IsLatest rs end → IsLatest rs (later_range_end end None)
     same None was = was
     same (Some e) was = was
 latest_more rs None (Some r) there is was =
@@ -81,14 +81,14 @@ latest_more rs (Some e) (Some r) there is was =
 -- ---- what is there holds its own addresses
 
 module _ (q : Request) (s : System) (system : IsSystem s) (nested : IsNested q.roots s) where
-  pub step : (r : FunctionPart) → Contains (system_parts q s) r → there q s r ≡ (if takes q s r then comes_to q s r else as_it_stands q s r)
+  pub step : (r : FunctionPart) → Contains (system_parts q s) r → there q s r ≡ (if takes_growth q s r then comes_to q s r else range_as_it_stands q s r)
   step r listed = there_by_bus q s system nested r listed
 
   pub comes_hold : (r : FunctionPart) (x : DecodedRange) → comes_to q s r ≡ Some x → LiesIn (addresses r) x
   comes_hold r x is = within_gives (addresses r) x (part_holds q s r.function r.part x is)
 
   pub there_holds : (r : FunctionPart) (x : DecodedRange) → Contains (system_parts q s) r → there q s r ≡ Some x → LiesIn (addresses r) x
-  there_holds r x listed is = by (takes q s r) (has_room_behind q s r) (sym (step r listed) ∙ is)
+  there_holds r x listed is = by (takes_growth q s r) (has_room_behind q s r) (sym (step r listed) ∙ is)
     where
       by : (b holds : Bool) → (if b then comes_to q s r else if holds then Some (addresses r) else None) ≡ Some x → LiesIn (addresses r) x
       by true holds e = comes_hold r x e
@@ -111,7 +111,7 @@ module _ (q : Request) (s : System) (system : IsSystem s) (nested : IsNested q.r
     before = there_among q s (take i row)
 
     -- what is there before is gathered
-    gathered : (t : FunctionPart) (y : DecodedRange) → Contains (system_parts q s) t → is_before q t v ≡ true → there q s t ≡ Some y → Contains before y
+    gathered : (t : FunctionPart) (y : DecodedRange) → Contains (system_parts q s) t → is_lower_beside q t v ≡ true → there q s t ≡ Some y → Contains before y
     gathered t y listed is_first is =
         let stand : stands q s t ≡ true = true_from_ne_false (stands q s t) (λ off. none-some y (sym (unstanding q s system nested t (part_of q s t listed).listed off) ∙ is)) in
         let made : IsMade value (take i row) t = in_map_to value (take i row) t (before_done q s system nested rows are number i r within at t listed stand is_first) in
@@ -122,7 +122,7 @@ module _ (q : Request) (s : System) (system : IsSystem s) (nested : IsNested q.r
     record IsGathered (y : DecodedRange) : Type 0 where
       t : FunctionPart
       listed : Contains (system_parts q s) t
-      first : is_before q t v ≡ true
+      first : is_lower_beside q t v ≡ true
       is : there q s t ≡ Some y
       low : (addresses t).first < (addresses v).first
 
@@ -157,16 +157,16 @@ module _ (q : Request) (s : System) (system : IsSystem s) (nested : IsNested q.r
         omega (arith, forward, first, last)
 
     abbrev is_clear_of : DecodedRange → Bool
-    is_clear_of g = list_all (λ t. not (is_before q t v) || is_off g (there q s t)) (system_parts q s)
+    is_clear_of g = list_all (λ t. not (is_lower_beside q t v) || is_off g (there q s t)) (system_parts q s)
 
     off_all : (g : DecodedRange) → ((y : DecodedRange) → Contains before y → y.last < g.first) → is_clear_of g ≡ true
     off_all g below =
-        all_from (λ t. not (is_before q t v) || is_off g (there q s t)) (system_parts q s) (λ t listed. elim (cases_Bool (is_before q t v)) [
-          | inl first ↦ or_right (not (is_before q t v)) (is_off g (there q s t)) (by t listed first (there q s t) refl)
-          | inr other ↦ or_left (not (is_before q t v)) (is_off g (there q s t)) (ap not other)
+        all_from (λ t. not (is_lower_beside q t v) || is_off g (there q s t)) (system_parts q s) (λ t listed. elim (cases_Bool (is_lower_beside q t v)) [
+          | inl first ↦ or_right (not (is_lower_beside q t v)) (is_off g (there q s t)) (by t listed first (there q s t) refl)
+          | inr other ↦ or_left (not (is_lower_beside q t v)) (is_off g (there q s t)) (ap not other)
         ])
       where
-        by : (t : FunctionPart) → Contains (system_parts q s) t → is_before q t v ≡ true → (o : Option DecodedRange) → there q s t ≡ o → is_off g (there q s t) ≡ true
+        by : (t : FunctionPart) → Contains (system_parts q s) t → is_lower_beside q t v ≡ true → (o : Option DecodedRange) → there q s t ≡ o → is_off g (there q s t) ≡ true
         by t listed first None none = ap (is_off g) none
         by t listed first (Some y) is =
             ap (is_off g) is
@@ -187,7 +187,7 @@ module _ (q : Request) (s : System) (system : IsSystem s) (nested : IsNested q.r
             let y : DecodedRange = last.0 in
             let at_end : y.last ≡ e = last.2 in
             let u : IsGathered y = from_gathered y last.1 in
-            let off = all_gives (λ t. not (is_before q t v) || is_off (decoded_range_of g) (there q s t)) (system_parts q s) all u.t u.listed in
+            let off = all_gives (λ t. not (is_lower_beside q t v) || is_off (decoded_range_of g) (there q s t)) (system_parts q s) all u.t u.listed in
             let apart : ranges_are_apart (decoded_range_of g) y ≡ true =
             sym (ap (λ b. not b || is_off (decoded_range_of g) (there q s u.t)) u.first ∙ ap (is_off (decoded_range_of g)) u.is) ∙ off in
             let own = there_holds u.t y u.listed u.is in

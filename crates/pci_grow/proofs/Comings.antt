@@ -13,7 +13,7 @@ use Rattle.settle_spec.specs.Lines.{lines_on, lines_behind, taken_for}
 use Rattle.settle_spec.specs.Lists.{Request}
 use Rattle.settle_spec.specs.Parts.{FunctionPart, addresses, class_in, are_same_space}
 use Rattle.settle_spec.specs.Stands.{part_space, window_part}
-use Rattle.settle_spec.specs.Items.{Item as ItemValue, Placed, Placing, AllPlaced, Lacks, are_placed, taken_by, bus_items, new_window, place_each}
+use Rattle.settle_spec.specs.Items.{PlacingItem as ItemValue, Placed, Placing, AllPlaced, Lacks, are_placed, taken_by, bus_items, new_window, place_each}
 use Rattle.settle_spec.specs.Reach.{reach}
 use Rattle.settle_spec.specs.Growth.{place_around, grown_to, grown_around, there_on, taken_around, window_comes_to}
 use Rattle.settle_spec.proofs.SameTaken.{HaveSame}

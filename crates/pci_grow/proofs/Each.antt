@@ -8,7 +8,7 @@ use Rattle.pci_spec.specs.Decoded.{Range as DecodedRange}
 use Rattle.pci_spec.proofs.Members.{in_head, in_tail}
 use Rattle.plan_spec.specs.Place.{range_from}
 use Rattle.settle_spec.specs.FirstPlace.{Extent as ExtentValue}
-use Rattle.settle_spec.specs.Items.{Item as ItemValue, Placed, AllPlaced, and_placed, place_next, taken_by, place_each}
+use Rattle.settle_spec.specs.Items.{PlacingItem as ItemValue, Placed, AllPlaced, and_placed, place_next, taken_by, place_each}
 use Rattle.settle_spec.specs.Growth.{place_around}
 use Rattle.settle_spec.proofs.SameTaken.{HaveSame}
 use Rattle.pci_base.specs.declared.range.Range.{Range}
@@ -20,7 +20,7 @@ use Rattle.pci_first_fit.specs.Placings.{at_places, lacks_first, placing_of}
 use Rattle.pci_first_fit.specs.Turns.{HasExtent}
 use Rattle.pci_first_fit.proofs.AllPlaced.{and_all, all_append, all_lack, all_placed, at_append, put_same, drop_all, take_table}
 use Rattle.pci_grow.specs.declared.around.Around.{Around}
-use Rattle.pci_grow.specs.Arounds.{find_around, AreInOrder, IsPutAt, HaveExtents, AreEndingAll, HaveBehind}
+use Rattle.pci_grow.specs.Arounds.{find_around, AreRisingAtBothEnds, IsPutAt, HaveExtents, AreEndingAll, HaveBehind}
 use Rattle.pci_grow.specs.Grounds.{Ground, IsBehindItem, AreAlike}
 use Rattle.pci_grow.proofs.AlikeTaken.{alike_same, alike_append, alike_cons, alike_around}
 
@@ -51,13 +51,13 @@ module _ (behind : ItemValue → List DecodedRange) (a : Around) where
 -- ---- the walk over the items
 
 pub record IsEachSoFar (a : Around) (g : Ground) (start : List DecodedRange) (items : List Item) (taken : List Range) (places : List ℕ) (n : ℕ) : Type 0 where
-  pub listed : AreInOrder taken
+  pub listed : AreRisingAtBothEnds taken
   pub count : length places ≡ length items
   pub ends : AreEndingAll items places n
   pub so_far : (values : List ItemValue) (behind : ItemValue → List DecodedRange) → HaveExtents values items → HaveBehind g behind values items
       → place_each (find_around behind a) start values ≡ and_all (at_places (take n values) (take n places)) (place_each (find_around behind a) (map decoded_range_of taken) (drop n values))
 
-pub each_none : (a : Around) (g : Ground) (items : List Item) (taken : List Range) (places : List ℕ) → AreInOrder taken → length places ≡ length items → IsEachSoFar a g (map decoded_range_of taken) items taken places 0
+pub each_none : (a : Around) (g : Ground) (items : List Item) (taken : List Range) (places : List ℕ) → AreRisingAtBothEnds taken → length places ≡ length items → IsEachSoFar a g (map decoded_range_of taken) items taken places 0
 each_none a g items taken places listed count = record {
   listed = listed;
   count = count;
@@ -140,7 +140,7 @@ module _ (a : Around) (g : Ground) (start : List DecodedRange) (items : List Ite
 
 module _ (a : Around) (g : Ground) (start : List DecodedRange) (items : List Item) (taken : List Range) (places : List ℕ) (n : ℕ) (is : IsEachSoFar a g start items taken places n) where
   pub each_next : (within : n < length items) (c : Item) → All HasExtent items → (at : ℕ) → IsFound a g taken (get_or items n c) (Some at)
-      → (new : List Range) → AreInOrder new → IsPutAt taken new (get_or items n c).extent at → IsEachSoFar a g start items new (set places n at) (n + 1)
+      → (new : List Range) → AreRisingAtBothEnds new → IsPutAt taken new (get_or items n c).extent at → IsEachSoFar a g start items new (set places n at) (n + 1)
   each_next within c lawful at found new listed put = record {
     listed = listed;
     count = length-set places n at ∙ is.count;

@@ -5,7 +5,7 @@ use Rattle.std.proofs.lemmas.Bool.{cases_Bool, cases_lt, both_ways, eqb-true, eq
 use Rattle.std.proofs.lemmas.List.{length-set, get_or-set_same, get_or-set_other, get_or_default}
 use Rattle.pci_base.specs.declared.range.Range.{Range}
 use Rattle.pci_first_fit.specs.Spots.{FirstsRise}
-use Rattle.pci_grow.specs.RoomRows.{LastsRise}
+use Rattle.pci_grow.specs.LastPlaces.{LastsRise}
 
 -- no range before an index is the window
 pub record IsPast (row old : List Range) (window : Range) (index : ℕ) : Type 0 where

@@ -23,8 +23,8 @@ use Rattle.pci_tree.specs.Roots.{buses_of}
 use Rattle.pci_grow.specs.declared.board.Board.{Board}
 use Rattle.pci_grow.specs.declared.board.BridgeWindow.{BridgeWindow}
 use Rattle.pci_grow.specs.declared.board.Facts.{Facts}
-use Rattle.pci_grow.specs.RoomRows.{level, row_number, row_at}
-use Rattle.pci_grow.specs.Board.{IsWindow, bridge_of, class_of, AreFacts, Room, told_then, IsTold, IsEnded}
+use Rattle.pci_grow.specs.RoomRows.{bus_level, row_number, row_at}
+use Rattle.pci_grow.specs.Board.{IsWindow, bridge_of_window, window_class, AreFacts, Room, told_then, IsRoomOfKept, IsEnded}
 use Rattle.pci_grow.specs.Endings.{IsEndedAs, IsOverOne}
 use Rattle.pci_grow.proofs.Wishing.{same_range, ended_same}
 use Rattle.pci_grow.proofs.Weights.{all_same}
@@ -74,12 +74,12 @@ module _ (q : Request) (s : System) (c : WindowKind) (b : Function) (last : ℕ)
 
 -- ---- the steps
 
-module _ (q : Request) (s : System) (k : Kept) (b : Board) (old : Room) (told_old : IsTold q s k b old) (w : BridgeWindow) (window : IsWindow s w) (d last : ℕ) where
+module _ (q : Request) (s : System) (k : Kept) (b : Board) (old : Room) (told_old : IsRoomOfKept q s k b old) (w : BridgeWindow) (window : IsWindow s w) (d last : ℕ) where
   abbrev f : Function
-  f = bridge_of s w
+  f = bridge_of_window s w
 
   abbrev c : WindowKind
-  c = class_of w
+  c = window_class w
 
   abbrev whole : Option Kept
   whole = ending_within q s c d f last k
@@ -108,13 +108,13 @@ module _ (q : Request) (s : System) (k : Kept) (b : Board) (old : Room) (told_ol
       at_enough low =
           subst (λ o. IsEndedAs q s b o true old old) (sym (step (Some range) is ∙ if_enough q s c f last k above (decoded_range_of range) low)) (refl, told_old)
 
-      module _ (more : range.last < last) (facts : Facts) (are : AreFacts q c f facts) (row : ℕ) (row_of : row ≡ row_number (level (buses_of b.roots.now) facts.bus) (window_space c)) (end : ℕ) (end_is : end ≡ end_over c (decoded_range_of range) last)
+      module _ (more : range.last < last) (facts : Facts) (are : AreFacts q c f facts) (row : ℕ) (row_of : row ≡ row_number (bus_level (buses_of b.roots.now) facts.bus) (window_space c)) (end : ℕ) (end_is : end ≡ end_over c (decoded_range_of range) last)
           (off : Bool) (off_is : off ≡ is_off_lines q s c f (gained (decoded_range_of range) end)) where
         abbrev ended : DecodedRange
         ended = ending_at (decoded_range_of range) end
 
-        row_is : row ≡ row_number (level q.roots f.slot.bus) (window_space c)
-        row_is = row_of ∙ ap (λ n. row_number (level (buses_of b.roots.now) n) (window_space c)) are.bus ∙ sym (ap (λ roots. row_number (level roots f.slot.bus) (window_space c)) told_old.asked.roots)
+        row_is : row ≡ row_number (bus_level q.roots f.slot.bus) (window_space c)
+        row_is = row_of ∙ ap (λ n. row_number (bus_level (buses_of b.roots.now) n) (window_space c)) are.bus ∙ sym (ap (λ roots. row_number (bus_level roots f.slot.bus) (window_space c)) told_old.asked.roots)
 
         small : f.slot.bus < 256
         small = (All-contains IsFunction s f told_old.asked.system.each listed).slot.0
@@ -131,7 +131,7 @@ module _ (q : Request) (s : System) (k : Kept) (b : Board) (old : Room) (told_ol
             ∙ ap (λ x. not (is_fixed_part q (window_part c f)) && (nat_le end x && list_all (λ (r : Range). ranges_are_apart (gained (decoded_range_of range) end) (decoded_range_of r)) (row_at old.rows row))) are.highest
             ∙ ap (λ n. not (is_fixed_part q (window_part c f)) && (nat_le end (highest_in c f.probe) && list_all (λ (r : Range). ranges_are_apart (gained (decoded_range_of range) end) (decoded_range_of r)) (row_at old.rows n))) row_is
             ∙ ap (λ x. not (is_fixed_part q (window_part c f)) && (nat_le end (highest_in c f.probe) && x))
-            (all_same (row_at old.rows (row_number (level q.roots f.slot.bus) (window_space c))) (there_then q s k (window_space c) f.slot.bus) (told_old.rows (window_space c) f.slot.bus small) (ranges_are_apart (gained (decoded_range_of range) end)))
+            (all_same (row_at old.rows (row_number (bus_level q.roots f.slot.bus) (window_space c))) (there_then q s k (window_space c) f.slot.bus) (told_old.rows (window_space c) f.slot.bus small) (ranges_are_apart (gained (decoded_range_of range) end)))
 
         can_is : can_here ≡ can_end_at q s c f k (decoded_range_of range) end
         can_is =

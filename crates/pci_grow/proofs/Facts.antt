@@ -22,13 +22,13 @@ use Rattle.pci_tree.proofs.Lifting.{record_for, same_bridge, same_secondary, sam
 use Rattle.pci_tree.proofs.RegionParts.{same_bridge_of}
 use Rattle.pci_tree.proofs.Ways.{no_bridge, some_bridge}
 use Rattle.pci_place.specs.Items.{no_function, function_in}
-use Rattle.pci_place.specs.Records.{IsRecordOf}
+use Rattle.pci_place.specs.Records.{IsRecordInSystem}
 use Rattle.pci_place.proofs.Records.{function_read, same_count}
 use Rattle.pci_grow.specs.declared.board.Board.{Board}
 use Rattle.pci_grow.specs.declared.board.BridgeWindow.{BridgeWindow}
 use Rattle.pci_grow.specs.declared.board.Facts.{Facts}
 use Rattle.pci_first_fit.specs.NewWindows.{highest_by}
-use Rattle.pci_grow.specs.Board.{IsAsked, bridge_of, class_of, AreFacts, IsOver}
+use Rattle.pci_grow.specs.Board.{IsAsked, bridge_of_window, window_class, AreFacts, IsBridgeIndexOver}
 use Rattle.pci_first_fit.proofs.Highest.{highest_is}
 
 -- what stands at an index
@@ -59,29 +59,29 @@ module _ (q : Request) (s : System) (b : Board) (asked : IsAsked q s b) where
   long = same_count s records asked.has
 
   -- the function at the index of a record
-  pub record_at : (k : ℕ) (r : Record) → k < length records → r ≡ get_or records k r → IsRecordOf s (function_in s k) r
+  pub record_at : (k : ℕ) (r : Record) → k < length records → r ≡ get_or records k r → IsRecordInSystem s (function_in s k) r
   record_at k r within read =
       let found = function_read s records refl asked.has k r within read in
-      subst (λ f. IsRecordOf s f r) (sym (get_or_from_slice_get s k found.f no_function found.at)) found.is
+      subst (λ f. IsRecordInSystem s f r) (sym (get_or_from_slice_get s k found.f no_function found.at)) found.is
 
   -- the bus that it is on
   pub bus_at : (k : ℕ) (r : Record) → k < length records → r ≡ get_or records k r → r.slot.bus ≡ (function_in s k).slot.bus
   bus_at k r within read = ap (λ x. x.bus) (same_slot_of r (function_in s k) (record_at k r within read).value)
 
   pub facts_are : (w : BridgeWindow) (r : Record) → w.bridge < length records → r ≡ get_or records w.bridge r → (d : Bridge) → r.bridge ≡ Some d → (facts : Facts)
-      → facts.bus ≡ r.slot.bus → facts.behind ≡ d.secondary → facts.there ≡ is_some (window_of d.windows (class_of w)) → facts.fixed ≡ get_or b.fixed.now w.bridge false → facts.highest ≡ highest_by (class_of w) d.windows
-      → AreFacts q (class_of w) (bridge_of s w) facts
+      → facts.bus ≡ r.slot.bus → facts.behind ≡ d.secondary → facts.there ≡ is_some (window_of d.windows (window_class w)) → facts.fixed ≡ get_or b.fixed.now w.bridge false → facts.highest ≡ highest_by (window_class w) d.windows
+      → AreFacts q (window_class w) (bridge_of_window s w) facts
   facts_are w r within read d there facts bus behind is_there fixed highest =
       let is = record_at w.bridge r within read in
-      let f = bridge_of s w in
+      let f = bridge_of_window s w in
       let size = long in
       record {
         bridge = sym (same_bridge r f is.value) ∙ ap is_some there;
         bus = bus ∙ ap (λ x. x.bus) (same_slot_of r f is.value);
         behind = behind ∙ ap (λ (x : decoded.Bridge). x.secondary) (same_bridge_of r f d is.value there);
-        there = is_there ∙ there_is r f d is.decodable is.value there (class_of w);
+        there = is_there ∙ there_is r f d is.decodable is.value there (window_class w);
         fixed = fixed ∙ asked.fixed w.bridge (omega (arith, within, size));
-        highest = highest ∙ highest_is r f d is.value there (class_of w);
+        highest = highest ∙ highest_is r f d is.value there (window_class w);
       }
 
   pub slot_at : (k : ℕ) (r : Record) → k < length records → r ≡ get_or records k r → r.slot ≡ (function_in s k).slot
@@ -89,17 +89,17 @@ module _ (q : Request) (s : System) (b : Board) (asked : IsAsked q s b) where
 
   -- the buses behind a bridge
   pub buses_are : (w : BridgeWindow) (r : Record) → w.bridge < length records → r ≡ get_or records w.bridge r → (d : Bridge) → r.bridge ≡ Some d
-      → (secondary (bridge_of s w) ≡ d.secondary) × (subordinate (bridge_of s w) ≡ d.subordinate)
+      → (secondary (bridge_of_window s w) ≡ d.secondary) × (subordinate (bridge_of_window s w) ≡ d.subordinate)
   buses_are w r within read d there =
       let is = record_at w.bridge r within read in
-      let same = same_bridge_of r (bridge_of s w) d is.value there in
+      let same = same_bridge_of r (bridge_of_window s w) d is.value there in
       (sym (ap (λ (x : decoded.Bridge). x.secondary) same), sym (ap (λ (x : decoded.Bridge). x.subordinate) same))
 
   -- a function without bridge numbers is no bridge
-  pub no_facts : (w : BridgeWindow) (r : Record) → w.bridge < length records → r ≡ get_or records w.bridge r → r.bridge ≡ None → is_bridge (bridge_of s w) ≡ false
-  no_facts w r within read none = sym (same_bridge r (bridge_of s w) (record_at w.bridge r within read).value) ∙ ap is_some none
+  pub no_facts : (w : BridgeWindow) (r : Record) → w.bridge < length records → r ≡ get_or records w.bridge r → r.bridge ≡ None → is_bridge (bridge_of_window s w) ≡ false
+  no_facts w r within read none = sym (same_bridge r (bridge_of_window s w) (record_at w.bridge r within read).value) ∙ ap is_some none
 
-  pub over_of : (bus : ℕ) → bus < 256 → (o : Option ℕ) → get_or b.over.now bus None ≡ o → IsOver s bus o
+  pub over_of : (bus : ℕ) → bus < 256 → (o : Option ℕ) → get_or b.over.now bus None ≡ o → IsBridgeIndexOver s bus o
   over_of bus small None at = elim (bridge_over s bus) as (λ (o : Option Function). bridge_over s bus ≡ o → o ≡ None) [
     | None ↦ λ e. refl
     | Some f ↦ λ e.

@@ -27,9 +27,9 @@ use Rattle.pci_base.specs.Space.{space_of}
 use Rattle.pci_grow.specs.declared.board.Board.{Board}
 use Rattle.pci_grow.specs.declared.fill.Located.{Located}
 use Rattle.pci_first_fit.specs.Spots.{FirstsRise}
-use Rattle.pci_grow.specs.RoomRows.{level, row_number, row_at, total, AreSameBut}
+use Rattle.pci_grow.specs.RoomRows.{bus_level, row_number, row_at, total, AreSameBut}
 use Rattle.pci_first_fit.specs.Tables.{untold, told, AreUntold}
-use Rattle.pci_grow.specs.Board.{IsAsked, bridge_of, class_of, IsTold}
+use Rattle.pci_grow.specs.Board.{IsAsked, bridge_of_window, window_class, IsRoomOfKept}
 use Rattle.pci_grow.specs.Located.{located_weight, located_total, told_weight, function_weight, windows_total, ArePut, IsPushed, AreSorted, AreOwn, AreWindowsThen}
 use Rattle.pci_grow.proofs.Walks.{nothing_left}
 use Rattle.pci_grow.proofs.Rooms.{row_of, row_put, row_rest, rows_long}
@@ -45,7 +45,7 @@ pub record ArePutTo (roots : List ℕ) (parts : List Located) (old new : List (L
       → total weight (row_at new n) + located_total roots weight n (drop index parts) ≡ total weight (row_at old n) + located_total roots weight n parts
 
 pub put_next : (roots : List ℕ) (parts : List Located) (old new next : List (List Range)) (index row : ℕ) → ArePutTo roots parts old new index → index < length parts → (d : Located)
-    → row ≡ row_number (level roots (get_or parts index d).bus) (space_of (get_or parts index d).space) → length next ≡ length new → IsPushed new next row (get_or parts index d).range
+    → row ≡ row_number (bus_level roots (get_or parts index d).bus) (space_of (get_or parts index d).space) → length next ≡ length new → IsPushed new next row (get_or parts index d).range
     → ArePutTo roots parts old next (index + 1)
 put_next roots parts old new next index row was within d row_is count pushed = record {
   count = count ∙ was.count;
@@ -53,15 +53,15 @@ put_next roots parts old new next index row was within d row_is count pushed = r
       let p : Located = get_or parts index d in
       let before = was.put n small weight in
       let left = at_drop_more (located_total roots weight n) parts index d within ∙ sum_by-cons (located_weight roots weight n) p (drop (index + 1) parts) in
-      elim (cases_Bool (row_number (level roots p.bus) (space_of p.space) == n)) [
+      elim (cases_Bool (row_number (bus_level roots p.bus) (space_of p.space) == n)) [
         | inl here ↦
-            let same : row ≡ n = row_is ∙ eqb-true (row_number (level roots p.bus) (space_of p.space)) n here in
+            let same : row ≡ n = row_is ∙ eqb-true (row_number (bus_level roots p.bus) (space_of p.space)) n here in
             let own = ap {B = ℕ} (λ b. cond b (weight (decoded_range_of p.range)) 0) here in
             let added = subst (λ m. total weight (row_at next m) ≡ total weight (row_at new m) + weight (decoded_range_of p.range)) same (pushed.added weight) in
             omega (arith, before, left, own, added)
         | inr other ↦
             let own = ap {B = ℕ} (λ b. cond b (weight (decoded_range_of p.range)) 0) other in
-            let kept = ap (total weight) (pushed.rest n (λ same. both_ways (row_number (level roots p.bus) (space_of p.space) == n) other (eq-eqb (row_number (level roots p.bus) (space_of p.space)) n (sym row_is ∙ sym same)))) in
+            let kept = ap (total weight) (pushed.rest n (λ same. both_ways (row_number (bus_level roots p.bus) (space_of p.space) == n) other (eq-eqb (row_number (bus_level roots p.bus) (space_of p.space)) n (sym row_is ∙ sym same)))) in
             omega (arith, before, left, own, kept)
       ];
 }
@@ -165,15 +165,15 @@ windows_more roots s table weight n count =
 -- one more window
 pub window_added : (roots : List ℕ) (weight : DecodedRange → ℕ) (n : ℕ) (old new : List Located) (p : Located) (bus : ℕ) (space : Space) (o : Option Range)
     → new ≡ old ++ p ∷ [] → p.bus ≡ bus → space_of p.space ≡ space → Some p.range ≡ o
-    → located_total roots weight n new ≡ located_total roots weight n old + told_weight weight (row_number (level roots bus) space) n o
+    → located_total roots weight n new ≡ located_total roots weight n old + told_weight weight (row_number (bus_level roots bus) space) n o
 window_added roots weight n old new p bus space o more bus_is space_is range_is =
     let whole = ap (located_total roots weight n) more in
     let sums = sum_by-append (located_weight roots weight n) old (p ∷ []) in
     let last : located_total roots weight n (p ∷ []) ≡ 0 + located_weight roots weight n p = refl in
-    let same : located_weight roots weight n p ≡ told_weight weight (row_number (level roots bus) space) n o =
-    ap (λ m. cond (row_number (level roots m) (space_of p.space) == n) (weight (decoded_range_of p.range)) 0) bus_is
-    ∙ ap (λ x. cond (row_number (level roots bus) x == n) (weight (decoded_range_of p.range)) 0) space_is
-    ∙ ap (told_weight weight (row_number (level roots bus) space) n) range_is in
+    let same : located_weight roots weight n p ≡ told_weight weight (row_number (bus_level roots bus) space) n o =
+    ap (λ m. cond (row_number (bus_level roots m) (space_of p.space) == n) (weight (decoded_range_of p.range)) 0) bus_is
+    ∙ ap (λ x. cond (row_number (bus_level roots bus) x == n) (weight (decoded_range_of p.range)) 0) space_is
+    ∙ ap (told_weight weight (row_number (bus_level roots bus) space) n) range_is in
     omega (arith, whole, sums, last, same)
 
 -- ---- the whole
@@ -201,7 +201,7 @@ put_from roots others parts those old before after roots_are parts_are old_is pu
 pub sorted_from : (old before after : List (List Range)) → before ≡ old → AreSorted before after → AreSorted old after
 sorted_from old before after old_is is_sorted = subst (λ x. AreSorted x after) old_is is_sorted
 
-level_low : (roots : List ℕ) (bus : ℕ) → bus < 256 → level roots bus < 257
+level_low : (roots : List ℕ) (bus : ℕ) → bus < 256 → bus_level roots bus < 257
 level_low roots bus small = elim (is_root roots bus) as (λ b. cond b 0 (bus + 1) < 257) [ true ↦ omega arith | false ↦ omega (arith, small) ]
 
 row_low : (space : Space) (m : ℕ) → m < 257 → row_number m space < 514
@@ -226,15 +226,15 @@ module _ (q : Request) (s : System) (k : Kept) (b : Board) (asked : IsAsked q s 
   nothing_wished : (w : BridgeWindow) → told wished w.bridge w.class ≡ None
   nothing_wished w = ap (λ e. by_kind e w.class) (entry w.bridge) ∙ untold_none w.class
 
-  pub told_first : (rising : List Bool) → IsTold q s k b (record { wished = wished; rows = sorted; rising = rising })
+  pub told_first : (rising : List Bool) → IsRoomOfKept q s k b (record { wished = wished; rows = sorted; rising = rising })
   told_first rising = record {
     asked = asked;
     windows = tells.windows;
-    wished = λ w within. ap (option_map decoded_range_of) (nothing_wished w) ∙ sym (tells.unwished (window_part (class_of w) (bridge_of s w)));
-    there = λ w window r has. tells.there w window r (sym (ap (λ o. option_or o (place_then q s k (window_part (class_of w) (bridge_of s w)))) (tells.unwished (window_part (class_of w) (bridge_of s w)))) ∙ has);
+    wished = λ w within. ap (option_map decoded_range_of) (nothing_wished w) ∙ sym (tells.unwished (window_part (window_class w) (bridge_of_window s w)));
+    there = λ w window r has. tells.there w window r (sym (ap (λ o. option_or o (place_then q s k (window_part (window_class w) (bridge_of_window s w)))) (tells.unwished (window_part (window_class w) (bridge_of_window s w)))) ∙ has);
     rows = λ space bus small weight.
-        let n = row_number (level q.roots bus) space in
-        let low = row_low space (level q.roots bus) (level_low q.roots bus small) in
+        let n = row_number (bus_level q.roots bus) space in
+        let low = row_low space (bus_level q.roots bus) (level_low q.roots bus small) in
         let all = located_are q s k b.windows.now tells weight space bus own parts are small (windows weight n) in
         let first = put_own n low weight in
         let second = put_windows n low weight in

@@ -3,7 +3,8 @@ use Rattle.std.proofs.Common.{◌≡◌, ℕ, ◌+◌, ◌-◌, inl, inr, List, 
 use Rattle.std.proofs.lemmas.Bool.{cases_lt, both_ways}
 use Rattle.std.proofs.lemmas.List.{get_or_append_left, get_or-append_right, get_or_past, length-append}
 use Rattle.pci_base.specs.declared.range.Range.{Range}
-use Rattle.pci_grow.specs.RoomRows.{row_at, LastsRise}
+use Rattle.pci_grow.specs.RoomRows.{row_at}
+use Rattle.pci_grow.specs.LastPlaces.{LastsRise}
 
 pub record AreFlagsTo (rows : List (List Range)) (flags : List Bool) (index : ℕ) : Type 0 where
   pub count : length flags ≡ index

@@ -7,7 +7,7 @@ use Rattle.pci_spec.specs.Window.{MemoryWindow, PrefetchWindow}
 use Rattle.settle_spec.specs.Lists.{RootRange, Request, is_had_by}
 use Rattle.settle_spec.specs.Lists as asked
 use Rattle.settle_spec.specs.Parts.{lies_within}
-use Rattle.settle_spec.specs.Reach.{ranges_for}
+use Rattle.settle_spec.specs.Reach.{root_window_ranges}
 use Rattle.pci_base.specs.declared.range.RootRange.{RootRange as CodeRange}
 use Rattle.pci_base.specs.Ranges.{decoded_range_of}
 use Rattle.pci_first_fit.specs.declared.list.Lists.{Lists}
@@ -63,12 +63,12 @@ module _ (q : Request) (lists : Lists) (bus : ℕ) (inner : DecodedRange) (is : 
   abbrev had : List RootRange → List DecodedRange
   had list = map (λ (r : RootRange). r.range) (filter (λ (r : RootRange). is_had_by r.root bus) list)
 
-  pub memory_room : find_in_either (lies_within inner) (had_ranges bus lists.mem.now) (had_ranges bus lists.pref.now) ≡ find (lies_within inner) (ranges_for q MemoryWindow bus)
+  pub memory_room : find_in_either (lies_within inner) (had_ranges bus lists.mem.now) (had_ranges bus lists.pref.now) ≡ find (lies_within inner) (root_window_ranges q MemoryWindow bus)
   memory_room =
       sym (find_both (lies_within inner) (had_ranges bus lists.mem.now) (had_ranges bus lists.pref.now))
       ∙ ap (λ (ls : asked.Lists). find (lies_within inner) (had ls.memory ++ had ls.prefetch)) (sym is)
 
-  pub prefetch_room : find_in_either (lies_within inner) (had_ranges bus lists.pref.now) (had_ranges bus lists.mem.now) ≡ find (lies_within inner) (ranges_for q PrefetchWindow bus)
+  pub prefetch_room : find_in_either (lies_within inner) (had_ranges bus lists.pref.now) (had_ranges bus lists.mem.now) ≡ find (lies_within inner) (root_window_ranges q PrefetchWindow bus)
   prefetch_room =
       sym (find_both (lies_within inner) (had_ranges bus lists.pref.now) (had_ranges bus lists.mem.now))
       ∙ ap (λ (ls : asked.Lists). find (lies_within inner) (had ls.prefetch ++ had ls.memory)) (sym is)

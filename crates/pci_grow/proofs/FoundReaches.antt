@@ -34,9 +34,9 @@ use Rattle.pci_kept.specs.declared.region.Region.{Region}
 use Rattle.pci_kept.specs.Known.{Known, region_value}
 use Rattle.pci_kept.specs.Boards.{IsKnown}
 use Rattle.pci_kept.proofs.Indexes.{part_cases, index_at}
-use Rattle.pci_grow.specs.Rows.{row_number}
+use Rattle.pci_grow.specs.RoomRows.{row_number}
 use Rattle.pci_first_fit.specs.Tables.{told, TellsSame}
-use Rattle.pci_grow.specs.Reaches.{AreToldOver, Given, StandsInRows, AreFirstReaches, TellsSameOutside, AreReaches}
+use Rattle.pci_grow.specs.Reaches.{AreToldOver, ListsAndLines, StandsInRows, AreFirstReaches, TellsSameOutside, AreWindowReaches}
 use Rattle.pci_grow.proofs.StandingRows.{no_region, IsInRows, in_rows, rows_rise}
 use Rattle.pci_grow.proofs.Reached.{row_is, standing}
 
@@ -93,7 +93,7 @@ module _ (rows : List Region) (start : Table) where
   more_outside index old new within same step k class off =
       step k class (λ d. off index d (omega arith) within) ∙ same k class (λ i d low. off i d (omega (arith, low)))
 
-module _ (q : Request) (s : System) (records : List Record) (given : Given) (rows : List Region) (is : StandsInRows q s records given rows) where
+module _ (q : Request) (s : System) (records : List Record) (given : ListsAndLines) (rows : List Region) (is : StandsInRows q s records given rows) where
   abbrev InRows : FunctionPart → Type 0
   InRows r = IsInRows q s is.board.system is.board.nested rows is.has r
 
@@ -121,7 +121,7 @@ module _ (q : Request) (s : System) (records : List Record) (given : Given) (row
   none_told table k d class low = absurd (let no : ⊥ = omega (arith, low) in no)
 
   -- all windows that stand are told in the end
-  pub all_told : (count : ℕ) (table : Table) → length rows ≤ count → AreFirstReaches q s rows count table → AreReaches q s table
+  pub all_told : (count : ℕ) (table : Table) → length rows ≤ count → AreFirstReaches q s rows count table → AreWindowReaches q s table
   all_told count table end first k f class at bridge stand =
       let listed : Contains s f = (k, slice_get_within s k f at, get_or_from_slice_get s k f f at) in
       let part = window_listed q s (kind_value class) f listed ((stands_by_itself q s is.board.nested).only (window_part (kind_value class) f) listed stand) in

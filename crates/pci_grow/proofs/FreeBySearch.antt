@@ -10,7 +10,7 @@ use Rattle.settle_spec.specs.FirstPlace.{ranges_are_apart}
 use Rattle.settle_spec.specs.Wishes.{gained}
 use Rattle.pci_base.specs.declared.range.Range.{Range}
 use Rattle.pci_base.specs.Ranges.{decoded_range_of}
-use Rattle.pci_grow.specs.RoomRows.{LastsRise}
+use Rattle.pci_grow.specs.LastPlaces.{LastsRise}
 
 module _ (row : List Range) (window : Range) (last index : ℕ) (before : (k : ℕ) (d : Range) → k < index → (get_or row k d).first ≤ last) (after : (k : ℕ) (d : Range) → index ≤ k → k < length row → last < (get_or row k d).first) where
   abbrev is_off : Range → Bool

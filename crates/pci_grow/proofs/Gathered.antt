@@ -10,7 +10,7 @@ use Rattle.pci_base.specs.declared.range.Range.{Range}
 use Rattle.pci_first_fit.specs.declared.item.Item.{Item}
 use Rattle.pci_first_fit.specs.Spots.{extent_range}
 use Rattle.pci_kept.specs.declared.region.Region.{Region}
-use Rattle.pci_grow.specs.Rows.{row_of}
+use Rattle.pci_grow.specs.Rows.{region_row_number}
 use Rattle.pci_grow.specs.There.{listed, in_row, holding, placed_ranges}
 
 -- ---- a part of a list that passes a test
@@ -46,19 +46,19 @@ module _ {X : Type 0} (test : X → Bool) where
 
 -- the parts of a row stand from the first one in it or a later one up to the first one behind it
 pub row_is : (rows : List Region) (number first end : ℕ) → first ≤ end → end ≤ length rows
-    → AllWithin (λ r. row_of r < number) rows 0 first → AllWithin (λ r. number ≤ row_of r) rows first (length rows)
-    → AllWithin (λ r. row_of r < number + 1) rows 0 end → AllWithin (λ r. number + 1 ≤ row_of r) rows end (length rows)
+    → AllWithin (λ r. region_row_number r < number) rows 0 first → AllWithin (λ r. number ≤ region_row_number r) rows first (length rows)
+    → AllWithin (λ r. region_row_number r < number + 1) rows 0 end → AllWithin (λ r. number + 1 ≤ region_row_number r) rows end (length rows)
     → slice_range rows first end ≡ in_row number rows
 row_is rows number first end up within below from below_next from_next =
-    part_passes (λ r. row_of r == number) rows first (end - first) (omega (arith, up, within))
-    (λ k d less. ne_eqb (row_of (get_or rows k d)) number (λ same. let low = below k d (omega arith) less in let no : ⊥ = omega (arith, low, same) in no))
-    (λ k d after less. eq-eqb (row_of (get_or rows k d)) number
+    part_passes (λ r. region_row_number r == number) rows first (end - first) (omega (arith, up, within))
+    (λ k d less. ne_eqb (region_row_number (get_or rows k d)) number (λ same. let low = below k d (omega arith) less in let no : ⊥ = omega (arith, low, same) in no))
+    (λ k d after less. eq-eqb (region_row_number (get_or rows k d)) number
     (let low = below_next k d (omega arith) (omega (arith, less, up)) in let high = from k d after (omega (arith, less, up, within)) in omega (arith, low, high)))
-    (λ k d after less. ne_eqb (row_of (get_or rows k d)) number (λ same. let high = from_next k d (omega (arith, after, up)) less in let no : ⊥ = omega (arith, high, same) in no))
+    (λ k d after less. ne_eqb (region_row_number (get_or rows k d)) number (λ same. let high = from_next k d (omega (arith, after, up)) less in let no : ⊥ = omega (arith, high, same) in no))
 
 -- and it begins no later than the next one does
 pub row_rises : (rows : List Region) (number first end : ℕ) → first ≤ length rows → end ≤ length rows
-    → AllWithin (λ r. row_of r < number) rows 0 first → AllWithin (λ r. number + 1 ≤ row_of r) rows end (length rows) → first ≤ end
+    → AllWithin (λ r. region_row_number r < number) rows 0 first → AllWithin (λ r. number + 1 ≤ region_row_number r) rows end (length rows) → first ≤ end
 row_rises [] number first end bound within below from = omega (arith, bound)
 row_rises (r ∷ rows) number first end bound within below from = by (cases_lt end first)
   where

@@ -16,7 +16,7 @@ use Rattle.pci_grow.specs.declared.board.BridgeWindow.{BridgeWindow}
 use Rattle.pci_grow.specs.declared.board.Facts.{Facts}
 use Rattle.pci_first_fit.specs.declared.extent.Extent.{Extent}
 use Rattle.pci_first_fit.specs.Spots.{extent_value}
-use Rattle.pci_grow.specs.Board.{bridge_of, class_of, Room, IsTold, AreFacts}
+use Rattle.pci_grow.specs.Board.{bridge_of_window, window_class, Room, IsRoomOfKept, AreFacts}
 use Rattle.pci_grow.specs.Endings.{IsSparedAs}
 use Rattle.pci_grow.proofs.Walks.{nothing_left}
 use Rattle.pci_grow.specs.Granting.{spare_in, spare_up_to, AreSpares, part_of, AreGranted}
@@ -24,10 +24,10 @@ use Rattle.pci_grow.specs.Granting.{spare_in, spare_up_to, AreSpares, part_of, A
 module _ (q : Request) (s : System) (b : Board) (slots : List Bool) (spares : ByKind (Option Extent)) (spare : WindowKind → Function → Option ExtentValue) (are : AreSpares s slots spares spare)
     (w : BridgeWindow) (within : w.bridge < length s) (g : Granted) (old : Room) (denied : List BridgeWindow) (was : AreGranted q s b g old denied) where
   abbrev f : Function
-  f = bridge_of s w
+  f = bridge_of_window s w
 
   abbrev c : WindowKind
-  c = class_of w
+  c = window_class w
 
   abbrev granted_by : Option ExtentValue → Granted
   granted_by o = with_spare_of q s c f o g
@@ -90,7 +90,7 @@ module _ (q : Request) (s : System) (b : Board) (slots : List Bool) (spares : By
         by None is (none, same) =
             subst (λ x. AreGranted q s b x new more) (sym (granted_is None is))
             (record {
-              told_is = subst (IsTold q s g.kept b) (sym same) was.told_is;
+              told_is = subst (IsRoomOfKept q s g.kept b) (sym same) was.told_is;
               denied_are = ap (λ xs. xs ++ window_part c f ∷ []) was.denied_are ∙ sym (map-append (part_of s) denied (w ∷ [])) ∙ sym (ap (map (part_of s)) pushed);
             })
         by (Some one) is (some, told_one) = absurd (let on = ap is_some some in let no : ⊥ = cc in no)

@@ -22,17 +22,17 @@ use Rattle.pci_first_fit.specs.Buses.{Classing, classing_of, TellsClasses}
 use Rattle.pci_kept.specs.declared.region.Region.{Region}
 use Rattle.pci_kept.specs.declared.rules.Rules.{Rules}
 use Rattle.pci_kept.specs.Boards.{IsBoard}
-use Rattle.pci_kept.specs.Known.{asked_by, AreParts}
+use Rattle.pci_kept.specs.Known.{asked_by_rules, AreParts}
 use Rattle.pci_kept.specs.declared.windows.TooLarge.{TooLarge}
 use Rattle.pci_kept.specs.Holding.{IsAsking, AreHolding}
 use Rattle.pci_kept.specs.Windows.{AreAllNew}
 use Rattle.pci_grow.specs.Growing.{CanGrow}
 use Rattle.pci_first_fit.specs.PlaceTables.{ArePlaceless}
-use Rattle.pci_grow.specs.Reaches.{AreReaches}
+use Rattle.pci_grow.specs.Reaches.{AreWindowReaches}
 use Rattle.pci_grow.specs.Reaching.{Reaching, IsReaching, tells_whole, TellsWhole, IsTooLargeAround}
 use Rattle.pci_first_fit.specs.Tables.{AreUntold}
 use Rattle.pci_grow.specs.There.{Tables}
-use Rattle.pci_grow.specs.Telling.{AreStandingRows, IsGrowing, IsBegun}
+use Rattle.pci_grow.specs.Telling.{AreStandingRows, IsGrowing, IsNothingGrown}
 use Rattle.pci_grow.proofs.AllRows.{standing_rows}
 use Rattle.pci_grow.proofs.WholeReaches.{known_around, whole_reach, new_around, large_around, new_where_stands}
 
@@ -67,13 +67,13 @@ module _ (q : Request) (p : Classing) (lists : Lists) (windows : ByKind (List (O
           stand = can.reaching.stand;
           sorted = can.reaching.are_rows;
         });
-    reaches = subst (AreReaches q p.system) (sym same_reaches) can.reaching.told_reaches;
+    reaches = subst (AreWindowReaches q p.system) (sym same_reaches) can.reaching.told_reaches;
     new = can.new;
   }
 
   -- nothing has grown
   pub begun_of : (t : Tables) (holding : List Kept) → AreHolding q p.system holding → t.kept ≡ holding → AreUntold t.grown → ArePlaceless t.places → length t.grown ≡ length holding → length t.places ≡ length holding
-      → IsBegun q p.system t
+      → IsNothingGrown q p.system t
   begun_of t holding are same untold placeless grown places = record {
     holding = subst (AreHolding q p.system) (sym same) are;
     untold = untold;
@@ -83,27 +83,27 @@ module _ (q : Request) (p : Classing) (lists : Lists) (windows : ByKind (List (O
   }
 
 -- so it is with what is asked for of an admitted system, where no bridge is named
-pub can_grow : (a : Admission) (d : Demand) (rules : Rules) → IsAdmitted a → (terms : Terms) (over : List OpenWindows) → TellsClasses (classing_of a terms over) (asked_by a.roots d rules)
+pub can_grow : (a : Admission) (d : Demand) (rules : Rules) → IsAdmitted a → (terms : Terms) (over : List OpenWindows) → TellsClasses (classing_of a terms over) (asked_by_rules a.roots d rules)
     → (windows : ByKind (List (Option Extent))) (large : Option TooLarge) → AreAllNew (classing_of a terms over) windows large
-    → (x : Reaching) → IsReaching (asked_by a.roots d rules) (system_in a) x → (large ≡ None) ⊎ All (λ ranges. tells_whole ranges ≡ false) x.reaches
-    → CanGrow (asked_by a.roots d rules) (classing_of a terms over) d.lists windows x
+    → (x : Reaching) → IsReaching (asked_by_rules a.roots d rules) (system_in a) x → (large ≡ None) ⊎ All (λ ranges. tells_whole ranges ≡ false) x.reaches
+    → CanGrow (asked_by_rules a.roots d rules) (classing_of a terms over) d.lists windows x
 can_grow a d rules admitted terms over left windows large all x is none = record {
   system = admitted.system;
   nested = admitted.nested;
   same = refl;
-  low = windows_low (asked_by a.roots d rules) (system_in a) admitted.system admitted.nested admitted.profile;
+  low = windows_low (asked_by_rules a.roots d rules) (system_in a) admitted.system admitted.nested admitted.profile;
   left = left;
   reaching = is;
-  new = new_around (classing_of a terms over) (asked_by a.roots d rules) left windows large all
-      (known_around (asked_by a.roots d rules) (system_in a) admitted.system admitted.nested x is large none);
+  new = new_around (classing_of a terms over) (asked_by_rules a.roots d rules) left windows large all
+      (known_around (asked_by_rules a.roots d rules) (system_in a) admitted.system admitted.nested x is large none);
 }
 
 -- and a bridge that is named has too large a new window, where a window can grow to all addresses
-pub large_of : (a : Admission) (d : Demand) (rules : Rules) → IsAdmitted a → (terms : Terms) (over : List OpenWindows) → TellsClasses (classing_of a terms over) (asked_by a.roots d rules)
+pub large_of : (a : Admission) (d : Demand) (rules : Rules) → IsAdmitted a → (terms : Terms) (over : List OpenWindows) → TellsClasses (classing_of a terms over) (asked_by_rules a.roots d rules)
     → (windows : ByKind (List (Option Extent))) (large : Option TooLarge) → AreAllNew (classing_of a terms over) windows large
-    → (x : Reaching) → IsReaching (asked_by a.roots d rules) (system_in a) x → (w : TooLarge) → (large ≡ Some w) × TellsWhole x.reaches
-    → IsTooLargeAround (asked_by a.roots d rules) (system_in a) (refused.Fault w)
+    → (x : Reaching) → IsReaching (asked_by_rules a.roots d rules) (system_in a) x → (w : TooLarge) → (large ≡ Some w) × TellsWhole x.reaches
+    → IsTooLargeAround (asked_by_rules a.roots d rules) (system_in a) (refused.Fault w)
 large_of a d rules admitted terms over left windows large all x is w (named, whole) = (
-  large_around (classing_of a terms over) (asked_by a.roots d rules) left windows large all w named,
-  whole_reach (asked_by a.roots d rules) (system_in a) admitted.system admitted.nested x is whole,
+  large_around (classing_of a terms over) (asked_by_rules a.roots d rules) left windows large all w named,
+  whole_reach (asked_by_rules a.roots d rules) (system_in a) admitted.system admitted.nested x is whole,
 )

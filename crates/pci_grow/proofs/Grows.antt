@@ -14,7 +14,7 @@ use Rattle.settle_spec.specs.Lists.{Request}
 use Rattle.settle_spec.specs.Parts.{FunctionPart}
 use Rattle.settle_spec.specs.Stands.{window_part, stands}
 use Rattle.settle_spec.specs.Items.{has_room_behind}
-use Rattle.settle_spec.specs.Growth.{comes_to, takes, has_grown}
+use Rattle.settle_spec.specs.Growth.{comes_to, takes_growth, has_grown}
 use Rattle.settle_spec.specs.Kept.{is_kept}
 use Rattle.settle_laws.proofs.GrowingKept.{taking, takes_stands, grown_takes, kept_stands}
 use Rattle.settle_laws.proofs.Standing.{stands_by_itself}
@@ -77,7 +77,7 @@ or_off true = refl
 or_off false = refl
 
 module _ (q : Request) (s : System) (system : IsSystem s) (nested : IsNested q.roots s) where
-  pub takes_only : HoldsWhereStands q s (takes q s)
+  pub takes_only : HoldsWhereStands q s (takes_growth q s)
   takes_only r listed is = takes_stands q s r is
 
   pub kept_only : HoldsWhereStands q s (is_kept q s)
@@ -95,23 +95,23 @@ module _ (q : Request) (s : System) (system : IsSystem s) (nested : IsNested q.r
   listed_at : (k : ℕ) (f : Function) → slice_get s k ≡ Some f → Contains s f
   listed_at k f at = (k, slice_get_within s k f at, get_or_from_slice_get s k f f at)
 
-  some_takes : (r : FunctionPart) → is_some (cond (takes q s r) (comes_to q s r) None) ≡ takes q s r
-  some_takes r = by (takes q s r) refl
+  some_takes : (r : FunctionPart) → is_some (cond (takes_growth q s r) (comes_to q s r) None) ≡ takes_growth q s r
+  some_takes r = by (takes_growth q s r) refl
     where
-      by : (b : Bool) → takes q s r ≡ b → is_some (cond b (comes_to q s r) None) ≡ b
+      by : (b : Bool) → takes_growth q s r ≡ b → is_some (cond b (comes_to q s r) None) ≡ b
       by true is = ap is_some (taking q s r is).comes
       by false is = refl
 
   -- ---- marks of what is told of windows that take
 
-  module _ (table : List (ByKind (Option CodeRange))) (are : AreComing q s (takes q s) table) where
+  module _ (table : List (ByKind (Option CodeRange))) (are : AreComing q s (takes_growth q s) table) where
     abbrev marks : List Kept
     marks = map marks_of table
 
     mark_at : (k : ℕ) (f : Function) → slice_get s k ≡ Some f → get_or marks k nothing_kept ≡ marks_of (get_or table k untold)
     mark_at k f at = get_or-map marks_of table k untold nothing_kept (let low = slice_get_within s k f at in let size = are.count in omega (arith, low, size))
 
-    window_marked : (k : ℕ) (f : Function) (c : WindowKind) → slice_get s k ≡ Some f → kept_of (get_or marks k nothing_kept) (Window c) ≡ takes q s (window c f)
+    window_marked : (k : ℕ) (f : Function) (c : WindowKind) → slice_get s k ≡ Some f → kept_of (get_or marks k nothing_kept) (Window c) ≡ takes_growth q s (window c f)
     window_marked k f c at =
         ap (λ m. kept_of m (Window c)) (mark_at k f at)
         ∙ ap (λ d. kept_of (marks_of (get_or table k untold)) (Window d)) (sym (kind_back c))
@@ -119,26 +119,26 @@ module _ (q : Request) (s : System) (system : IsSystem s) (nested : IsNested q.r
         ∙ some_map (told table k (code_kind c))
         ∙ ap is_some (are.each k f (code_kind c) at)
         ∙ some_takes (window (kind_value (code_kind c)) f)
-        ∙ ap (λ d. takes q s (window d f)) (kind_back c)
+        ∙ ap (λ d. takes_growth q s (window d f)) (kind_back c)
 
-    part_marked : (k : ℕ) (f : Function) (p : Part) → slice_get s k ≡ Some f → kept_of (get_or marks k nothing_kept) p ≡ takes q s (record { function = f; part = p })
+    part_marked : (k : ℕ) (f : Function) (p : Part) → slice_get s k ≡ Some f → kept_of (get_or marks k nothing_kept) p ≡ takes_growth q s (record { function = f; part = p })
     part_marked k f (Bar n) at = ap (λ m. kept_of m (Bar n)) (mark_at k f at) ∙ six_off n
     part_marked k f Rom at = ap (λ m. kept_of m Rom) (mark_at k f at)
     part_marked k f (Window c) at = window_marked k f c at
 
-    pub marks_noted : AreNoted s (takes q s) marks
+    pub marks_noted : AreNoted s (takes_growth q s) marks
     marks_noted = record {
       count = length-map table marks_of ∙ are.count;
       opens = λ c b (m, low, is_b) is. (
           let at : slice_get s m ≡ Some b = slice_get-get_or s m b low ∙ ap Some is_b in
-          let takes_it : takes q s (window c b) ≡ true = sym (window_marked m b c at) ∙ sym (table_at s system marks m b (Window c) at) ∙ is in
+          let takes_it : takes_growth q s (window c b) ≡ true = sym (window_marked m b c at) ∙ sym (table_at s system marks m b (Window c) at) ∙ is in
           open_of c b (m, low, is_b) (takes_stands q s (window c b) takes_it));
       each = λ k f p at there. part_marked k f p at;
     }
 
   -- ---- what is kept too
 
-  module _ (old marks new : List Kept) (holding : AreHolding q s old) (grown : AreStayingBy q s (takes q s) marks) (too : AreKeptToo old marks new) where
+  module _ (old marks new : List Kept) (holding : AreHolding q s old) (grown : AreStayingBy q s (takes_growth q s) marks) (too : AreKeptToo old marks new) where
     each_kept : (k : ℕ) (f : Function) (p : Part) → slice_get s k ≡ Some f → has_part f p ≡ true → kept_of (get_or new k nothing_kept) p ≡ is_kept q s (record { function = f; part = p })
     each_kept k f (Bar n) at there = too.each k (Bar n) ∙ or_off (kept_of (get_or old k nothing_kept) (Bar n)) ∙ holding.each k f (Bar n) at there
     each_kept k f Rom at there = too.each k Rom ∙ or_off (kept_of (get_or old k nothing_kept) Rom) ∙ holding.each k f Rom at there
@@ -163,7 +163,7 @@ module _ (q : Request) (s : System) (system : IsSystem s) (nested : IsNested q.r
 
   -- ---- what is left of what is told
 
-  module _ (old new : List (ByKind (Option CodeRange))) (marks : List Kept) (coming : AreComing q s (takes q s) old) (grown : AreStayingBy q s (takes q s) marks) (left : AreLeftToldOf marks old new) where
+  module _ (old new : List (ByKind (Option CodeRange))) (marks : List Kept) (coming : AreComing q s (takes_growth q s) old) (grown : AreStayingBy q s (takes_growth q s) marks) (left : AreLeftToldOf marks old new) where
     module _ (k : ℕ) (f : Function) (class : CodeKind) (at : slice_get s k ≡ Some f) where
       abbrev c : WindowKind
       c = kind_value class
@@ -185,8 +185,8 @@ module _ (q : Request) (s : System) (system : IsSystem s) (nested : IsNested q.r
             ap (λ b. option_map decoded_range_of (cond b (told old k class) None)) (grown.each k f (Window c) at there)
             ∙ of_grown (has_grown q s w) refl
         | inr not_there ↦
-            let not_takes : takes q s w ≡ false = false_from_ne_true (takes q s w) (λ is. both_ways (has_part f (Window c)) not_there (bridge_of c f (open_of c f (listed_at k f at) (takes_stands q s w is)))) in
-            let not_grown : has_grown q s w ≡ false = false_from_ne_true (has_grown q s w) (λ is. both_ways (takes q s w) not_takes (grown_takes q s w is)) in
+            let not_takes : takes_growth q s w ≡ false = false_from_ne_true (takes_growth q s w) (λ is. both_ways (has_part f (Window c)) not_there (bridge_of c f (open_of c f (listed_at k f at) (takes_stands q s w is)))) in
+            let not_grown : has_grown q s w ≡ false = false_from_ne_true (has_grown q s w) (λ is. both_ways (takes_growth q s w) not_takes (grown_takes q s w is)) in
             let nothing = none_map (told old k class) (coming.each k f class at ∙ ap (λ b. cond b (comes_to q s w) None) not_takes) in
             ap (λ o. option_map decoded_range_of (cond mark o None)) nothing
             ∙ ap (option_map decoded_range_of) (cond_none mark)

@@ -12,7 +12,7 @@ use Rattle.pci_spec.proofs.Members.{IsMade, in_map_to, in_map_from, in_filter_to
 use Rattle.settle_spec.specs.Lists.{Request}
 use Rattle.settle_spec.specs.Parts.{FunctionPart, system_parts, addresses}
 use Rattle.settle_spec.specs.Stands.{rank, are_beside, stands}
-use Rattle.settle_spec.specs.Growth.{is_before}
+use Rattle.settle_spec.specs.Growth.{is_lower_beside}
 use Rattle.settle_spec.proofs.Reaching.{LieApart, ends_apart}
 use Rattle.settle_laws.proofs.Apart.{apart_where_beside}
 use Rattle.settle_laws.proofs.Standing.{part_of}
@@ -21,9 +21,9 @@ use Rattle.pci_kept.specs.declared.region.Region.{Region}
 use Rattle.pci_kept.specs.Boards.{IsKnown}
 use Rattle.pci_kept.specs.Known.{region_value}
 use Rattle.pci_kept.proofs.Rooms.{part_there}
-use Rattle.pci_grow.specs.Rows.{row_of, IsInRowOrder}
+use Rattle.pci_grow.specs.Rows.{region_row_number, IsInRowOrder}
 use Rattle.pci_grow.specs.There.{in_row}
-use Rattle.pci_grow.specs.Telling.{AreStandingRows, part_row, IsDone}
+use Rattle.pci_grow.specs.Telling.{AreStandingRows, part_row_number, IsDone}
 use Rattle.pci_grow.proofs.Ranked.{rank_parts}
 use Rattle.pci_grow.proofs.Told.{region_row, region_range, beside_row, row_beside}
 
@@ -61,22 +61,22 @@ module _ (q : Request) (s : System) (system : IsSystem s) (nested : IsNested q.r
     abbrev row : List Region
     row = in_row number rows
 
-    pub of_row : (r : Region) → Contains row r → Contains rows r × (row_of r ≡ number)
-    of_row r has = (let both = in_filter_to (λ x. row_of x == number) rows r has in (both.0, eqb-true (row_of r) number both.1))
+    pub of_row : (r : Region) → Contains row r → Contains rows r × (region_row_number r ≡ number)
+    of_row r has = (let both = in_filter_to (λ x. region_row_number x == number) rows r has in (both.0, eqb-true (region_row_number r) number both.1))
 
-    pub part_in_row : (r : Region) → Contains row r → part_row q (value r) ≡ number
+    pub part_in_row : (r : Region) → Contains row r → part_row_number q (value r) ≡ number
     part_in_row r has = sym (region_row q s r (known_in r (of_row r has).0)) ∙ (of_row r has).1
 
     -- a part that stands there is one of the row
-    pub in_row_of : (u : FunctionPart) → Contains (system_parts q s) u → stands q s u ≡ true → part_row q u ≡ number → IsMade value row u
+    pub in_row_of : (u : FunctionPart) → Contains (system_parts q s) u → stands q s u ≡ true → part_row_number q u ≡ number → IsMade value row u
     in_row_of u listed stand at =
         let made : IsMade value rows u = in_map_to value rows u (are.all u listed stand) in
         let r = made.from in
-        let here : row_of r ≡ number = region_row q s r (known_in r made.has) ∙ ap (part_row q) made.is ∙ at in
-        record { from = r; has = in_filter_from (λ x. row_of x == number) rows r made.has (eq-eqb (row_of r) number here); is = made.is }
+        let here : region_row_number r ≡ number = region_row q s r (known_in r made.has) ∙ ap (part_row_number q) made.is ∙ at in
+        record { from = r; has = in_filter_from (λ x. region_row_number x == number) rows r made.has (eq-eqb (region_row_number r) number here); is = made.is }
 
     pub order : AllPairs (IsInRowOrder (λ r. rank (value r))) row
-    order = pairs_filter (IsInRowOrder (λ r. rank (value r))) (λ x. row_of x == number) rows are.order
+    order = pairs_filter (IsInRowOrder (λ r. rank (value r))) (λ x. region_row_number x == number) rows are.order
 
     -- of two in order the first has lower addresses
     pub lower_in : (x r : Region) → Contains row x → Contains row r → IsInRowOrder (λ r. rank (value r)) x r → x.range.last < r.range.first
@@ -129,7 +129,7 @@ module _ (q : Request) (s : System) (system : IsSystem s) (nested : IsNested q.r
       pub v_stands : stands q s v ≡ true
       v_stands = stands_in r (of_row r in_r).0
 
-      pub v_row : part_row q v ≡ number
+      pub v_row : part_row_number q v ≡ number
       v_row = part_in_row r in_r
 
       before_order : (j : ℕ) (x : Region) → j < i → get_or row j x ≡ x → IsInRowOrder (λ r. rank (value r)) x r
@@ -164,7 +164,7 @@ module _ (q : Request) (s : System) (system : IsSystem s) (nested : IsNested q.r
           omega (arith, ends, first, forward)
 
       -- what stands before it is done
-      pub before_done : (u : FunctionPart) → Contains (system_parts q s) u → stands q s u ≡ true → is_before q u v ≡ true → Contains (map value (take i row)) u
+      pub before_done : (u : FunctionPart) → Contains (system_parts q s) u → stands q s u ≡ true → is_lower_beside q u v ≡ true → Contains (map value (take i row)) u
       before_done u listed stand before = by (cases_lt x_at.j i)
         where
           parts : (are_beside q u v ≡ true) × ((addresses u).first < (addresses v).first)
@@ -236,19 +236,19 @@ module _ (q : Request) (s : System) (system : IsSystem s) (nested : IsNested q.r
 
     -- ---- a whole row
 
-    pub all_done : (i : ℕ) → length row ≤ i → (u : FunctionPart) → Contains (system_parts q s) u → stands q s u ≡ true → number ≤ part_row q u → IsDone q s rows number i u
-    all_done i past u listed stand up = elim (cases_eq number (part_row q u)) [
+    pub all_done : (i : ℕ) → length row ≤ i → (u : FunctionPart) → Contains (system_parts q s) u → stands q s u ≡ true → number ≤ part_row_number q u → IsDone q s rows number i u
+    all_done i past u listed stand up = elim (cases_eq number (part_row_number q u)) [
       | inl same ↦
           let made : IsMade value row u = in_row_of u listed stand (sym same) in
           inr (subst (Contains (map value (take i row))) made.is (in_map_from value (take i row) made.from (subst (λ xs. Contains xs made.from) (sym (take_all i row past)) made.has)))
       | inr differ ↦ inl (omega (arith, up, differ))
     ]
 
-    pub done_up : (i : ℕ) (u : FunctionPart) → IsDone q s rows number i u → number ≤ part_row q u
+    pub done_up : (i : ℕ) (u : FunctionPart) → IsDone q s rows number i u → number ≤ part_row_number q u
     done_up i u (inl lower) = omega (arith, lower)
     done_up i u (inr has) =
         let made : IsMade value (take i row) u = in_map_to value (take i row) u has in
         let a = among_first row i made.from made.has in
         let here = part_in_row made.from (a.j, a.within, a.is) in
-        let same : part_row q u ≡ part_row q (value made.from) = ap (part_row q) (sym made.is) in
+        let same : part_row_number q u ≡ part_row_number q (value made.from) = ap (part_row_number q) (sym made.is) in
         omega (arith, here, same)

@@ -10,7 +10,7 @@ use Rattle.pci_spec.proofs.Members.{in_nil, in_head, in_cons_cases}
 use Rattle.pci_base.specs.declared.range.Range.{Range}
 use Rattle.pci_first_fit.specs.Lines.{AreForwardRanges}
 use Rattle.pci_first_fit.specs.Spots.{FirstsRise}
-use Rattle.pci_grow.specs.Arounds.{AreInOrder}
+use Rattle.pci_grow.specs.Arounds.{AreRisingAtBothEnds}
 use Rattle.pci_grow.specs.Widest.{is_beyond, KeptBy, LiesInOne}
 
 -- where what is kept ends
@@ -29,7 +29,7 @@ pub record IsOfFirst (xs : List Range) (n : ℕ) (r : Range) : Type 0 where
   pub is : (d : Range) → get_or xs at d ≡ r
 
 pub record AreKeptOf (xs : List Range) (n : ℕ) (kept : List Range) (end : Option ℕ) : Type 0 where
-  pub order : AreInOrder kept
+  pub order : AreRisingAtBothEnds kept
   pub only : (r : Range) → Contains kept r → IsOfFirst xs n r
   pub all : (k : ℕ) (d : Range) → k < n → k < length xs → LiesInOne kept (get_or xs k d)
   pub ends : EndsAt kept end

@@ -2,7 +2,7 @@
 use Rattle.std.proofs.Common.{◌≡◌, ℕ, zero, suc, ◌<◌, List, [], ◌∷◌, map, length, drop, true, false, arith, refl, ap, sym, subst, ◌∙◌, Some, None, Option, IfSome, IfNone, is_some}
 use Rattle.std.proofs.lemmas.Bool.{false≢true}
 use Rattle.pci_spec.specs.Decoded.{Range as DecodedRange}
-use Rattle.settle_spec.specs.Items.{Item as ItemValue, are_placed, place_each}
+use Rattle.settle_spec.specs.Items.{PlacingItem as ItemValue, are_placed, place_each}
 use Rattle.pci_base.specs.declared.range.Range.{Range}
 use Rattle.pci_base.specs.Ranges.{decoded_range_of}
 use Rattle.pci_first_fit.specs.declared.item.Item.{Item}

@@ -28,7 +28,7 @@ use Rattle.pci_base.specs.Space.{space_of}
 use Rattle.pci_first_fit.specs.declared.lines.Line.{Line}
 use Rattle.pci_first_fit.specs.Lines.{level_of, Row, row_of, told_row, rows_from, AreLines}
 use Rattle.pci_kept.proofs.Passing.{levels_one}
-use Rattle.pci_grow.specs.OffLines.{pieces, told_at, row_keeps_off, rows_beside, HaveRanges}
+use Rattle.pci_grow.specs.OffLines.{pieces, told_at, line_keeps_slot_off, rows_beside, HaveRanges}
 
 -- ---- lines are the ranges of the text
 
@@ -124,7 +124,7 @@ module _ (q : Request) (s : System) (told : List ToldRange) (told_is : q.told.ra
       slice_get_within told l.index at.told at.at
 
   module _ (slot : Slot) (space : Space) (l : Line) (is : IsLineAt q.roots told l) (x : ToldRegion) (same : is.told ≡ x.told) where
-    keeps_same : row_keeps_off told slot (level q slot.bus) space l ≡ can_keep_off q x slot space
+    keeps_same : line_keeps_slot_off told slot (level q slot.bus) space l ≡ can_keep_off q x slot space
     keeps_same =
         ap (λ b. (b && are_same_space space (space_of l.space)) && not (is_marked_held (told_at told l.index).mark && same_slot (told_at told l.index).slot slot))
         (same_levels q s slot.bus x.told.slot.bus l.level (ap (λ (r : Row). r.level) is.is ∙ ap (λ (r : ToldRange). level_of q.roots r.slot.bus) same))
@@ -141,7 +141,7 @@ module _ (q : Request) (s : System) (told : List ToldRange) (told_is : q.told.ra
     slot = w.function.slot
 
     abbrev row_pieces : Line → List Range
-    row_pieces l = cond (row_keeps_off told slot (level q slot.bus) (part_space w) l) (pieces (addresses w) (decoded_range_of l.range)) []
+    row_pieces l = cond (line_keeps_slot_off told slot (level q slot.bus) (part_space w) l) (pieces (addresses w) (decoded_range_of l.range)) []
 
     abbrev line_pieces : ToldRegion → List Range
     line_pieces x = pieces (addresses w) (line_range x)
@@ -160,7 +160,7 @@ module _ (q : Request) (s : System) (told : List ToldRange) (told_is : q.told.ra
         let at = line_at q.roots told lines are l piece.has in
         let line = line_for (told_register 0) q.told.ranges l.index at.told (ap (λ rs. slice_get rs l.index) told_is ∙ at.at) in
         let x = line.line in
-        let of = kept (row_keeps_off told slot (level q slot.bus) (part_space w) l) (pieces (addresses w) (decoded_range_of l.range)) t piece.piece in
+        let of = kept (line_keeps_slot_off told slot (level q slot.bus) (part_space w) l) (pieces (addresses w) (decoded_range_of l.range)) t piece.piece in
         in_flat_map_from line_pieces (filter can (told_regions q.told)) x t
         (in_filter_from can (told_regions q.told) x line.listed (sym (keeps_same slot (part_space w) l at x (sym line.told_is)) ∙ of.0))
         (subst (λ r. Contains (pieces (addresses w) r) t) (range_same slot (part_space w) l at x (sym line.told_is)) of.1)

@@ -27,7 +27,7 @@ use Rattle.pci_base.specs.WindowKinds.{kind_value}
 use Rattle.pci_place.specs.Items.{function_in, no_function}
 use Rattle.pci_grow.specs.declared.board.BridgeWindow.{BridgeWindow}
 use Rattle.pci_grow.specs.declared.fill.Located.{Located}
-use Rattle.pci_grow.specs.RoomRows.{level, row_number}
+use Rattle.pci_grow.specs.RoomRows.{bus_level, row_number}
 use Rattle.pci_first_fit.specs.Tables.{told}
 use Rattle.pci_grow.specs.Board.{IsWindow}
 use Rattle.pci_grow.specs.Located.{located_total, told_weight, window_weight, function_weight, windows_total, own_then, AreOwn, AreWindowsThen}
@@ -135,7 +135,7 @@ split_if false w v = omega arith
 module _ (q : Request) (s : System) (k : Kept) (table : List (ByKind (Option Range))) (tells : AreWindowsThen q s k table)
     (weight : DecodedRange → ℕ) (space : Space) (bus : ℕ) where
   abbrev n : ℕ
-  n = row_number (level q.roots bus) space
+  n = row_number (bus_level q.roots bus) space
 
   abbrev is_on : FunctionPart → Bool
   is_on r = are_siblings q.roots bus r.function.slot.bus && are_same_space space (part_space r)
@@ -193,7 +193,7 @@ module _ (q : Request) (s : System) (k : Kept) (table : List (ByKind (Option Ran
       on = are_siblings q.roots bus f.slot.bus && are_same_space space (window_space c)
 
       abbrev row : ℕ
-      row = row_number (level q.roots f.slot.bus) (window_space c)
+      row = row_number (bus_level q.roots f.slot.bus) (window_space c)
 
       on_is : on ≡ (row == n)
       on_is = elim (cases_Bool on) [

@@ -15,15 +15,15 @@ use Rattle.settle_spec.specs.Growth.{place_around}
 use Rattle.settle_spec.specs.Lists.{Request}
 use Rattle.settle_spec.specs.Parts.{FunctionPart}
 use Rattle.settle_spec.specs.Stands.{window_part}
-use Rattle.settle_spec.specs.Items.{Item as ItemValue, Placing, AllPlaced, Lacks, and_placed, place_next, are_placed, taken_by, has_of, bus_items, new_window, place_each}
+use Rattle.settle_spec.specs.Items.{PlacingItem as ItemValue, Placing, AllPlaced, Lacks, and_placed, place_next, are_placed, taken_by, has_of, bus_items, new_window, place_each}
 use Rattle.settle_spec.proofs.FirstSpot.{least_spot, spot_gives}
 use Rattle.settle_spec.proofs.Grown.{some_page}
 use Rattle.settle_spec.proofs.NewWindows.{window_is_around}
 use Rattle.pci_first_fit.specs.declared.extent.Extent.{Extent}
 use Rattle.pci_first_fit.specs.Spots.{extent_value}
-use Rattle.pci_first_fit.specs.NewWindows.{nowhere, HasMarkedWindows, told_extent}
+use Rattle.pci_first_fit.specs.NewWindows.{nowhere, HasMarkedWindows, new_window_extent}
 use Rattle.pci_first_fit.proofs.Marked.{told_fits, same_or_large}
-use Rattle.pci_kept.specs.Windows.{IsWhole}
+use Rattle.pci_kept.specs.Windows.{IsWholeRange}
 use Rattle.pci_grow.specs.declared.around.Around.{Around}
 use Rattle.pci_base.specs.Ranges.{decoded_range_of}
 use Rattle.pci_grow.specs.Arounds.{find_around}
@@ -85,7 +85,7 @@ module _ (a : Around) where
       let high = (place_gives under now (extent_value nowhere) b is).highest in
       let no : ⊥ = omega (arith, high) in no))))
 
-  large_none : (i : ItemValue) → 0 < i.extent.alignment → 2 ^ 64 ≤ i.extent.size → a.reach.last < 2 ^ 64 → a.window.first < 2 ^ 64 → a.reach.first ≤ a.window.first → (IsWhole (decoded_range_of a.reach) → ⊥)
+  large_none : (i : ItemValue) → 0 < i.extent.alignment → 2 ^ 64 ≤ i.extent.size → a.reach.last < 2 ^ 64 → a.window.first < 2 ^ 64 → a.reach.first ≤ a.window.first → (IsWholeRange (decoded_range_of a.reach) → ⊥)
       → (now : List DecodedRange) → found i now ≡ None
   large_none i pos large small low inside narrow now =
       none_around i now
@@ -111,15 +111,15 @@ module _ (q : Request) (s : System) (system : IsSystem s) (nested : IsNested q.r
   window_item extent f = record { region = window_part c f; class = c; extent = extent f }
 
   -- so items with marks stand for those with their own extents
-  pub marks_stand : (behind : ItemValue → List DecodedRange) (a : Around) → a.reach.last < 2 ^ 64 → a.window.first < 2 ^ 64 → a.reach.first ≤ a.window.first → (IsWhole (decoded_range_of a.reach) → ⊥)
+  pub marks_stand : (behind : ItemValue → List DecodedRange) (a : Around) → a.reach.last < 2 ^ 64 → a.window.first < 2 ^ 64 → a.reach.first ≤ a.window.first → (IsWholeRange (decoded_range_of a.reach) → ⊥)
       → (keeps : FunctionPart → Bool) (windows : List (Option Extent)) (bus : ℕ) → HasMarkedWindows q s c windows
-      → StandFor behind a (bus_items q s c keeps (told_extent windows) bus) (bus_items q s c keeps (new_window q s c) bus)
+      → StandFor behind a (bus_items q s c keeps (new_window_extent windows) bus) (bus_items q s c keeps (new_window q s c) bus)
   marks_stand behind a small low inside narrow keeps windows bus marked =
-      elim (same_or_large q s c keeps (told_extent windows) (new_window q s c) bus
+      elim (same_or_large q s c keeps (new_window_extent windows) (new_window q s c) bus
       (λ f listed beside bridge has. told_fits (has_of q s c f) (new_window q s c f) (get_or windows (secondary f) None) (marked f listed bridge) has)) [
         | inl same ↦ inl same
         | inr has ↦ inr (λ taken. (
-          none_each (find_around behind a) taken (bus_items q s c keeps (told_extent windows) bus) (window_item (told_extent windows) has.of) has.in_low (λ now. mark_none a (window_item (told_extent windows) has.of) has.mark (behind (window_item (told_extent windows) has.of) ++ now)),
+          none_each (find_around behind a) taken (bus_items q s c keeps (new_window_extent windows) bus) (window_item (new_window_extent windows) has.of) has.in_low (λ now. mark_none a (window_item (new_window_extent windows) has.of) has.mark (behind (window_item (new_window_extent windows) has.of) ++ now)),
           none_each (find_around behind a) taken (bus_items q s c keeps (new_window q s c) bus) (window_item (new_window q s c) has.of) has.in_high (λ now. large_none a (window_item (new_window q s c) has.of) (new_aligned has.of has.listed has.bridge) has.large small low inside narrow (behind (window_item (new_window q s c) has.of) ++ now)),
         ))
       ]

@@ -6,7 +6,7 @@ use Rattle.pci_spec.specs.Decoded.{Range as DecodedRange}
 use Rattle.pci_base.specs.declared.range.Range.{Range}
 use Rattle.pci_base.specs.Ranges.{decoded_range_of}
 use Rattle.pci_kept.specs.declared.region.Region.{Region}
-use Rattle.pci_grow.specs.Rows.{IsBefore, IsBehind, AreAllInLowerRows, AreAllInHigherRows, AreApartInRows, IsBeside, AreBeside}
+use Rattle.pci_grow.specs.Rows.{IsRangeBeforeInRow, IsRangeBehindInRow, AreAllInLowerRows, AreAllInHigherRows, AreApartInRows, IsOtherOfRow, AreOtherRangesOfRow}
 use Rattle.pci_grow.specs.Rooms.{IsNearestBelow, NoneBelow, Below, IsNearestAbove, NoneAbove, Above}
 
 module _ (rows : List Region) (index : ℕ) (d : Region) (within : index < length rows) (apart : AreApartInRows rows) where
@@ -17,15 +17,15 @@ module _ (rows : List Region) (index : ℕ) (d : Region) (within : index < lengt
   at k = (get_or rows k d).range
 
   -- the one before it ends below it
-  pub before_ends : (o : Option Range) → IfSome o (IsBefore rows index) → IfSome o (λ other. other.last < own.first)
+  pub before_ends : (o : Option Range) → IfSome o (IsRangeBeforeInRow rows index) → IfSome o (λ other. other.last < own.first)
   before_ends None is = is
   before_ends (Some r) is =
       let some = is.some in
       let less = apart.apart (index - 1) index d (omega (arith, some)) within (is.row d) in
       subst (λ (x : Range). x.last < own.first) (sym (is.range d)) less
 
-  module _ (ts : List DecodedRange) (beside : AreBeside rows index ts) where
-    pub nearest_below : (o : Option Range) → IfSome o (IsBefore rows index) → IfNone o (AreAllInLowerRows rows index) → IsNearestBelow (decoded_range_of own) ts (option_map decoded_range_of o)
+  module _ (ts : List DecodedRange) (beside : AreOtherRangesOfRow rows index ts) where
+    pub nearest_below : (o : Option Range) → IfSome o (IsRangeBeforeInRow rows index) → IfNone o (AreAllInLowerRows rows index) → IsNearestBelow (decoded_range_of own) ts (option_map decoded_range_of o)
     nearest_below None is none = NoneBelow (λ t listed.
         let u = beside.each t listed in
         let b = u.beside in
@@ -36,7 +36,7 @@ module _ (rows : List Region) (index : ℕ) (d : Region) (within : index < lengt
         ])
     nearest_below (Some r) is none =
         let some = is.some in
-        let here : IsBeside rows index (index - 1) = record { within = omega (arith, within); other = λ same. let no : ⊥ = omega (arith, same, some) in no; row = is.row } in
+        let here : IsOtherOfRow rows index (index - 1) = record { within = omega (arith, within); other = λ same. let no : ⊥ = omega (arith, same, some) in no; row = is.row } in
         let less = apart.apart (index - 1) index d (omega (arith, some)) within (is.row d) in
         let old = apart.forward (index - 1) d (omega (arith, within)) in
         let new = apart.forward index d within in
@@ -54,7 +54,7 @@ module _ (rows : List Region) (index : ℕ) (d : Region) (within : index < lengt
           | inr more ↦ (let up = apart.apart index u.k d (let other = b.other in omega (arith, more, other)) b.within (sym (b.row d)) in absurd (let no : ⊥ = omega (arith, up, first, low) in no))
         ]))
 
-    pub nearest_above : (o : Option Range) → IfSome o (IsBehind rows index) → IfNone o (AreAllInHigherRows rows index) → IsNearestAbove (decoded_range_of own) ts (option_map decoded_range_of o)
+    pub nearest_above : (o : Option Range) → IfSome o (IsRangeBehindInRow rows index) → IfNone o (AreAllInHigherRows rows index) → IsNearestAbove (decoded_range_of own) ts (option_map decoded_range_of o)
     nearest_above None is none = NoneAbove (λ t listed.
         let u = beside.each t listed in
         let b = u.beside in
@@ -67,7 +67,7 @@ module _ (rows : List Region) (index : ℕ) (d : Region) (within : index < lengt
         ])
     nearest_above (Some r) is none =
         let some = is.some in
-        let here : IsBeside rows index (index + 1) = record { within = some; other = λ same. let no : ⊥ = omega (arith, same) in no; row = is.row } in
+        let here : IsOtherOfRow rows index (index + 1) = record { within = some; other = λ same. let no : ⊥ = omega (arith, same) in no; row = is.row } in
         let less = apart.apart index (index + 1) d (omega arith) some (sym (is.row d)) in
         let after = apart.forward (index + 1) d some in
         let new = apart.forward index d within in

@@ -15,11 +15,11 @@ use Rattle.settle_spec.specs.Lines.{lines_on, taken_for}
 use Rattle.settle_spec.specs.Lists.{Request}
 use Rattle.settle_spec.specs.Parts.{FunctionPart, system_parts, addresses, class_in, are_same_space}
 use Rattle.settle_spec.specs.Stands.{rank, part_space, window_part, stands}
-use Rattle.settle_spec.specs.Items.{Item, Placed, AllPlaced, bus_items, new_window}
+use Rattle.settle_spec.specs.Items.{PlacingItem, Placed, AllPlaced, bus_items, new_window}
 use Rattle.settle_spec.specs.Places.{placed_of, place_among}
 use Rattle.settle_spec.specs.Reach.{reach}
-use Rattle.settle_spec.specs.Growth.{place_around, there_on, taken_around, there, comes_to, takes}
-use Rattle.settle_spec.specs.Kept.{place_of}
+use Rattle.settle_spec.specs.Growth.{place_around, there_on, taken_around, there, comes_to, takes_growth}
+use Rattle.settle_spec.specs.Kept.{address_of_placed}
 use Rattle.settle_spec.proofs.Nested.{on_it, one_bridge}
 use Rattle.settle_laws.proofs.ItemForms.{IsItemOf, items_are}
 use Rattle.settle_laws.proofs.Standing.{part_of, stands_by_itself}
@@ -41,7 +41,7 @@ use Rattle.pci_first_fit.specs.PlaceTables.{placed}
 use Rattle.pci_grow.specs.Putting.{ArePutOver}
 use Rattle.pci_first_fit.specs.Tables.{untold, told}
 use Rattle.pci_grow.specs.There.{Tables, in_row, by_class, grown_in, with_own, grown_told, there_told, place_told}
-use Rattle.pci_grow.specs.Telling.{AreStandingRows, IsDone, grown_there, as_it_stands, place_there, IsUnder, IsToldAs, AreToldTo, IsNoted}
+use Rattle.pci_grow.specs.Telling.{AreStandingRows, IsDone, grown_there, range_as_it_stands, place_there, IsUnder, IsToldAs, AreToldTo, IsWindowNoted}
 use Rattle.pci_grow.proofs.Clearing.{step}
 use Rattle.pci_grow.proofs.InRows.{v_listed, v_stands, not_done, done_cases, done_keeps, done_here}
 use Rattle.pci_grow.proofs.Ranked.{rank_parts, at_index}
@@ -136,7 +136,7 @@ module _ (q : Request) (s : System) (system : IsSystem s) (nested : IsNested q.r
     ]
   ]
 
-  module _ (new : Tables) (range : Range) (noted : IsNoted old new k class range) (takes_w : takes q s w ≡ true) (comes_w : comes_to q s w ≡ Some (decoded_range_of range))
+  module _ (new : Tables) (range : Range) (noted : IsWindowNoted old new k class range) (takes_w : takes_growth q s w ≡ true) (comes_w : comes_to q s w ≡ Some (decoded_range_of range))
       (placed_list : List Placed) (taken_is : taken_around q s (there q s) c f ≡ AllPlaced placed_list) (put : ArePutOver s placed_list old.places new.places) where
     -- ---- what is told of the window
 
@@ -206,7 +206,7 @@ module _ (q : Request) (s : System) (system : IsSystem s) (nested : IsNested q.r
     other_window d b u in_b under p has same =
         let item = found_item p has in
         let g = item.f in
-        let region_is : record { function = g; part = item.p } ≡ p.item.region = ap (λ (i : Item). i.region) item.is in
+        let region_is : record { function = g; part = item.p } ≡ p.item.region = ap (λ (i : PlacingItem). i.region) item.is in
         let one : record { function = g; part = item.p } ≡ u =
         rank_parts s system (record { function = g; part = item.p }) u item.listed under.listed item.there under.part (ap rank region_is ∙ same) in
         let class_is : c ≡ d = sym item.class ∙ ap (λ (x : FunctionPart). class_in q s x.function x.part) one ∙ under.class in
@@ -216,18 +216,18 @@ module _ (q : Request) (s : System) (system : IsSystem s) (nested : IsNested q.r
         let bridges = one_bridge q.roots s system nested f b in_f in_b bridge_f under.bridge buses in
         ap (λ (x : WindowKind). window_part x f) class_is ∙ ap (window_part d) bridges
 
-    put_at : (u : FunctionPart) → Contains s u.function → has_part u.function u.part ≡ true → place_told s new u ≡ else_at (place_of (place_among u placed_list)) (place_told s old u)
+    put_at : (u : FunctionPart) → Contains s u.function → has_part u.function u.part ≡ true → place_told s new u ≡ else_at (address_of_placed (place_among u placed_list)) (place_told s old u)
     put_at u listed there_u =
         let m = listed.0 in
         let at_m = at_index s u.function listed in
         ap (λ n. placed new.places n u.part) (index_at s system m u.function at_m)
         ∙ put m u.function u.part at_m there_u
-        ∙ sym (ap (λ n. else_at (place_of (place_among u placed_list)) (placed old.places n u.part)) (index_at s system m u.function at_m))
+        ∙ sym (ap (λ n. else_at (address_of_placed (place_among u placed_list)) (placed old.places n u.part)) (index_at s system m u.function at_m))
 
     place_same : (d : WindowKind) (b : Function) (u : FunctionPart) → Contains s b → IsUnder q s d b u → (w ≡ window_part d b → ⊥) → place_told s new u ≡ place_told s old u
     place_same d b u in_b under differ =
         put_at u under.listed under.part
-        ∙ ap (λ o. else_at (place_of o) (place_told s old u)) (none_among u placed_list (λ p has same. differ (other_window d b u in_b under p has same)))
+        ∙ ap (λ o. else_at (address_of_placed o) (place_told s old u)) (none_among u placed_list (λ p has same. differ (other_window d b u in_b under p has same)))
 
     -- ---- one part more
 
@@ -243,7 +243,7 @@ module _ (q : Request) (s : System) (system : IsSystem s) (nested : IsNested q.r
             told_others u (grown_there q s u) (there q s u) (part_of q s u listed).listed (λ same. never_done (subst (IsDone q s rows number i) (sym same) earlier)) (was.each u listed stand earlier)
       ];
       rest = λ u listed stand never.
-          told_others u None (as_it_stands q s u) (part_of q s u listed).listed (λ same. never (subst (IsDone q s rows number (i + 1)) (w_is ∙ same) here))
+          told_others u None (range_as_it_stands q s u) (part_of q s u listed).listed (λ same. never (subst (IsDone q s rows number (i + 1)) (w_is ∙ same) here))
           (was.rest u listed stand (λ earlier. never (done_keeps q s system nested rows are number i r within at u earlier)));
       keeps = λ m g p at_m there_p. keeps_by m g p at_m there_p (w_cases (record { function = g; part = p }) m at_m);
       around = λ d b u listed stand under is. elim (done_cases q s system nested rows are number i r within at (window_part d b) is) [
@@ -262,7 +262,7 @@ module _ (q : Request) (s : System) (system : IsSystem s) (nested : IsNested q.r
         own : IsToldAs s new w (grown_there q s w) (there q s w)
         own = record {
           grown_is = grown_w ∙ sym (ap (λ b. if b then comes_to q s w else None) takes_w ∙ comes_w);
-          there_is = there_w ∙ sym (step q s system nested w listed_w ∙ ap (λ b. if b then comes_to q s w else as_it_stands q s w) takes_w ∙ comes_w);
+          there_is = there_w ∙ sym (step q s system nested w listed_w ∙ ap (λ b. if b then comes_to q s w else range_as_it_stands q s w) takes_w ∙ comes_w);
         }
 
         keeps_by : (m : ℕ) (g : Function) (p : Part) → slice_get s m ≡ Some g → has_part g p ≡ true → (w ≡ record { function = g; part = p }) ⊎ ((m ≡ k) → (p ≡ Window c) → ⊥)
@@ -280,9 +280,9 @@ module _ (q : Request) (s : System) (system : IsSystem s) (nested : IsNested q.r
             let class_is : c ≡ d = window_same c d (ap (λ (x : FunctionPart). x.part) same) in
             let function_is : f ≡ b = ap (λ (x : FunctionPart). x.function) same in
             put_at u under.listed under.part
-            ∙ ap (else_at (place_of (place_among u placed_list))) none
-            ∙ else_none (place_of (place_among u placed_list))
-            ∙ sym (ap (λ t. if t then place_of (place_among u (placed_of (taken_around q s (there q s) d b))) else None) (ap (takes q s) (sym same) ∙ takes_w)
-            ∙ ap (λ x. place_of (place_among u (placed_of (taken_around q s (there q s) x b)))) (sym class_is)
-            ∙ ap (λ x. place_of (place_among u (placed_of (taken_around q s (there q s) c x)))) (sym function_is)
-            ∙ ap (λ p. place_of (place_among u (placed_of p))) taken_is)
+            ∙ ap (else_at (address_of_placed (place_among u placed_list))) none
+            ∙ else_none (address_of_placed (place_among u placed_list))
+            ∙ sym (ap (λ t. if t then address_of_placed (place_among u (placed_of (taken_around q s (there q s) d b))) else None) (ap (takes_growth q s) (sym same) ∙ takes_w)
+            ∙ ap (λ x. address_of_placed (place_among u (placed_of (taken_around q s (there q s) x b)))) (sym class_is)
+            ∙ ap (λ x. address_of_placed (place_among u (placed_of (taken_around q s (there q s) c x)))) (sym function_is)
+            ∙ ap (λ p. address_of_placed (place_among u (placed_of p))) taken_is)

@@ -10,7 +10,7 @@ use Rattle.pci_first_fit.specs.Kept.{kept_of, nothing_kept}
 use Rattle.pci_first_fit.specs.declared.place.Places.{Places}
 use Rattle.pci_first_fit.specs.Tables.{told, TellsSame}
 use Rattle.pci_grow.specs.There.{Tables}
-use Rattle.pci_grow.specs.Telling.{IsNoted}
+use Rattle.pci_grow.specs.Telling.{IsWindowNoted}
 
 -- of other parts a table tells the same to be kept
 abbrev pub KeepsSame : List Kept → List Kept → ℕ → Part → Type 0
@@ -22,7 +22,7 @@ pub noted_from : (old : Tables) (k : ℕ) (class : CodeKind) (range : Range) (ke
     → kept_from ≡ old.kept → kept ≡ kept_to → length kept_to ≡ length kept_from → kept_of (get_or kept_to k nothing_kept) (Window (kind_value class)) ≡ true → KeepsSame kept_from kept_to k (Window (kind_value class))
     → grown_from ≡ old.grown → grown ≡ grown_to → length grown_to ≡ length grown_from → told grown_to k class ≡ Some range → TellsSame grown_from grown_to k class
     → places_from ≡ old.places → places ≡ places_to → length places_to ≡ length places_from
-    → IsNoted old (record { kept = kept; grown = grown; places = places }) k class range
+    → IsWindowNoted old (record { kept = kept; grown = grown; places = places }) k class range
 noted_from old k class range kept_from kept_to kept grown_from grown_to grown places_from places_to places from_kept to_kept size_kept on same_kept from_grown to_grown size_grown tells same_grown from_places to_places size_places = record {
   kept_size = ap length to_kept ∙ size_kept ∙ ap length from_kept;
   grown_size = ap length to_grown ∙ size_grown ∙ ap length from_grown;

@@ -21,7 +21,7 @@ use Rattle.pci_base.specs.Ranges.{decoded_range_of}
 use Rattle.pci_kept.specs.declared.region.Region.{Region}
 use Rattle.pci_kept.specs.Boards.{IsKnown}
 use Rattle.pci_kept.specs.Known.{region_value}
-use Rattle.pci_grow.specs.Arounds.{AreInOrder}
+use Rattle.pci_grow.specs.Arounds.{AreRisingAtBothEnds}
 use Rattle.pci_grow.specs.Rows.{IsInRowOrder}
 use Rattle.pci_grow.specs.There.{Tables, in_row, range_told, listed, there_of, there_told}
 use Rattle.pci_grow.specs.Telling.{AreStandingRows}
@@ -30,7 +30,7 @@ use Rattle.pci_grow.proofs.InRows.{rank_one, known_in, of_row, part_in_row, orde
 use Rattle.pci_grow.proofs.Told.{told_is, region_range, row_beside, in_listed}
 
 -- ranges each of which ends before the next ones begin
-in_order : (xs : List Range) → ((x : Range) → Contains xs x → x.first ≤ x.last) → AllPairs (λ (x y : Range). x.last < y.first) xs → AreInOrder xs
+in_order : (xs : List Range) → ((x : Range) → Contains xs x → x.first ≤ x.last) → AllPairs (λ (x y : Range). x.last < y.first) xs → AreRisingAtBothEnds xs
 in_order xs forward apart = record {
   rising = record {
     order = λ j k d less within. (
@@ -105,7 +105,7 @@ module _ (q : Request) (s : System) (system : IsSystem s) (nested : IsNested q.r
       let last_r : r.range.last ≡ (addresses (value r)).last = ap (λ (d : DecodedRange). d.last) (region_range q s r kr) in
       omega (arith, first, last, up, first_r, last_r)
 
-  pub there_in_order : AreInOrder (there_of t row)
+  pub there_in_order : AreRisingAtBothEnds (there_of t row)
   there_in_order =
       in_order (there_of t row) forward
       (pairs_flat_map (IsInRowOrder (λ r. rank (value r))) (λ (x y : Range). x.last < y.first) (λ r. listed (range_told t r)) row (order q s system nested rows are number)

@@ -21,7 +21,7 @@ use Rattle.settle_spec.specs.Wishes.{place_then}
 use Rattle.pci_base.specs.declared.range.Range.{Range}
 use Rattle.pci_base.specs.Ranges.{decoded_range_of}
 use Rattle.pci_place.specs.Items.{function_in, no_function}
-use Rattle.pci_grow.specs.RoomRows.{level, row_number}
+use Rattle.pci_grow.specs.RoomRows.{bus_level, row_number}
 use Rattle.pci_grow.specs.Located.{told_weight, own_then}
 use Rattle.pci_grow.proofs.SpareTold.{same_row, other_row}
 use Rattle.pci_grow.proofs.Located.{same_sums, sum_map, sum_flat, sum_filter, sum_indices, if_zero}
@@ -37,7 +37,7 @@ none_at (Some r) e = cc
 
 module _ (q : Request) (s : System) (k : Kept) (weight : DecodedRange → ℕ) (space : Space) (bus : ℕ) where
   abbrev n : ℕ
-  n = row_number (level q.roots bus) space
+  n = row_number (bus_level q.roots bus) space
 
   abbrev is_own_on : FunctionPart → Bool
   is_own_on r =
@@ -55,7 +55,7 @@ module _ (q : Request) (s : System) (k : Kept) (weight : DecodedRange → ℕ) (
 
     -- what a part weighs that is told to be somewhere
     abbrev pub told_own : Part → Option Range → ℕ
-    told_own p at = told_weight weight (row_number (level q.roots f.slot.bus) (space_of f p)) n at
+    told_own p at = told_weight weight (row_number (bus_level q.roots f.slot.bus) (space_of f p)) n at
 
     abbrev can_change : Part → Bool
     can_change p = is_part q s f p || (is_window p && is_implemented f p)
@@ -67,7 +67,7 @@ module _ (q : Request) (s : System) (k : Kept) (weight : DecodedRange → ℕ) (
     on p = are_siblings q.roots bus f.slot.bus && are_same_space space (space_of f p)
 
     abbrev row : Part → ℕ
-    row p = row_number (level q.roots f.slot.bus) (space_of f p)
+    row p = row_number (bus_level q.roots f.slot.bus) (space_of f p)
 
     on_is : (p : Part) → on p ≡ (row p == n)
     on_is p = elim (cases_Bool (on p)) [

@@ -10,9 +10,9 @@ use Rattle.pci_spec.specs.System.{System, Function, Part, IsSystem, has_part}
 use Rattle.settle_spec.specs.FirstPlace.{else_at}
 use Rattle.settle_spec.specs.Parts.{FunctionPart}
 use Rattle.settle_spec.specs.Stands.{rank}
-use Rattle.settle_spec.specs.Items.{Item as ItemValue, Placed}
+use Rattle.settle_spec.specs.Items.{PlacingItem as ItemValue, Placed}
 use Rattle.settle_spec.specs.Places.{place_among}
-use Rattle.settle_spec.specs.Kept.{place_of}
+use Rattle.settle_spec.specs.Kept.{address_of_placed}
 use Rattle.pci_place.specs.Items.{function_in, no_function}
 use Rattle.pci_first_fit.specs.declared.item.Item.{Item}
 use Rattle.pci_first_fit.specs.declared.item.Part.TheVariants.{Bar}
@@ -60,7 +60,7 @@ module _ (c : WindowKind) (items : List Item) (firsts : List ℕ) (count : lengt
   put_none n past = record {
     size = refl;
     each = λ s system same parts k f part at there.
-        ap (λ ps. else_at (place_of (place_among (region f part) ps)) (placed old k part))
+        ap (λ ps. else_at (address_of_placed (place_among (region f part) ps)) (placed old k part))
         (sym (drop_all n (all_at s c items firsts) (let e = all_length s c items firsts count in omega (arith, e, past))));
   }
 
@@ -110,14 +110,14 @@ module _ (c : WindowKind) (items : List Item) (firsts : List ℕ) (count : lengt
             ap (λ j. placed new j part) place
             ∙ ap (placed new m) (sym (ap (λ (x : FunctionPart). x.part) one))
             ∙ put
-            ∙ sym (ap (λ o. else_at (place_of o) (placed old k part)) (among f part ∙ ap (λ b. cond b (Some (record { item = value; at = first })) (later f part)) hit))
+            ∙ sym (ap (λ o. else_at (address_of_placed o) (placed old k part)) (among f part ∙ ap (λ b. cond b (Some (record { item = value; at = first })) (later f part)) hit))
         | inr miss ↦
             others k part (λ place own_part. both_ways (rank value.region == rank (region f part)) miss
             (eq-eqb (rank value.region) (rank (region f part))
             (let both : Some (function_in s m) ≡ Some f = sym at_own ∙ ap (slice_get s) (sym place) ∙ at in
             ap (λ g. rank (region g own)) (same_Some (function_in s m) f both) ∙ ap (λ p. rank (region f p)) (sym own_part))))
             ∙ was.each s system same parts k f part at there
-            ∙ sym (ap (λ o. else_at (place_of o) (placed old k part)) (among f part ∙ ap (λ b. cond b (Some (record { item = value; at = first })) (later f part)) miss))
+            ∙ sym (ap (λ o. else_at (address_of_placed o) (placed old k part)) (among f part ∙ ap (λ b. cond b (Some (record { item = value; at = first })) (later f part)) miss))
       ]
 
     pub put_more : ArePutFrom c items firsts old new n

@@ -9,7 +9,7 @@ use Rattle.plan_spec.proofs.Planning.Safe.{order_of}
 use Rattle.settle_spec.specs.Lists.{Request}
 use Rattle.settle_spec.specs.Parts.{addresses, bridge_over, lies_within}
 use Rattle.settle_spec.specs.Stands.{window_part}
-use Rattle.settle_spec.specs.Reach.{ranges_for, range_over, room_around, reach_if, reach_within, reach}
+use Rattle.settle_spec.specs.Reach.{root_window_ranges, range_over, room_around, reach_if, reach_within, reach}
 use Rattle.settle_spec.proofs.BridgeOver.{over_leads}
 
 reach_step : (q : Request) (s : System) (c : WindowKind) (depth : ℕ) (b : Function) → reach_within q s c (suc depth) b ≡ reach_if q s c b (room_around q s c (reach_within q s c depth) b)
@@ -28,7 +28,7 @@ module _ (q : Request) (s : System) (nested : IsNested q.roots s) (c : WindowKin
   -- what a window is in is told by what is on lower buses
   pub room_by : (d e : Function → Range) (b : Function) → ((over : Function) → over.slot.bus < b.slot.bus → d over ≡ e over) → room_around q s c d b ≡ room_around q s c e b
   room_by d e b same =
-      ap (cond (is_root q.roots b.slot.bus) (find (lies_within (addresses (window_part c b))) (ranges_for q c b.slot.bus)))
+      ap (cond (is_root q.roots b.slot.bus) (find (lies_within (addresses (window_part c b))) (root_window_ranges q c b.slot.bus)))
       (over_by d e b.slot.bus same (bridge_over s b.slot.bus) refl)
 
   enough : (d e : ℕ) (b : Function) → b.slot.bus < d → b.slot.bus < e → reach_within q s c d b ≡ reach_within q s c e b

@@ -31,7 +31,7 @@ use Rattle.pci_base.specs.Space.{space_of}
 use Rattle.pci_function.specs.declared.record.Record.{Record}
 use Rattle.pci_tree.proofs.Lifting.{same_slot_of}
 use Rattle.pci_place.specs.Items.{no_function, function_in}
-use Rattle.pci_place.specs.Records.{IsRecordOf}
+use Rattle.pci_place.specs.Records.{IsRecordInSystem}
 use Rattle.pci_place.proofs.Records.{same_count, function_at}
 use Rattle.pci_first_fit.specs.declared.kept.Part.TheVariants as parts
 use Rattle.pci_first_fit.specs.Kept.{spec_part}
@@ -40,8 +40,8 @@ use Rattle.pci_kept.specs.Known.{Known, region_value}
 use Rattle.pci_kept.specs.Boards.{IsKnown}
 use Rattle.pci_grow.specs.declared.among.Among.{Among}
 use Rattle.pci_grow.specs.Rooms.{first_behind, IsNearestBelow, IsNearestAbove}
-use Rattle.pci_grow.specs.Rows.{AreApartInRows, AreBeside}
-use Rattle.pci_grow.specs.Reaches.{beside_window, IsAmong, Given, StandsInRows}
+use Rattle.pci_grow.specs.Rows.{AreApartInRows, AreOtherRangesOfRow}
+use Rattle.pci_grow.specs.Reaches.{beside_window, IsWindowAmong, ListsAndLines, StandsInRows}
 use Rattle.pci_grow.specs.OffLines.{rows_beside, IsAmongAlso}
 use Rattle.pci_grow.proofs.Clear.{first_by_nearest}
 use Rattle.pci_grow.proofs.NearestOf.{below_same, above_same}
@@ -64,7 +64,7 @@ same_before xs ys zs same = record {
   back = λ t has. elim (Contains-append_cases ys zs t has) [ inl left ↦ Contains-append_left xs zs t (same.back t left) | inr right ↦ Contains-append_right xs zs t right ];
 }
 
-module _ (q : Request) (s : System) (records : List Record) (given : Given) (rows : List Region) (is : StandsInRows q s records given rows) where
+module _ (q : Request) (s : System) (records : List Record) (given : ListsAndLines) (rows : List Region) (is : StandsInRows q s records given rows) where
   pub row_is : (k : ℕ) (d : Region) → k < length rows → IsRow q s is.board.system is.board.nested rows is.has (get_or rows k d)
   row_is k d within = row_at q s is.board.system is.board.nested rows is.has k d within
 
@@ -82,10 +82,10 @@ module _ (q : Request) (s : System) (records : List Record) (given : Given) (row
     pub has_record : region.function < length records
     has_record = (let low = known.within in let same = same_count s records is.board.has in omega (arith, low, same))
 
-    pub record_is : (r : Record) → IsRecordOf s own (get_or records region.function r)
+    pub record_is : (r : Record) → IsRecordInSystem s own (get_or records region.function r)
     record_is r =
         let found = function_at s records is.board.has region.function (get_or records region.function r) (slice_get-get_or records region.function r has_record) in
-        subst (λ f. IsRecordOf s f (get_or records region.function r)) (sym (get_or_from_slice_get s region.function found.f no_function found.at)) found.is
+        subst (λ f. IsRecordInSystem s f (get_or records region.function r)) (sym (get_or_from_slice_get s region.function found.f no_function found.at)) found.is
 
     pub slot_same : (r : Record) → (get_or records region.function r).slot ≡ own.slot
     slot_same r = same_slot_of (get_or records region.function r) own (record_is r).value
@@ -174,15 +174,15 @@ module _ (q : Request) (s : System) (records : List Record) (given : Given) (row
       -- ---- among its neighbours
 
       module _ (a : Among) (own_window : (e : Region) → a.window ≡ (get_or rows index e).range)
-          (below : (beside : List DecodedRange) → AreApartInRows rows → AreBeside rows index beside → IsNearestBelow (decoded_range_of a.window) beside (option_map decoded_range_of a.before))
-          (above : (beside : List DecodedRange) → AreApartInRows rows → AreBeside rows index beside → IsNearestAbove (decoded_range_of a.window) beside (option_map decoded_range_of a.behind))
+          (below : (beside : List DecodedRange) → AreApartInRows rows → AreOtherRangesOfRow rows index beside → IsNearestBelow (decoded_range_of a.window) beside (option_map decoded_range_of a.before))
+          (above : (beside : List DecodedRange) → AreApartInRows rows → AreOtherRangesOfRow rows index beside → IsNearestAbove (decoded_range_of a.window) beside (option_map decoded_range_of a.behind))
           (n : Among) (slot : Slot) (slot_is : slot ≡ own.slot)
           (also : IsAmongAlso (decoded_range_of a.window) a n (rows_beside given.told slot region.level (space_of region.space) (decoded_range_of a.window) given.lines)) where
         apart : AreApartInRows rows
         apart = apart_in_rows q s is.board.system is.board.nested rows is.has
 
-        beside : AreBeside rows index (standing_beside q s (window_part c own))
-        beside = subst (λ v. AreBeside rows index (standing_beside q s v)) value_is (beside_in_rows q s is.board.system is.board.nested rows is.has index d within)
+        beside : AreOtherRangesOfRow rows index (standing_beside q s (window_part c own))
+        beside = subst (λ v. AreOtherRangesOfRow rows index (standing_beside q s v)) value_is (beside_in_rows q s is.board.system is.board.nested rows is.has index d within)
 
         window_same : addresses (window_part c own) ≡ decoded_range_of a.window
         window_same = window_is ∙ sym (ap decoded_range_of (own_window d))
@@ -230,7 +230,7 @@ module _ (q : Request) (s : System) (records : List Record) (given : Given) (row
             (above_same (decoded_range_of a.window) (found ++ standing_beside q s (window_part c own)) (beside_window q s (window_part c own)) (option_map decoded_range_of n.behind) with_standing
             (also.above (subst (λ (r : DecodedRange). r.first ≤ r.last) window_same forward) (standing_beside q s (window_part c own)) (above (standing_beside q s (window_part c own)) apart beside)))
 
-        pub is_among : (highest : ℕ) → highest ≡ highest_in c own.probe → IsAmong q s c own highest n
+        pub is_among : (highest : ℕ) → highest ≡ highest_in c own.probe → IsWindowAmong q s c own highest n
         is_among highest highest_is = record {
           window = next_same;
           highest_is = sym highest_is;

@@ -11,7 +11,7 @@ use Rattle.pci_spec.specs.Bus.{is_root, secondary}
 use Rattle.settle_spec.specs.Lists.{Lists, Request}
 use Rattle.settle_spec.specs.Parts.{addresses, lies_within, bridge_over}
 use Rattle.settle_spec.specs.Stands.{window_part}
-use Rattle.settle_spec.specs.Reach.{ranges_for, range_over, room_around}
+use Rattle.settle_spec.specs.Reach.{root_window_ranges, range_over, room_around}
 use Rattle.settle_spec.proofs.BridgeOver.{over_leads, over_is}
 use Rattle.settle_laws.specs.Order.{level}
 use Rattle.pci_base.specs.declared.window_kind.WindowKind.{WindowKind as CodeKind}
@@ -57,7 +57,7 @@ module _ (q : Request) (s : System) (records : List Record) (lists : Lists) (boa
     c = kind_value class
 
     abbrev room_by : (root : Bool) → Option Function → Option Range
-    room_by root over = cond root (find (lies_within (addresses (window_part c own))) (ranges_for q c bus)) (range_over reach over)
+    room_by root over = cond root (find (lies_within (addresses (window_part c own))) (root_window_ranges q c bus)) (range_over reach over)
 
     module _ (off : r.level ≡ 0 → ⊥) (over : List (Option ℕ)) (are : IsBridgeToBus records over) where
       under : (o : Option Function) → bridge_over s bus ≡ o → room_around q s c reach own ≡ range_over reach o

@@ -7,7 +7,8 @@ use Rattle.pci_base.specs.declared.range.Range.{Range}
 use Rattle.pci_base.specs.declared.window_kind.WindowKind.{WindowKind}
 use Rattle.pci_base.specs.declared.window_kind.ByKind.{ByKind}
 use Rattle.pci_first_fit.specs.Tables.{TellsSame}
-use Rattle.pci_grow.specs.RoomRows.{row_at, AreSameBut, IsEndedIn, IsAddedTo, LastsRise}
+use Rattle.pci_grow.specs.RoomRows.{row_at, AreSameBut, IsEndedIn, IsAddedTo}
+use Rattle.pci_grow.specs.LastPlaces.{LastsRise}
 use Rattle.pci_first_fit.specs.Spots.{FirstsRise}
 
 module _ {A : Type 0} (rows : List (Vec Range A)) (n : ℕ) where

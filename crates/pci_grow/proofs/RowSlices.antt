@@ -13,7 +13,7 @@ use Rattle.settle_spec.specs.Parts.{are_same_space}
 use Rattle.pci_base.specs.Ranges.{decoded_range_of}
 use Rattle.pci_base.specs.Space.{space_of}
 use Rattle.pci_first_fit.specs.declared.lines.Line.{Line}
-use Rattle.pci_grow.specs.OffLines.{pieces, row_keeps_off, rows_beside, HaveRanges}
+use Rattle.pci_grow.specs.OffLines.{pieces, line_keeps_slot_off, rows_beside, HaveRanges}
 
 pub one_level : (p : Line → Bool) (level : ℕ) → ((l : Line) → p l ≡ true → l.level ≡ level) → (l : Line) → p l ≡ true → (level ≤ l.level) × (l.level ≤ level)
 one_level p level within l is = let same = within l is in (omega (arith, same), omega (arith, same))
@@ -39,7 +39,7 @@ flat_if p f (l ∷ lines) = ap (λ xs. cond (p l) (f l) [] ++ xs) (flat_if p f l
 
 module _ (told : List ToldRange) (slot : Slot) (level : ℕ) (space : Space) where
   abbrev keeps : Line → Bool
-  keeps l = row_keeps_off told slot level space l
+  keeps l = line_keeps_slot_off told slot level space l
 
   -- what can keep a window off is on its level
   on_it : (l : Line) → keeps l ≡ true → l.level ≡ level

@@ -10,8 +10,8 @@ use Rattle.pci_base.specs.declared.range.Range.{Range}
 use Rattle.pci_base.specs.Ranges.{decoded_range_of}
 use Rattle.pci_kept.specs.declared.region.Region.{Region}
 use Rattle.pci_kept.specs.Known.{region_value}
-use Rattle.pci_grow.specs.There.{Tables, in_row, range_told, later_of}
-use Rattle.pci_grow.specs.Telling.{Setting, IsGrowing, IsNext, IsNextOfSome, IsRowOfSome, IsBegunOfSome, IsLatest, there_among, AreToldTo, AreToldFrom, IsBegun, AreThere}
+use Rattle.pci_grow.specs.There.{Tables, in_row, range_told, later_range_end}
+use Rattle.pci_grow.specs.Telling.{Setting, IsGrowing, IsNext, IsNextOfSome, IsRowOfSome, IsBegunOfSome, IsLatest, there_among, AreToldTo, AreToldFrom, IsNothingGrown, AreThere}
 use Rattle.pci_grow.proofs.Begun.{begun_told}
 use Rattle.pci_grow.proofs.Clearing.{latest_none, latest_more}
 use Rattle.pci_grow.proofs.InRows.{v_known, v_listed, v_stands, done_here}
@@ -53,13 +53,13 @@ module _ (p : Setting) (number i : ℕ) (from t : Tables) (end : Option ℕ) (ro
 
   -- one part more
   pub towards_more : (new : Tables) → ((q : Request) (n count : ℕ) → IsNext q p n count t r → IsLatest (there_among q p.classing.system (take count (in_row n p.rows))) end → AreToldTo q p.classing.system p.rows n (count + 1) new)
-      → (o : Option Range) → o ≡ range_told new r → (last : Option ℕ) → last ≡ later_of end o → IsTowards p number (i + 1) from new last row
+      → (o : Option Range) → o ≡ range_told new r → (last : Option ℕ) → last ≡ later_range_end end o → IsTowards p number (i + 1) from new last row
   towards_more new noted o o_is last last_is = record { told = more; latest = λ q growing told. subst (IsLatest (there_among q p.classing.system (take (i + 1) row))) (sym last_is) (later q growing told) }
     where
       more : (q : Request) → IsGrowing q p → AreToldFrom q p.classing.system (number + 1) from → AreToldTo q p.classing.system p.rows number (i + 1) new
       more q growing told = noted q number i (next_of q growing told) (subst (λ rs. IsLatest (there_among q p.classing.system (take i rs)) end) row_is (to.latest q growing told))
 
-      later : (q : Request) → IsGrowing q p → AreToldFrom q p.classing.system (number + 1) from → IsLatest (there_among q p.classing.system (take (i + 1) row)) (later_of end o)
+      later : (q : Request) → IsGrowing q p → AreToldFrom q p.classing.system (number + 1) from → IsLatest (there_among q p.classing.system (take (i + 1) row)) (later_range_end end o)
       later q growing told =
           let s : System = p.classing.system in
           let next = next_of q growing told in
@@ -72,7 +72,7 @@ module _ (p : Setting) (number i : ℕ) (from t : Tables) (end : Option ℕ) (ro
           ap (there_among q s) (take_more row i d within)
           ∙ flat_map-append (λ x. range_list (there q s (region_value s x))) (take i row) (r ∷ [])
           ∙ ap (λ xs. so_far ++ xs) (append-nil (range_list (there q s (region_value s r)))) in
-          subst (λ xs. IsLatest xs (later_of end o)) (sym list) (latest_more so_far end o (there q s (region_value s r)) is (to.latest q growing told))
+          subst (λ xs. IsLatest xs (later_range_end end o)) (sym list) (latest_more so_far end o (there q s (region_value s r)) is (to.latest q growing told))
 
 -- a whole row
 pub towards_end : (p : Setting) (number i : ℕ) (from t : Tables) (end : Option ℕ) (row : List Region) → row ≡ in_row number p.rows → IsTowards p number i from t end row → length row ≤ i
@@ -83,7 +83,7 @@ towards_end p number i from t end row row_is to past q growing told =
 -- ---- all rows
 
 pub record IsDownTo (p : Setting) (number : ℕ) (from t : Tables) : Type 0 where
-  pub told : (q : Request) → IsGrowing q p → IsBegun q p.classing.system from → AreToldFrom q p.classing.system number t
+  pub told : (q : Request) → IsGrowing q p → IsNothingGrown q p.classing.system from → AreToldFrom q p.classing.system number t
 
 pub down_first : (p : Setting) (from : Tables) → IsDownTo p 514 from from
 down_first p from = record { told = λ q growing begun. begun_told q p.classing.system growing.system growing.nested from begun }
@@ -101,6 +101,6 @@ down_more p number above from t new next down row = record {
   told = λ q growing begun. row q growing (subst (λ n. AreToldFrom q p.classing.system n t) next (down.told q growing begun));
 }
 
-pub down_end : (p : Setting) (number : ℕ) (from t : Tables) → number ≡ 0 → IsDownTo p number from t → (q : Request) → IsGrowing q p → IsBegun q p.classing.system from → AreThere q p.classing.system t
+pub down_end : (p : Setting) (number : ℕ) (from t : Tables) → number ≡ 0 → IsDownTo p number from t → (q : Request) → IsGrowing q p → IsNothingGrown q p.classing.system from → AreThere q p.classing.system t
 down_end p number from t none down q growing begun =
     told_all q p.classing.system growing.system growing.nested t (subst (λ n. AreToldFrom q p.classing.system n t) none (down.told q growing begun))

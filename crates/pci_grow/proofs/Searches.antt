@@ -24,13 +24,13 @@ use Rattle.pci_grow.specs.declared.around.Around.{Around}
 use Rattle.pci_grow.specs.declared.around.Search.{Search}
 use Rattle.pci_grow.specs.declared.last_place.LateSpot.{LateSpot}
 use Rattle.pci_grow.specs.LastPlaces.{LastsRise, IsDescended, IsLateSpotAt}
-use Rattle.pci_grow.specs.Arounds.{onward, backward, last_place_of, IsFirstSearch, IsLastSearch, IsSearch, IsBelowLast, AreInOrder}
+use Rattle.pci_grow.specs.Arounds.{onward, backward, last_place_of, IsFirstSearch, IsLastSearch, IsSearch, IsBelowLateSearch, AreRisingAtBothEnds}
 use Rattle.pci_grow.proofs.Places.{place_gives, place_from}
 use Rattle.pci_grow.proofs.Late.{none_there}
 
 -- ---- last addresses still rise
 
-module _ (xs : List Range) (e : Extent) (s : Spot) (listed : AreInOrder xs) (between : IsBetweenTaken xs e s) where
+module _ (xs : List Range) (e : Extent) (s : Spot) (listed : AreRisingAtBothEnds xs) (between : IsBetweenTaken xs e s) where
   abbrev new : List Range
   new = insert xs s.index (extent_range e s.at)
 
@@ -65,7 +65,7 @@ module _ (xs : List Range) (e : Extent) (s : Spot) (listed : AreInOrder xs) (bet
             ]
       ]
 
-  pub still_in_order : AreInOrder new
+  pub still_in_order : AreRisingAtBothEnds new
   still_in_order = record { rising = inserted xs e s listed.rising between; lasts = inserted_lasts }
 
 -- ---- where searches for last places have come
@@ -121,7 +121,7 @@ module _ (old new : List Range) (d : Extent) (at : Spot) (listed : AreRisingRang
       false_from_ne_true (is_place (decoded_range_of r) (map decoded_range_of new) (extent_value e) b) (λ place. true≢false (sym (less_place old new d at put r e b place) ∙ is b))
   last_stays (Some r) e (Some s) low is = descended_stays old new d at put r e s.at s.above (low s refl) is
 
-  pub search_stays : (s : Search) → IsBelowLast old s at → IsSearch a old s → IsSearch a new s
+  pub search_stays : (s : Search) → IsBelowLateSearch old s at → IsSearch a old s → IsSearch a new s
   search_stays s low is = record {
     extent = is.extent;
     first = first_stays (onward a) s.extent s.first is.extent is.first;

@@ -2,9 +2,8 @@
 use Rattle.std.proofs.Common.{◌≡◌, ℕ, ◌+◌, ◌<◌, List, [], ◌∷◌, ◌++◌, append_assoc, map, ap, sym, subst, ◌∙◌, refl}
 use Rattle.std.specs.List.{sum_by}
 use Rattle.std.specs.List.Sorted.{IsPermutation}
-use Rattle.std.proofs.lemmas.List.Sorted.{IsPermutation-refl}
+use Rattle.std.proofs.lemmas.List.Sorted.{IsPermutation-refl, sum_by-IsPermutation}
 use Rattle.std.proofs.lemmas.List.Sums.{sum_by-append, sum_by-cons}
-use Rattle.std.proofs.lemmas.List.Sorted.{sum_by-IsPermutation}
 use Rattle.pci_spec.specs.Decoded.{Range as DecodedRange}
 use Rattle.pci_spec.specs.System.{System, Space}
 use Rattle.settle_spec.specs.Lists.{Request}
@@ -17,8 +16,8 @@ use Rattle.pci_first_fit.specs.Lines.{AreLines, AreAdded}
 use Rattle.pci_first_fit.proofs.Rows.{added_on}
 use Rattle.pci_tree.specs.Roots.{buses_of}
 use Rattle.pci_grow.specs.declared.board.Board.{Board}
-use Rattle.pci_grow.specs.RoomRows.{total, HasRanges, level, row_number, row_at}
-use Rattle.pci_grow.specs.Board.{Room, IsTold}
+use Rattle.pci_grow.specs.RoomRows.{total, HasRanges, bus_level, row_number, row_at}
+use Rattle.pci_grow.specs.Board.{Room, IsRoomOfKept}
 
 sum_map : (weight : DecodedRange → ℕ) (xs : List Range) → sum_by weight (map decoded_range_of xs) ≡ total weight xs
 sum_map weight [] = refl
@@ -51,9 +50,9 @@ pub has_none : (ranges : List Range) → ranges ≡ [] → HasRanges ranges []
 has_none ranges none weight = ap (total weight) none
 
 -- all that is taken on a bus
-module _ (q : Request) (s : System) (k : Kept) (b : Board) (room : Room) (told : IsTold q s k b room) (bus : ℕ) (small : bus < 256) (space : Space) where
+module _ (q : Request) (s : System) (k : Kept) (b : Board) (room : Room) (told : IsRoomOfKept q s k b room) (bus : ℕ) (small : bus < 256) (space : Space) where
   pub taken_is : (none first second third sorted behind row : List Range) (held : List DecodedRange) (n : ℕ) → HasRanges behind held → none ≡ [] → first ≡ none ++ behind → AreAdded first second (lines_on q space bus)
-      → n ≡ row_number (level (buses_of b.roots.now) bus) space → row ≡ row_at room.rows n → third ≡ second ++ row → IsPermutation third sorted → HasRanges sorted (held ++ taken_then q s k space bus)
+      → n ≡ row_number (bus_level (buses_of b.roots.now) bus) space → row ≡ row_at room.rows n → third ≡ second ++ row → IsPermutation third sorted → HasRanges sorted (held ++ taken_then q s k space bus)
   taken_is none first second third sorted behind row held n has empty put added n_is row_is more moved =
       subst (HasRanges sorted) (append_assoc held (lines_on q space bus) (there_then q s k space bus))
       (has_sorted third sorted ((held ++ lines_on q space bus) ++ there_then q s k space bus)
@@ -61,14 +60,14 @@ module _ (q : Request) (s : System) (k : Kept) (b : Board) (room : Room) (told :
       (has_added first second held (lines_on q space bus) (has_more none first behind [] held (has_none none empty) put has) added)
       more
       (subst (λ xs. HasRanges xs (there_then q s k space bus))
-      (sym (row_is ∙ ap (row_at room.rows) (n_is ∙ ap (λ roots. row_number (level roots bus) space) (sym told.asked.roots))))
+      (sym (row_is ∙ ap (row_at room.rows) (n_is ∙ ap (λ roots. row_number (bus_level roots bus) space) (sym told.asked.roots))))
       (told.rows space bus small)))
       moved)
 
   -- nothing but what is there
   pub plain_is : (behind row : List Range) (held : List DecodedRange) (n : ℕ) → HasRanges behind held → b.lines.now ≡ [] → behind ≡ []
-      → n ≡ row_number (level (buses_of b.roots.now) bus) space → row ≡ row_at room.rows n → HasRanges row (held ++ taken_then q s k space bus)
+      → n ≡ row_number (bus_level (buses_of b.roots.now) bus) space → row ≡ row_at room.rows n → HasRanges row (held ++ taken_then q s k space bus)
   plain_is behind row held n has untold empty n_is row_is =
       taken_is [] [] [] row row behind row held n has refl (sym empty)
-      (added_on q bus (level q.roots bus) space [] [] [] (subst (AreLines q.roots q.told.ranges) untold told.asked.told) refl refl)
+      (added_on q bus (bus_level q.roots bus) space [] [] [] (subst (AreLines q.roots q.told.ranges) untold told.asked.told) refl refl)
       n_is row_is refl (IsPermutation-refl row)

@@ -29,8 +29,8 @@ use Rattle.pci_first_fit.specs.declared.extent.Extent.{Extent}
 use Rattle.pci_first_fit.specs.Lists.{lists_value}
 use Rattle.pci_grow.specs.Lists.{ranges_had}
 use Rattle.pci_first_fit.specs.Spots.{extent_value, extent_range, IsExtent}
-use Rattle.pci_grow.specs.RoomRows.{level, row_number, HasRanges}
-use Rattle.pci_grow.specs.Board.{IsWindow, bridge_of, class_of, AreFacts, Room, told_then, IsTold, IsOpened}
+use Rattle.pci_grow.specs.RoomRows.{bus_level, row_number, HasRanges}
+use Rattle.pci_grow.specs.Board.{IsWindow, bridge_of_window, window_class, AreFacts, Room, told_then, IsRoomOfKept, IsWindowOpened}
 use Rattle.pci_grow.specs.Endings.{IsEndedAs, IsSparedAs, IsSparedIn, IsSparedOnRoot, IsOverOne}
 use Rattle.pci_grow.proofs.Wishing.{same_range, spared_same}
 use Rattle.pci_grow.proofs.Weights.{have_same}
@@ -72,12 +72,12 @@ module _ (q : Request) (s : System) (c : WindowKind) (b : Function) (e : ExtentV
         ap (λ r. cond r (option_map (λ at. record { at = at; kept = k }) (first_place (class_ranges q c b.slot.bus) (held ++ taken_then q s k (window_space c) b.slot.bus) d)) (with_bridge (λ over. above over d held k) (bridge_over s b.slot.bus))) root
         ∙ ap (with_bridge (λ over. above over d held k)) is
 
-module _ (q : Request) (s : System) (k : Kept) (b : Board) (old : Room) (told_old : IsTold q s k b old) (w : BridgeWindow) (window : IsWindow s w) (e : Extent) (behind : List DecodedRange) where
+module _ (q : Request) (s : System) (k : Kept) (b : Board) (old : Room) (told_old : IsRoomOfKept q s k b old) (w : BridgeWindow) (window : IsWindow s w) (e : Extent) (behind : List DecodedRange) where
   abbrev f : Function
-  f = bridge_of s w
+  f = bridge_of_window s w
 
   abbrev c : WindowKind
-  c = class_of w
+  c = window_class w
 
   abbrev ev : ExtentValue
   ev = extent_value e
@@ -88,9 +88,9 @@ module _ (q : Request) (s : System) (k : Kept) (b : Board) (old : Room) (told_ol
   own_small : f.slot.bus < 256
   own_small = (All-contains IsFunction s f told_old.asked.system.each listed).slot.0
 
-  own_row : (facts : Facts) → AreFacts q c f facts → (row : ℕ) → row ≡ row_number (level (buses_of b.roots.now) facts.bus) (window_space c) → row ≡ row_number (level q.roots f.slot.bus) (window_space c)
+  own_row : (facts : Facts) → AreFacts q c f facts → (row : ℕ) → row ≡ row_number (bus_level (buses_of b.roots.now) facts.bus) (window_space c) → row ≡ row_number (bus_level q.roots f.slot.bus) (window_space c)
   own_row facts are row row_of =
-      row_of ∙ ap (λ n. row_number (level (buses_of b.roots.now) n) (window_space c)) are.bus ∙ sym (ap (λ roots. row_number (level roots f.slot.bus) (window_space c)) told_old.asked.roots)
+      row_of ∙ ap (λ n. row_number (bus_level (buses_of b.roots.now) n) (window_space c)) are.bus ∙ sym (ap (λ roots. row_number (bus_level roots f.slot.bus) (window_space c)) told_old.asked.roots)
 
   -- ---- an open window
 
@@ -140,7 +140,7 @@ module _ (q : Request) (s : System) (k : Kept) (b : Board) (old : Room) (told_ol
 
   -- ---- a closed window on a root
 
-  module _ (is_extent : IsExtent e) (facts : Facts) (are : AreFacts q c f facts) (row : ℕ) (row_of : row ≡ row_number (level (buses_of b.roots.now) facts.bus) (window_space c))
+  module _ (is_extent : IsExtent e) (facts : Facts) (are : AreFacts q c f facts) (row : ℕ) (row_of : row ≡ row_number (bus_level (buses_of b.roots.now) facts.bus) (window_space c))
       (list : List lists.RootRange) (list_is : list ≡ list_of (lists_value b.lists.now) c)
       (taken : List Range) (taken_is : HasRanges taken (behind ++ taken_then q s k (window_space c) facts.bus)) where
     abbrev found : Option ℕ
@@ -159,7 +159,7 @@ module _ (q : Request) (s : System) (k : Kept) (b : Board) (old : Room) (told_ol
     pub root_none : found ≡ None → IsSparedOnRoot q s k b w facts e behind None old old
     root_none none there closed = subst (λ o. IsSparedAs q s b (root_of o) None old old) (sym none ∙ found_is) (refl, refl)
 
-    pub root_some : (at : ℕ) → found ≡ Some at → (new : Room) → IsOpened old new w row (extent_range e at) → IsSparedOnRoot q s k b w facts e behind (Some at) old new
+    pub root_some : (at : ℕ) → found ≡ Some at → (new : Room) → IsWindowOpened old new w row (extent_range e at) → IsSparedOnRoot q s k b w facts e behind (Some at) old new
     root_some at some new opened there closed =
         subst (λ o. IsSparedAs q s b (root_of o) (Some at) old new) (sym some ∙ found_is)
         (refl, told_opened q s k b old new told_old w window (sym are.there ∙ there) row (own_row facts are row row_of) (extent_range e at) closed opened)
@@ -246,8 +246,8 @@ module _ (q : Request) (s : System) (k : Kept) (b : Board) (old : Room) (told_ol
                 by None is (none, same) = subst (λ o. IsSparedAs q s b o None old middle) (sym (by_above None is)) (refl, same)
                 by (Some found) is (some, told_found) = absurd (let no : ⊥ = cc in no)
 
-            pub of_above_yes : (at : ℕ) (new : Room) (row : ℕ) → row ≡ row_number (level (buses_of b.roots.now) facts.bus) (window_space c) → IsSparedAs q s b by_bridge (Some at) old middle
-                → IsOpened middle new w row (extent_range held at) → facts.there ≡ true → IsSparedAs q s b whole (Some at) old new
+            pub of_above_yes : (at : ℕ) (new : Room) (row : ℕ) → row ≡ row_number (bus_level (buses_of b.roots.now) facts.bus) (window_space c) → IsSparedAs q s b by_bridge (Some at) old middle
+                → IsWindowOpened middle new w row (extent_range held at) → facts.there ≡ true → IsSparedAs q s b whole (Some at) old new
             of_above_yes at new row row_of granted opened there = by by_bridge refl granted
               where
                 by : (o : Option Spared) → by_bridge ≡ o → IsSparedAs q s b o (Some at) old middle → IsSparedAs q s b whole (Some at) old new
@@ -262,4 +262,4 @@ module _ (q : Request) (s : System) (k : Kept) (b : Board) (old : Room) (told_ol
                     let window_is : decoded_range_of (extent_range held at) ≡ range_from found.at ev.size =
                     ap (λ n. range_from n held.size) at_is ∙ ap (range_from found.at) size in
                     subst (λ o. IsSparedAs q s b o (Some at) old new) (sym (by_above (Some found) is))
-                    (ap Some at_is, subst (λ r. IsTold q s (with_window (window_part c f) r found.kept) b new) window_is told_new)
+                    (ap Some at_is, subst (λ r. IsRoomOfKept q s (with_window (window_part c f) r found.kept) b new) window_is told_new)

@@ -30,13 +30,14 @@ use Rattle.pci_place.specs.Items.{no_function, function_in}
 use Rattle.pci_first_fit.specs.declared.kept.Part.TheVariants as parts
 use Rattle.pci_first_fit.specs.Kept.{spec_part, nothing_kept}
 use Rattle.pci_kept.specs.declared.region.Region.{Region}
-use Rattle.pci_kept.specs.Held.{is_kept}
+use Rattle.pci_kept.specs.Held.{is_region_kept}
 use Rattle.pci_kept.specs.Known.{Known, region_value}
 use Rattle.pci_kept.specs.Boards.{IsKnown}
 use Rattle.pci_kept.proofs.Helds.{there_of}
 use Rattle.pci_kept.proofs.Passing.{levels_one, spaces_one, one_space}
 use Rattle.pci_kept.proofs.Whole.{values_are, numbers_rise, known_sorted}
-use Rattle.pci_grow.specs.Rows.{row_number, row_of, IsInRowOrder, HasRows, AreApartInRows, IsBeside, IsRangeBeside, AreBeside}
+use Rattle.pci_grow.specs.Rows.{region_row_number, IsInRowOrder, HasRows, AreApartInRows, IsOtherOfRow, IsRangeBeside, AreOtherRangesOfRow}
+use Rattle.pci_grow.specs.RoomRows.{row_number}
 
 -- an index past the end is read as this
 abbrev pub no_region : Region
@@ -102,7 +103,7 @@ module _ (q : Request) (s : System) where
     space_y = ap (λ (k : Known). k.space) y_is.all
 
     -- those of one row stand beside each other
-    pub beside_by_row : row_of x ≡ row_of y → are_beside q (value x) (value y) ≡ true
+    pub beside_by_row : region_row_number x ≡ region_row_number y → are_beside q (value x) (value y) ≡ true
     beside_by_row same =
         let both = one_row x.level y.level (space_of x.space) (space_of y.space) same in
         and_from (are_siblings q.roots (value x).function.slot.bus (value y).function.slot.bus) (are_same_space (part_space (value x)) (part_space (value y)))
@@ -110,7 +111,7 @@ module _ (q : Request) (s : System) where
         (spaces_one (part_space (value x)) (part_space (value y)) (sym space_x ∙ both.1 ∙ space_y))
 
     -- and those that do are of one row
-    pub row_by_beside : are_beside q (value x) (value y) ≡ true → row_of x ≡ row_of y
+    pub row_by_beside : are_beside q (value x) (value y) ≡ true → region_row_number x ≡ region_row_number y
     row_by_beside beside =
         let both = and_parts (are_siblings q.roots (value x).function.slot.bus (value y).function.slot.bus) (are_same_space (part_space (value x)) (part_space (value y))) beside in
         ap (λ n. row_number n (space_of x.space)) (level_x ∙ one_level q s (value x).function.slot.bus (value y).function.slot.bus both.0 ∙ sym level_y)
@@ -120,7 +121,7 @@ module _ (q : Request) (s : System) where
     -- ---- which parts the rows have
 
     abbrev kept : Region → Bool
-    kept x = is_kept has.standing x
+    kept x = is_region_kept has.standing x
 
     kept_where : (x : Region) → IsKnown q s x → kept x ≡ stands q s (value x)
     kept_where x known =
@@ -165,16 +166,16 @@ module _ (q : Request) (s : System) where
     in_order : AllPairs (IsInRowOrder number) rows
     in_order = has.sorted.order number (numbers_rise q s has.regions has.parts system)
 
-    pub rows_rise : IsNonDecreasingBy row_of rows
+    pub rows_rise : IsNonDecreasingBy region_row_number rows
     rows_rise j k d up within = elim (cases_eq j k) [
-      | inl one ↦ (let same : row_of (get_or rows j d) ≡ row_of (get_or rows k d) = ap (λ n. row_of (get_or rows n d)) one in omega (arith, same))
+      | inl one ↦ (let same : region_row_number (get_or rows j d) ≡ region_row_number (get_or rows k d) = ap (λ n. region_row_number (get_or rows n d)) one in omega (arith, same))
       | inr differ ↦ elim (in_order j k d (omega (arith, up, differ)) within) [
         | inl less ↦ omega (arith, less)
         | inr both ↦ (let same = both.0 in omega (arith, same))
       ]
     ]
 
-    module _ (j k : ℕ) (d : Region) (less : j < k) (within : k < length rows) (same : row_of (get_or rows j d) ≡ row_of (get_or rows k d)) where
+    module _ (j k : ℕ) (d : Region) (less : j < k) (within : k < length rows) (same : region_row_number (get_or rows j d) ≡ region_row_number (get_or rows k d)) where
       abbrev x : Region
       x = get_or rows j d
 
@@ -263,14 +264,14 @@ module _ (q : Request) (s : System) where
               other = λ here.
                   let ranks : rank u ≡ rank w = ap rank (sym (place.is d) ∙ ap (λ n. value (get_or rows n d)) here) in
                   false≢true (sym (ap not (eq-eqb (rank u) (rank w) ranks)) ∙ one.1);
-              row = λ e. ap row_of (get_or_default rows place.at e d place.within) ∙ sym same ∙ ap row_of (get_or_default rows index d e within);
+              row = λ e. ap region_row_number (get_or_default rows place.at e d place.within) ∙ sym same ∙ ap region_row_number (get_or_default rows index d e within);
             };
             range = λ e.
                 ap (λ (x : Region). decoded_range_of x.range) (get_or_default rows place.at e d place.within)
                 ∙ ap (λ (k : Known). k.range) there.known.all ∙ ap addresses (place.is d) ∙ made.is;
           }
 
-      all_beside : (k : ℕ) (e : Region) → IsBeside rows index k → Contains (standing_beside q s w) (decoded_range_of (get_or rows k e).range)
+      all_beside : (k : ℕ) (e : Region) → IsOtherOfRow rows index k → Contains (standing_beside q s w) (decoded_range_of (get_or rows k e).range)
       all_beside k e is =
           let x = get_or rows k d in
           let there = row_at k d is.within in
@@ -285,5 +286,5 @@ module _ (q : Request) (s : System) where
           subst (Contains (standing_beside q s w)) (sym (ap (λ (k : Known). k.range) there.known.all) ∙ ap (λ (x : Region). decoded_range_of x.range) (get_or_default rows k d e is.within))
           (in_map_from addresses (filter passes (system_parts q s)) u (in_filter_from passes (system_parts q s) u there.known.listed ok))
 
-      pub beside_in_rows : AreBeside rows index (standing_beside q s w)
+      pub beside_in_rows : AreOtherRangesOfRow rows index (standing_beside q s w)
       beside_in_rows = record { each = each_beside; all = all_beside }

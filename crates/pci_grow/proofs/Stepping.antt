@@ -10,8 +10,8 @@ use Rattle.pci_spec.specs.Bus.{is_root, IsNested}
 use Rattle.settle_spec.specs.Lists.{Request}
 use Rattle.settle_spec.specs.Parts.{FunctionPart, system_parts, header_parts}
 use Rattle.settle_spec.specs.Stands.{part_space, window_part, stands}
-use Rattle.settle_spec.specs.Growth.{is_clear, taken_around, window_comes_to, part_comes_to, there, comes_to, takes}
-use Rattle.settle_spec.specs.Kept.{place_of}
+use Rattle.settle_spec.specs.Growth.{is_clear, taken_around, window_comes_to, part_comes_to, there, comes_to, takes_growth}
+use Rattle.settle_spec.specs.Kept.{address_of_placed}
 use Rattle.settle_spec.specs.Places.{placed_of, place_among}
 use Rattle.settle_laws.specs.Order.{level}
 use Rattle.settle_laws.specs.There.{height}
@@ -21,7 +21,7 @@ use Rattle.settle_laws.proofs.ThereAlone.{unstanding}
 use Rattle.pci_kept.specs.declared.region.Region.{Region}
 use Rattle.pci_kept.specs.Known.{region_value}
 use Rattle.pci_grow.specs.There.{Tables, in_row, there_told}
-use Rattle.pci_grow.specs.Telling.{AreStandingRows, part_row, IsDone, grown_there, as_it_stands, place_there, IsToldAs, AreToldWhere, AreToldFrom, AreToldTo, AreThere}
+use Rattle.pci_grow.specs.Telling.{AreStandingRows, part_row_number, IsDone, grown_there, range_as_it_stands, place_there, IsToldAs, AreToldWhere, AreToldFrom, AreToldTo, AreThere}
 use Rattle.pci_grow.proofs.Clearing.{step}
 use Rattle.pci_grow.proofs.InRows.{v_listed, v_stands, v_row, not_done, done_cases, done_keeps, all_done, done_up}
 use Rattle.pci_grow.proofs.Told.{level_root, level_off, row_low, row_high}
@@ -36,20 +36,20 @@ module _ (q : Request) (s : System) (system : IsSystem s) (nested : IsNested q.r
   comes_none f Rom off = refl
   comes_none f (Window c) off = ap (λ b. if b then window_comes_to q s (there q s) c f else None) off
 
-  pub takes_none : (r : FunctionPart) → comes_to q s r ≡ None → takes q s r ≡ false
+  pub takes_none : (r : FunctionPart) → comes_to q s r ≡ None → takes_growth q s r ≡ false
   takes_none r none = ap (is_clear q s (there q s) r) none
 
-  pub takes_off : (r : FunctionPart) → stands q s r ≡ false → takes q s r ≡ false
+  pub takes_off : (r : FunctionPart) → stands q s r ≡ false → takes_growth q s r ≡ false
   takes_off r off = takes_none r (comes_none r.function r.part off)
 
-  pub grown_off : (r : FunctionPart) → takes q s r ≡ false → grown_there q s r ≡ None
+  pub grown_off : (r : FunctionPart) → takes_growth q s r ≡ false → grown_there q s r ≡ None
   grown_off r off = ap (λ b. if b then comes_to q s r else None) off
 
-  pub there_off : (r : FunctionPart) → Contains (system_parts q s) r → takes q s r ≡ false → there q s r ≡ as_it_stands q s r
-  there_off r listed off = step q s system nested r listed ∙ ap (λ b. if b then comes_to q s r else as_it_stands q s r) off
+  pub there_off : (r : FunctionPart) → Contains (system_parts q s) r → takes_growth q s r ≡ false → there q s r ≡ range_as_it_stands q s r
+  there_off r listed off = step q s system nested r listed ∙ ap (λ b. if b then comes_to q s r else range_as_it_stands q s r) off
 
-  pub place_off : (c : WindowKind) (b : Function) (r : FunctionPart) → takes q s (window_part c b) ≡ false → place_there q s c b r ≡ None
-  place_off c b r off = ap (λ x. if x then place_of (place_among r (placed_of (taken_around q s (there q s) c b))) else None) off
+  pub place_off : (c : WindowKind) (b : Function) (r : FunctionPart) → takes_growth q s (window_part c b) ≡ false → place_there q s c b r ≡ None
+  place_off c b r off = ap (λ x. if x then address_of_placed (place_among r (placed_of (taken_around q s (there q s) c b))) else None) off
 
   -- ---- the same by another test of what is done
 
@@ -105,11 +105,11 @@ module _ (q : Request) (s : System) (system : IsSystem s) (nested : IsNested q.r
     stand_v : stands q s v ≡ true
     stand_v = v_stands q s system nested rows are number i r within at
 
-    pub before_it : IsToldAs s t v None (as_it_stands q s v)
+    pub before_it : IsToldAs s t v None (range_as_it_stands q s v)
     before_it = was.rest v listed_v stand_v (not_done q s system nested rows are number i r within at)
 
     -- a part that takes nothing is there as it stands
-    pub stays_told : takes q s v ≡ false → AreToldTo q s rows number (i + 1) t
+    pub stays_told : takes_growth q s v ≡ false → AreToldTo q s rows number (i + 1) t
     stays_told off = record {
       kept = was.kept;
       grown = was.grown;
@@ -118,7 +118,7 @@ module _ (q : Request) (s : System) (system : IsSystem s) (nested : IsNested q.r
       each = λ u listed stand is. elim (done_cases q s system nested rows are number i r within at u is) [
         | inl same ↦
             subst (λ x. IsToldAs s t x (grown_there q s x) (there q s x)) same
-            (told_as s t v None (grown_there q s v) (as_it_stands q s v) (there q s v) (sym (grown_off v off)) (sym (there_off v listed_v off)) before_it)
+            (told_as s t v None (grown_there q s v) (range_as_it_stands q s v) (there q s v) (sym (grown_off v off)) (sym (there_off v listed_v off)) before_it)
         | inr old ↦ was.each u listed stand old
       ];
       rest = λ u listed stand never. was.rest u listed stand (λ old. never (done_keeps q s system nested rows are number i r within at u old));
@@ -126,7 +126,7 @@ module _ (q : Request) (s : System) (system : IsSystem s) (nested : IsNested q.r
       around = λ c b u listed stand under is. elim (done_cases q s system nested rows are number i r within at (window_part c b) is) [
         | inl same ↦
             was.unplaced c b u listed under (λ stand old. not_done q s system nested rows are number i r within at (subst (IsDone q s rows number i) (sym same) old))
-            ∙ sym (place_off c b u (sym (ap (takes q s) same) ∙ off))
+            ∙ sym (place_off c b u (sym (ap (takes_growth q s) same) ∙ off))
         | inr old ↦ was.around c b u listed stand under old
       ];
       unplaced = λ c b u listed under never. was.unplaced c b u listed under (λ stand old. never stand (done_keeps q s system nested rows are number i r within at (window_part c b) old));
@@ -176,15 +176,15 @@ module _ (q : Request) (s : System) (system : IsSystem s) (nested : IsNested q.r
     -- before the first part of a row those behind it are done
     pub row_begins : (number : ℕ) (t : Tables) → AreToldFrom q s (number + 1) t → AreToldTo q s rows number 0 t
     row_begins number t told =
-        told_same (λ r. number + 1 ≤ part_row q r) (IsDone q s rows number 0) (λ r listed stand is. inl (omega (arith, is)))
+        told_same (λ r. number + 1 ≤ part_row_number q r) (IsDone q s rows number 0) (λ r listed stand is. inl (omega (arith, is)))
         (λ r listed stand is. by r is) t told
       where
-        by : (r : FunctionPart) → IsDone q s rows number 0 r → number + 1 ≤ part_row q r
+        by : (r : FunctionPart) → IsDone q s rows number 0 r → number + 1 ≤ part_row_number q r
         by r (inl less) = omega (arith, less)
         by r (inr (k, inside, here)) = absurd (let no : ⊥ = omega (arith, inside) in no)
 
     -- and after the last part the row is
     pub row_ends : (number i : ℕ) (t : Tables) → length (in_row number rows) ≤ i → AreToldTo q s rows number i t → AreToldFrom q s number t
     row_ends number i t past told =
-        told_same (IsDone q s rows number i) (λ r. number ≤ part_row q r) (λ r listed stand is. done_up q s system nested rows are number i r is)
+        told_same (IsDone q s rows number i) (λ r. number ≤ part_row_number q r) (λ r listed stand is. done_up q s system nested rows are number i r is)
         (λ r listed stand is. all_done q s system nested rows are number i past r listed stand is) t told

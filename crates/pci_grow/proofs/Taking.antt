@@ -17,9 +17,9 @@ use Rattle.settle_spec.specs.Lines.{lines_on, taken_for}
 use Rattle.settle_spec.specs.Lists.{Request}
 use Rattle.settle_spec.specs.Parts.{FunctionPart, system_parts, header_parts, addresses, are_same_space}
 use Rattle.settle_spec.specs.Stands.{part_space, window_part, stands}
-use Rattle.settle_spec.specs.Items.{Item as ItemValue, Placed, AllPlaced, bus_items, new_window, place_each}
+use Rattle.settle_spec.specs.Items.{PlacingItem as ItemValue, Placed, AllPlaced, bus_items, new_window, place_each}
 use Rattle.settle_spec.specs.Reach.{reach}
-use Rattle.settle_spec.specs.Growth.{place_around, range_list, there_on, taken_around, window_comes_to, part_comes_to, is_clear, there, comes_to, takes}
+use Rattle.settle_spec.specs.Growth.{place_around, range_list, there_on, taken_around, window_comes_to, part_comes_to, is_clear, there, comes_to, takes_growth}
 use Rattle.settle_spec.proofs.Nested.{on_it, is_no_root, at_secondary}
 use Rattle.settle_laws.proofs.ItemForms.{IsItemOf, items_are}
 use Rattle.settle_laws.proofs.HeaderParts.{few_bars}
@@ -38,7 +38,7 @@ use Rattle.pci_function.specs.declared.record.Record.{Record}
 use Rattle.pci_tree.specs.Ways.{bus_behind}
 use Rattle.pci_tree.proofs.Lifting.{same_bridge, same_secondary}
 use Rattle.pci_place.specs.Items.{no_function, function_in}
-use Rattle.pci_place.specs.Records.{IsRecordOf}
+use Rattle.pci_place.specs.Records.{IsRecordInSystem}
 use Rattle.pci_first_fit.specs.declared.item.Item.{Item}
 use Rattle.pci_first_fit.specs.declared.item.Part.{Part as ItemPart}
 use Rattle.pci_first_fit.specs.declared.item.Part.TheVariants as items
@@ -49,13 +49,13 @@ use Rattle.pci_first_fit.specs.Own.{class_part, asked_item_value}
 use Rattle.pci_first_fit.specs.Placings.{at_places}
 use Rattle.pci_kept.specs.declared.region.Region.{Region}
 use Rattle.pci_kept.specs.Known.{region_value}
-use Rattle.pci_grow.specs.Arounds.{AreInOrder}
+use Rattle.pci_grow.specs.Arounds.{AreRisingAtBothEnds}
 use Rattle.pci_first_fit.specs.PlaceTables.{IsItemPart}
 use Rattle.pci_grow.specs.Putting.{ArePutOver, HasItemPart}
-use Rattle.pci_grow.specs.Rows.{row_number}
+use Rattle.pci_grow.specs.RoomRows.{row_number}
 use Rattle.pci_first_fit.specs.Tables.{told}
 use Rattle.pci_grow.specs.There.{Tables, in_row, there_of, is_past, there_told}
-use Rattle.pci_grow.specs.Telling.{Setting, IsWindowOf, IsThereTold, IsNext, IsNoted, IsLatest, there_among, part_row, AreToldTo}
+use Rattle.pci_grow.specs.Telling.{Setting, IsWindowWithReach, IsThereTold, IsNext, IsWindowNoted, IsLatest, there_among, part_row_number, AreToldTo}
 use Rattle.pci_grow.proofs.Clearing.{comes_hold, past_is}
 use Rattle.pci_grow.proofs.InRows.{v_known, v_listed, v_stands, v_row, part_in_row, of_row, known_in, stands_in}
 use Rattle.pci_grow.proofs.Noted.{noted_told}
@@ -150,7 +150,7 @@ module _ (p : Setting) (t : Tables) (r : Region) (class : CodeKind) (window : r.
   bridge_f = (and_parts (is_bridge f) _ (and_parts _ _ ((stands_by_itself q s nested).only w in_f stand_w)).0).0
 
   -- it is a window of a bridge, of which a reach is told
-  pub no_bridge : (x : Record) → IsRecordOf s f x → x.bridge ≡ None → ⊥
+  pub no_bridge : (x : Record) → IsRecordInSystem s f x → x.bridge ≡ None → ⊥
   no_bridge x is none = both_ways (is_some x.bridge) (ap is_some none) (same_bridge x f is.value ∙ bridge_f)
 
   reach_told : option_map decoded_range_of (told p.reaches k class) ≡ Some (reach q s c f)
@@ -159,7 +159,7 @@ module _ (p : Setting) (t : Tables) (r : Region) (class : CodeKind) (window : r.
   pub no_reach : told p.reaches k class ≡ None → ⊥
   no_reach none = none-some (reach q s c f) (sym (ap (option_map decoded_range_of) none) ∙ reach_told)
 
-  pub window_of : (x : Record) → IsRecordOf s f x → (b : Bridge) → x.bridge ≡ Some b → (to : Range) → told p.reaches k class ≡ Some to → IsWindowOf q s f b class (record { window = r.range; reach = to })
+  pub window_of : (x : Record) → IsRecordInSystem s f x → (b : Bridge) → x.bridge ≡ Some b → (to : Range) → told p.reaches k class ≡ Some to → IsWindowWithReach q s f b class (record { window = r.range; reach = to })
   window_of x is b b_is to to_is = record {
     x = x;
     is = is;
@@ -182,7 +182,7 @@ module _ (p : Setting) (t : Tables) (r : Region) (class : CodeKind) (window : r.
   bus_up : f.slot.bus < secondary f
   bus_up = order_of q.roots s nested f in_f bridge_f
 
-  pub behind_in_order : (x : Record) → IsRecordOf s f x → (b : Bridge) → x.bridge ≡ Some b → AreInOrder (there_of t (in_row (row_number (b.secondary + 1) (window_space c)) p.rows))
+  pub behind_in_order : (x : Record) → IsRecordInSystem s f x → (b : Bridge) → x.bridge ≡ Some b → AreRisingAtBothEnds (there_of t (in_row (row_number (b.secondary + 1) (window_space c)) p.rows))
   behind_in_order x is b b_is =
       there_in_order q s system nested next.growing.low p.rows next.growing.rows t (row_number (b.secondary + 1) (window_space c)) (λ u has.
       let known = known_in q s system nested p.rows next.growing.rows u (of_row q s system nested p.rows next.growing.rows (row_number (b.secondary + 1) (window_space c)) u has).0 in
@@ -196,7 +196,7 @@ module _ (p : Setting) (t : Tables) (r : Region) (class : CodeKind) (window : r.
       low (inl root) = let e = level_root q f.slot.bus root in omega (arith, e)
       low (inr off) = let e = level_off q f.slot.bus off in omega (arith, e)
 
-      up : (u : Region) → Contains (in_row (row_number (b.secondary + 1) (window_space c)) p.rows) u → number < part_row q (region_value s u)
+      up : (u : Region) → Contains (in_row (row_number (b.secondary + 1) (window_space c)) p.rows) u → number < part_row_number q (region_value s u)
       up u has =
           let here = part_in_row q s system nested p.rows next.growing.rows (row_number (b.secondary + 1) (window_space c)) u has in
           let own = v_row q s system nested p.rows next.growing.rows number count r next.within next.at in
@@ -269,7 +269,7 @@ module _ (p : Setting) (t : Tables) (r : Region) (class : CodeKind) (window : r.
     comes_v : comes_to q s v ≡ Some (decoded_range_of g)
     comes_v = told_comes ∙ comes
 
-    takes_is : takes q s v ≡ is_past end g
+    takes_is : takes_growth q s v ≡ is_past end g
     takes_is =
         ap (is_clear q s (there q s) v) comes_v
         ∙ sym (past_is q s system nested p.rows next.growing.rows number count r next.within next.at end latest g (comes_hold q s system nested v (decoded_range_of g) comes_v))
@@ -278,10 +278,10 @@ module _ (p : Setting) (t : Tables) (r : Region) (class : CodeKind) (window : r.
     short_more short = stays_told q s system nested p.rows next.growing.rows number count r next.within next.at t next.told (takes_is ∙ short)
 
     pub past_more : (listed : List Item) (firsts : List ℕ) → taken_around q s (there_told s t) c f ≡ AllPlaced (at_places (map (asked_item_value s c) listed) firsts)
-        → is_past end g ≡ true → (new : Tables) → IsNoted t new k class g → ArePutOver s (at_places (map (asked_item_value s c) listed) firsts) t.places new.places → AreToldTo q s p.rows number (count + 1) new
+        → is_past end g ≡ true → (new : Tables) → IsWindowNoted t new k class g → ArePutOver s (at_places (map (asked_item_value s c) listed) firsts) t.places new.places → AreToldTo q s p.rows number (count + 1) new
     past_more listed firsts placed past new noted put =
         noted_told q s system nested p.rows next.growing.rows number count r next.within next.at t next.told class window inside new g noted
-        (sym (ap (takes q s) w_is) ∙ takes_is ∙ past) (sym (ap (comes_to q s) w_is) ∙ comes_v) (at_places (map (asked_item_value s c) listed) firsts) (sym told_taken ∙ placed) put
+        (sym (ap (takes_growth q s) w_is) ∙ takes_is ∙ past) (sym (ap (comes_to q s) w_is) ∙ comes_v) (at_places (map (asked_item_value s c) listed) firsts) (sym told_taken ∙ placed) put
 
 -- a part that is no window takes nothing
 pub other_more : (p : Setting) (t : Tables) (r : Region) → ((class : CodeKind) → r.part ≡ parts.Window class → ⊥) → (q : Request) (number count : ℕ) → IsNext q p number count t r → AreToldTo q p.classing.system p.rows number (count + 1) t

@@ -21,10 +21,10 @@ use Rattle.settle_spec.specs.Lists.{Request}
 use Rattle.settle_spec.specs.Parts.{FunctionPart, addresses, class_in}
 use Rattle.settle_spec.specs.Stands.{window_part}
 use Rattle.settle_spec.specs.Lines.{taken_for}
-use Rattle.settle_spec.specs.Items.{Item, Placed, taken_by, bus_items, new_window, has_room_behind, place_in}
+use Rattle.settle_spec.specs.Items.{PlacingItem, Placed, taken_by, bus_items, new_window, has_room_behind, place_in}
 use Rattle.settle_spec.specs.Places.{placed_of, place_among}
-use Rattle.settle_spec.specs.Growth.{taken_around, there, comes_to, takes, has_grown}
-use Rattle.settle_spec.specs.Kept.{is_kept, stays_growing, range_or, range_growing, place_of, growing}
+use Rattle.settle_spec.specs.Growth.{taken_around, there, comes_to, takes_growth, has_grown}
+use Rattle.settle_spec.specs.Kept.{is_kept, stays_growing, range_or, range_growing, address_of_placed, growing}
 use Rattle.settle_spec.specs.Keeping.Places.{taken_at}
 use Rattle.settle_spec.proofs.LastSpot.{place_gives}
 use Rattle.settle_spec.proofs.Grown.{part_holds}
@@ -72,7 +72,7 @@ if_some None is = tt
 if_some (Some x) is = is
 
 module _ (q : Request) (s : System) (system : IsSystem s) (nested : IsNested q.roots s) (profile : IsInProfile q.roots s) (x : Grown) (are : AreGrown q s x) where
-  abbrev keep_place : Function → Item → List DecodedRange → Option ℕ
+  abbrev keep_place : Function → PlacingItem → List DecodedRange → Option ℕ
   keep_place = (growing q s).place
 
   listed_at : (n : ℕ) (f : Function) → slice_get s n ≡ Some f → Contains s f
@@ -112,16 +112,16 @@ module _ (q : Request) (s : System) (system : IsSystem s) (nested : IsNested q.r
   grown_stays : (r : FunctionPart) → has_grown q s r ≡ true → stays_growing q s r ≡ true
   grown_stays r is =
       let c = class_in q s r.function r.part in
-      let all = (and_parts (takes q s r) _ is).1 in
-      let takes_above : (d : Function) → IsBridgeAbove s r.function.slot.bus d → takes q s (window_part c d) ≡ true =
-      λ d up. all_gives (λ b. takes q s (window_part c b)) (bridges_above s r.function.slot.bus) all d (above_from s r.function.slot.bus d up) in
+      let all = (and_parts (takes_growth q s r) _ is).1 in
+      let takes_above : (d : Function) → IsBridgeAbove s r.function.slot.bus d → takes_growth q s (window_part c d) ≡ true =
+      λ d up. all_gives (λ b. takes_growth q s (window_part c b)) (bridges_above s r.function.slot.bus) all d (above_from s r.function.slot.bus d up) in
       and_from (is_kept q s r) (list_all (λ b. is_kept q s (window_part c b)) (bridges_above s r.function.slot.bus))
       (or_left (has_grown q s r) (has_room_behind q s r) is)
       (all_from (λ b. is_kept q s (window_part c b)) (bridges_above s r.function.slot.bus) (λ b has.
       let up = above_to s r.function.slot.bus b has in
       or_left (has_grown q s (window_part c b)) (has_room_behind q s (window_part c b))
-      (and_from (takes q s (window_part c b)) (list_all (λ d. takes q s (window_part c d)) (bridges_above s b.slot.bus)) (takes_above b up)
-      (all_from (λ d. takes q s (window_part c d)) (bridges_above s b.slot.bus) (λ d more. takes_above d (above_trans r.function.slot.bus b d up (above_to s b.slot.bus d more)))))))
+      (and_from (takes_growth q s (window_part c b)) (list_all (λ d. takes_growth q s (window_part c d)) (bridges_above s b.slot.bus)) (takes_above b up)
+      (all_from (λ d. takes_growth q s (window_part c d)) (bridges_above s b.slot.bus) (λ d more. takes_above d (above_trans r.function.slot.bus b d up (above_to s b.slot.bus d more)))))))
 
   only_grown : (n : ℕ) (f : Function) (c : WindowKind) → slice_get s n ≡ Some f → IfSome (grown_of x.coming n (Window c)) (λ _. stays_growing q s (window_part c f) ≡ true)
   only_grown n f c at = elim (cases_Bool (has_grown q s (window_part c f))) [
@@ -160,20 +160,20 @@ module _ (q : Request) (s : System) (system : IsSystem s) (nested : IsNested q.r
 
   -- ---- places in windows that grow
 
-  module _ (n m : ℕ) (b : Function) (i : Item) (is : IsInKept q s (growing q s) n m b i) where
+  module _ (n m : ℕ) (b : Function) (i : PlacingItem) (is : IsInKept q s (growing q s) n m b i) where
     abbrev w : FunctionPart
     w = window_part i.class b
 
     abbrev found : Option ℕ
-    found = place_of (place_among i.region (placed_of (taken_around q s (there q s) i.class b)))
+    found = address_of_placed (place_among i.region (placed_of (taken_around q s (there q s) i.class b)))
 
     item : IsItemIn q s (growing q s) (window_space i.class) (secondary b) i
     item = space_items_are q s (growing q s) (window_space i.class) (secondary b) i is.listed
 
     under : IsUnder q s i.class b i.region
-    under = subst (λ (j : Item). IsUnder q s j.class b j.region) item.of.is record { bridge = is.leads; listed = item.of.listed; part = item.of.there; beside = item.of.beside; class = item.of.class }
+    under = subst (λ (j : PlacingItem). IsUnder q s j.class b j.region) item.of.is record { bridge = is.leads; listed = item.of.listed; part = item.of.there; beside = item.of.beside; class = item.of.class }
 
-    at_place : takes q s w ≡ true → placed x.places m i.region.part ≡ found
+    at_place : takes_growth q s w ≡ true → placed x.places m i.region.part ≡ found
     at_place taken =
         ap (λ k. placed x.places k i.region.part) (sym (index_at s system m i.region.function is.function_is))
         ∙ are.are_placed.each i.class b i.region (listed_at n b is.bridge_is) under
@@ -205,14 +205,14 @@ module _ (q : Request) (s : System) (system : IsSystem s) (nested : IsNested q.r
       keeps : stays_growing q s w ≡ true
       keeps = grown_stays w grown
 
-      abbrev find_place : Item → List DecodedRange → Option ℕ
+      abbrev find_place : PlacingItem → List DecodedRange → Option ℕ
       find_place j xs = keep_place b j (taken_for q j.region xs)
 
       have : HavePlaces q (range_growing q s w) (keep_place b) taken_there (bus_items q s i.class (stays_growing q s) (new_window q s i.class) (secondary b))
       have = sound.places i.class b taken_there (listed_at n b is.bridge_is) is.leads keeps (λ t has. inl has) (λ t has. inl has)
 
       of_class : Contains (bus_items q s i.class (stays_growing q s) (new_window q s i.class) (secondary b)) i
-      of_class = subst (λ c. Contains (bus_items q s c (stays_growing q s) (new_window q s c) (secondary b)) i) (ap (λ (j : Item). j.class) item.of.is) item.has
+      of_class = subst (λ c. Contains (bus_items q s c (stays_growing q s) (new_window q s c) (secondary b)) i) (ap (λ (j : PlacingItem). j.class) item.of.is) item.has
 
       ends_at : IfSome (placed x.places m i.region.part) (λ a. (taken_by i a).last < 2 ^ 64)
       ends_at =
@@ -220,7 +220,7 @@ module _ (q : Request) (s : System) (system : IsSystem s) (nested : IsNested q.r
           let p = made.from in
           let of : IsFoundPlace find_place (bus_items q s i.class (stays_growing q s) (new_window q s i.class) (secondary b)) p = each_found find_place taken_there _ have.placed have.found p made.has in
           let takes_it = grown_takes q s w grown in
-          let place : found ≡ Some p.at = sym (ap (λ t. if t then found else place_in (addresses w) i (taken_for q i.region of.taken)) grown) ∙ ap (λ (j : Item). keep_place b j (taken_for q j.region of.taken)) (sym made.is) ∙ of.found in
+          let place : found ≡ Some p.at = sym (ap (λ t. if t then found else place_in (addresses w) i (taken_for q i.region of.taken)) grown) ∙ ap (λ (j : PlacingItem). keep_place b j (taken_for q j.region of.taken)) (sym made.is) ∙ of.found in
           let in_list = have.are.each p made.has in
           subst (λ o. IfSome o (λ a. (taken_by i a).last < 2 ^ 64)) (sym (at_place takes_it ∙ place))
           (within p made.is in_list)
@@ -232,12 +232,12 @@ module _ (q : Request) (s : System) (system : IsSystem s) (nested : IsNested q.r
           within p same (r, has, at) =
               let one : r ≡ range_growing q s w = in_one (range_growing q s w) r has in
               let last = (place_gives r taken_there p.item.extent p.at at).last in
-              let size : p.item.extent.size ≡ i.extent.size = ap (λ (j : Item). j.extent.size) same in
+              let size : p.item.extent.size ≡ i.extent.size = ap (λ (j : PlacingItem). j.extent.size) same in
               let end : r.last ≡ (range_growing q s w).last = ap (λ (t : DecodedRange). t.last) one in
               let top = most in
               omega (arith, last, size, end, top)
 
-  all_end : (n m : ℕ) (b : Function) (i : Item) → IsInKept q s (growing q s) n m b i
+  all_end : (n m : ℕ) (b : Function) (i : PlacingItem) → IsInKept q s (growing q s) n m b i
       → IfSome (grown_of x.coming n (Window i.class)) (λ _. IfSome (placed x.places m i.region.part) (λ a. (taken_by i a).last < 2 ^ 64))
   all_end n m b i is = elim (cases_Bool (has_grown q s (window_part i.class b))) [
     | inl grown ↦ if_some (grown_of x.coming n (Window i.class)) (ends_at n m b i is grown)

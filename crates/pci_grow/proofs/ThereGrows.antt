@@ -9,7 +9,7 @@ use Rattle.pci_spec.specs.Bus.{IsNested}
 use Rattle.settle_spec.specs.Lists.{Request}
 use Rattle.settle_spec.specs.Parts.{FunctionPart}
 use Rattle.settle_spec.specs.Stands.{window_part, stands}
-use Rattle.settle_spec.specs.Growth.{comes_to, takes}
+use Rattle.settle_spec.specs.Growth.{comes_to, takes_growth}
 use Rattle.settle_laws.proofs.GrowingKept.{takes_stands}
 use Rattle.settle_laws.proofs.Standing.{in_header, window_listed, stands_by_itself}
 use Rattle.pci_base.specs.declared.window_kind.WindowKind.{WindowKind as CodeKind}
@@ -37,15 +37,15 @@ module _ (q : Request) (s : System) (system : IsSystem s) (nested : IsNested q.r
         ap (λ (g : Function). grown_told s t (window_part (kind_value class) g)) (sym (get_or_from_slice_get s k f no_function at))
         ∙ grown_at s system t k (parts.Window class) (slice_get_within s k f at)
 
-    each_comes : option_map decoded_range_of (told t.grown k class) ≡ cond (takes q s w) (comes_to q s w) None
+    each_comes : option_map decoded_range_of (told t.grown k class) ≡ cond (takes_growth q s w) (comes_to q s w) None
     each_comes = sym of_window ∙ elim (cases_Bool (stands q s w)) [
       | inl stand ↦ (are.each w (window_listed q s (kind_value class) f listed ((stands_by_itself q s nested).only w listed stand))).grown_is
       | inr off ↦
           (are.off w listed (in_header q s f (kind_value class)) off).grown_is
-          ∙ sym (ap (λ b. cond b (comes_to q s w) None) (false_from_ne_true (takes q s w) (λ is. both_ways (stands q s w) off (takes_stands q s w is))))
+          ∙ sym (ap (λ b. cond b (comes_to q s w) None) (false_from_ne_true (takes_growth q s w) (λ is. both_ways (stands q s w) off (takes_stands q s w is))))
     ]
 
-  pub coming_there : AreComing q s (takes q s) t.grown
+  pub coming_there : AreComing q s (takes_growth q s) t.grown
   coming_there = record { count = are.grown; each = each_comes }
 
   pub placed_there : ArePlacedThere q s t.places

@@ -30,14 +30,15 @@ use Rattle.pci_first_fit.specs.declared.kept.Part.TheVariants as parts
 use Rattle.pci_first_fit.specs.Kept.{spec_part}
 use Rattle.pci_kept.specs.declared.region.Region.{Region}
 use Rattle.pci_kept.specs.Boards.{IsKnown}
-use Rattle.pci_kept.specs.Held.{is_kept}
+use Rattle.pci_kept.specs.Held.{is_region_kept}
 use Rattle.pci_kept.specs.Known.{Known, region_value}
 use Rattle.pci_kept.specs.Tables.{stands_in}
 use Rattle.pci_kept.proofs.Indexes.{index_at, table_at}
-use Rattle.pci_grow.specs.Rows.{row_number, row_of}
+use Rattle.pci_grow.specs.Rows.{region_row_number}
+use Rattle.pci_grow.specs.RoomRows.{row_number}
 use Rattle.pci_first_fit.specs.Tables.{untold}
-use Rattle.pci_grow.specs.There.{Tables, grown_of, or_own, range_told, listed, in_row, by_class, grown_in, with_own, grown_told, there_told}
-use Rattle.pci_grow.specs.Telling.{part_row, AreStandingRows}
+use Rattle.pci_grow.specs.There.{Tables, grown_window_range, or_own, range_told, listed, in_row, by_class, grown_in, with_own, grown_told, there_told}
+use Rattle.pci_grow.specs.Telling.{part_row_number, AreStandingRows}
 
 -- ---- one part
 
@@ -46,7 +47,7 @@ class_is b kinds.Io = refl
 class_is b kinds.Memory = refl
 class_is b kinds.Prefetchable = refl
 
-pub grown_is : (table : List (ByKind (Option Range))) (k : ℕ) (p : CodePart) → option_map decoded_range_of (grown_of table k p) ≡ grown_in table k (spec_part p)
+pub grown_is : (table : List (ByKind (Option Range))) (k : ℕ) (p : CodePart) → option_map decoded_range_of (grown_window_range table k p) ≡ grown_in table k (spec_part p)
 grown_is table k (parts.Bar n) = refl
 grown_is table k parts.Rom = refl
 grown_is table k (parts.Window class) = ap (option_map decoded_range_of) (class_is (get_or table k untold) class)
@@ -60,14 +61,14 @@ pub function_is : (s : System) (k : ℕ) → k < length s → slice_get s k ≡ 
 function_is s k within = slice_get-get_or s k no_function within
 
 module _ (s : System) (system : IsSystem s) (t : Tables) where
-  pub grown_at : (k : ℕ) (p : CodePart) → k < length s → grown_told s t (record { function = function_in s k; part = spec_part p }) ≡ option_map decoded_range_of (grown_of t.grown k p)
+  pub grown_at : (k : ℕ) (p : CodePart) → k < length s → grown_told s t (record { function = function_in s k; part = spec_part p }) ≡ option_map decoded_range_of (grown_window_range t.grown k p)
   grown_at k p within = ap (λ n. grown_in t.grown n (spec_part p)) (index_at s system k (function_in s k) (function_is s k within)) ∙ sym (grown_is t.grown k p)
 
   -- what tables tell of a part of a row is what they tell of the part that it stands for
   pub told_is : (q : Request) (r : Region) → IsKnown q s r → option_map decoded_range_of (range_told t r) ≡ there_told s t (region_value s r)
   told_is q r known =
-      own_is (grown_of t.grown r.function r.part) (is_kept t.kept r) r.range
-      ∙ ap (λ o. with_own o (is_kept t.kept r) (decoded_range_of r.range)) (sym (grown_at r.function r.part known.within))
+      own_is (grown_window_range t.grown r.function r.part) (is_region_kept t.kept r) r.range
+      ∙ ap (λ o. with_own o (is_region_kept t.kept r) (decoded_range_of r.range)) (sym (grown_at r.function r.part known.within))
       ∙ ap (λ b. with_own (grown_told s t (region_value s r)) b (decoded_range_of r.range)) (sym (table_at s system t.kept r.function (function_in s r.function) (spec_part r.part) (function_is s r.function known.within)))
       ∙ ap (with_own (grown_told s t (region_value s r)) (stands_in s t.kept (region_value s r))) (ap (λ (k : Known). k.range) known.all)
 
@@ -103,14 +104,14 @@ level_root q bus root = ap (λ b. cond b 0 (bus + 1)) root
 pub level_off : (q : Request) (bus : ℕ) → is_root q.roots bus ≡ false → level q bus ≡ bus + 1
 level_off q bus off = ap (λ b. cond b 0 (bus + 1)) off
 
-pub region_row : (q : Request) (s : System) (r : Region) → IsKnown q s r → row_of r ≡ part_row q (region_value s r)
+pub region_row : (q : Request) (s : System) (r : Region) → IsKnown q s r → region_row_number r ≡ part_row_number q (region_value s r)
 region_row q s r known = ap (λ (k : Known). row_number k.level k.space) known.all
 
 pub region_range : (q : Request) (s : System) (r : Region) → IsKnown q s r → decoded_range_of r.range ≡ addresses (region_value s r)
 region_range q s r known = ap (λ (k : Known). k.range) known.all
 
 -- parts that are beside each other are in one row
-pub beside_row : (q : Request) (u v : FunctionPart) → are_beside q u v ≡ true → part_row q u ≡ part_row q v
+pub beside_row : (q : Request) (u v : FunctionPart) → are_beside q u v ≡ true → part_row_number q u ≡ part_row_number q v
 beside_row q u v beside =
     let both = and_parts (are_siblings q.roots u.function.slot.bus v.function.slot.bus) (are_same_space (part_space u) (part_space v)) beside in
     ap (λ n. row_number n (part_space u)) (by (cases_Bool (u.function.slot.bus == v.function.slot.bus)) both.0)
@@ -124,7 +125,7 @@ beside_row q u v beside =
         level_root q u.function.slot.bus roots.0 ∙ sym (level_root q v.function.slot.bus roots.1)
 
 -- and those of one row are beside each other
-pub row_beside : (q : Request) (u v : FunctionPart) → part_row q u ≡ part_row q v → are_beside q u v ≡ true
+pub row_beside : (q : Request) (u v : FunctionPart) → part_row_number q u ≡ part_row_number q v → are_beside q u v ≡ true
 row_beside q u v same =
     let two = row_parts (level q u.function.slot.bus) (level q v.function.slot.bus) (part_space u) (part_space v) same in
     and_from (are_siblings q.roots u.function.slot.bus v.function.slot.bus) (are_same_space (part_space u) (part_space v))
@@ -145,7 +146,7 @@ pub record IsOnBus (q : Request) (bus : ℕ) (space : Space) (v : FunctionPart) 
   pub at : bus ≡ v.function.slot.bus
   pub of_space : part_space v ≡ space
 
-pub row_bus : (q : Request) (s : System) (r : Region) → IsKnown q s r → (bus : ℕ) (space : Space) → row_of r ≡ row_number (bus + 1) space → IsOnBus q bus space (region_value s r)
+pub row_bus : (q : Request) (s : System) (r : Region) → IsKnown q s r → (bus : ℕ) (space : Space) → region_row_number r ≡ row_number (bus + 1) space → IsOnBus q bus space (region_value s r)
 row_bus q s r known bus space at =
     let two = row_parts (level q own) (bus + 1) (part_space (region_value s r)) space (sym (region_row q s r known) ∙ at) in
     by (cases_Bool (is_root q.roots own)) two.0 two.1
@@ -173,7 +174,7 @@ listed_in o g is = subst (λ p. Contains (listed p) g) (sym is) (in_head g [])
 module _ (q : Request) (s : System) (system : IsSystem s) (nested : IsNested q.roots s) (rows : List Region) (are : AreStandingRows q s rows) (there : FunctionPart → Option DecodedRange)
     (stand : (v : FunctionPart) → Contains (system_parts q s) v → is_some (there v) ≡ true → stands q s v ≡ true)
     (b : Function) (listed_b : Contains s b) (bridge : is_bridge b ≡ true) (space : Space) (test : FunctionPart → Bool) (pick : Region → Option Range)
-    (picks : (r : Region) → Contains rows r → row_of r ≡ row_number (secondary b + 1) space → option_map decoded_range_of (pick r) ≡ cond (test (region_value s r)) (there (region_value s r)) None)
+    (picks : (r : Region) → Contains rows r → region_row_number r ≡ row_number (secondary b + 1) space → option_map decoded_range_of (pick r) ≡ cond (test (region_value s r)) (there (region_value s r)) None)
     (of_space : (v : FunctionPart) → Contains (system_parts q s) v → test v ≡ true → part_space v ≡ space) where
   abbrev number : ℕ
   number = row_number (secondary b + 1) space
@@ -188,14 +189,14 @@ module _ (q : Request) (s : System) (system : IsSystem s) (nested : IsNested q.r
   known r has = All-contains (IsKnown q s) rows r are.known has
 
   -- a part of the row is on the bus
-  on_bus : (r : Region) → Contains rows r → row_of r ≡ number → are_siblings q.roots (secondary b) (region_value s r).function.slot.bus ≡ true
+  on_bus : (r : Region) → Contains rows r → region_row_number r ≡ number → are_siblings q.roots (secondary b) (region_value s r).function.slot.bus ≡ true
   on_bus r has at =
       let on = row_bus q s r (known r has) (secondary b) space at in
       let bus = (region_value s r).function.slot.bus in
       or_left (secondary b == bus) (is_root q.roots (secondary b) && is_root q.roots bus) (eq-eqb (secondary b) bus on.at)
 
   -- and what is on the bus is in the row
-  in_number : (v : FunctionPart) → are_siblings q.roots (secondary b) v.function.slot.bus ≡ true → part_space v ≡ space → part_row q v ≡ number
+  in_number : (v : FunctionPart) → are_siblings q.roots (secondary b) v.function.slot.bus ≡ true → part_space v ≡ space → part_row_number q v ≡ number
   in_number v beside at =
       let bus = on_it q.roots s system nested b v.function.slot.bus listed_b bridge beside in
       ap (λ n. row_number n (part_space v)) (by (cases_Bool (is_root q.roots v.function.slot.bus)) bus) ∙ ap (row_number (secondary b + 1)) at
@@ -217,8 +218,8 @@ module _ (q : Request) (s : System) (system : IsSystem s) (nested : IsNested q.r
       let at : IsInPiece (λ r. listed (pick r)) row made.from = in_flat_map_to (λ r. listed (pick r)) row made.from made.has in
       let r = at.of in
       let v = region_value s r in
-      let in_rows = in_filter_to (λ y. row_of y == number) rows r at.has in
-      let here = eqb-true (row_of r) number in_rows.1 in
+      let in_rows = in_filter_to (λ y. region_row_number y == number) rows r at.has in
+      let here = eqb-true (region_row_number r) number in_rows.1 in
       let is : option_map decoded_range_of (pick r) ≡ Some x = ap (option_map decoded_range_of) (in_listed (pick r) made.from at.piece) ∙ ap Some made.is in
       let both = some_if (test v) (there v) x (sym (picks r in_rows.0 here) ∙ is) in
       let on = and_from (are_siblings q.roots (secondary b) v.function.slot.bus) (test v) (on_bus r in_rows.0 here) both.0 in
@@ -232,13 +233,13 @@ module _ (q : Request) (s : System) (system : IsSystem s) (nested : IsNested q.r
       let standing = stand v at.listed (ap is_some at.is) in
       let made : IsMade (region_value s) rows v = in_map_to (region_value s) rows v (are.all v at.listed standing) in
       let r = made.from in
-      let here : row_of r ≡ number = region_row q s r (known r made.has) ∙ ap (part_row q) made.is ∙ in_number v at.beside (of_space v at.listed at.passes) in
+      let here : region_row_number r ≡ number = region_row q s r (known r made.has) ∙ ap (part_row_number q) made.is ∙ in_number v at.beside (of_space v at.listed at.passes) in
       let is : option_map decoded_range_of (pick r) ≡ Some x =
       picks r made.has here ∙ ap (λ (u : FunctionPart). cond (test u) (there u) None) made.is ∙ ap (λ t. cond t (there v) None) at.passes ∙ at.is in
       let found = some_of (pick r) x is in
       subst (Contains (map decoded_range_of picked)) found.1.1
       (in_map_from decoded_range_of picked found.0
-      (in_flat_map_from (λ y. listed (pick y)) row r found.0 (in_filter_from (λ y. row_of y == number) rows r made.has (eq-eqb (row_of r) number here)) (listed_in (pick r) found.0 found.1.0)))
+      (in_flat_map_from (λ y. listed (pick y)) row r found.0 (in_filter_from (λ y. region_row_number y == number) rows r made.has (eq-eqb (region_row_number r) number here)) (listed_in (pick r) found.0 found.1.0)))
 
   -- what is picked of the row is what is there on the bus and passes the test
   pub picked_same : HaveSame (map decoded_range_of picked) (there_on q s there test (secondary b))

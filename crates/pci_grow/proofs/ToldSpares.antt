@@ -9,7 +9,7 @@ use Rattle.settle_spec.specs.Spares.{spare_extent}
 use Rattle.settle_spec.specs.Items.{highest_in}
 use Rattle.pci_base.specs.WindowKinds.{by_kind}
 use Rattle.pci_first_fit.specs.declared.extent.Extent.{Extent}
-use Rattle.pci_grow.specs.Board.{bridge_of, class_of}
+use Rattle.pci_grow.specs.Board.{bridge_of_window, window_class}
 use Rattle.pci_grow.specs.Granting.{spare_up_to, SparesAreTold}
 
 -- a spare is wanted behind a bridge with a slot, where any are
@@ -22,8 +22,8 @@ by_flags false false some o highest e is = refl
 
 pub spares_are_told : SparesAreTold
 spares_are_told q s slots spares tells w within =
-    let f = bridge_of s w in
-    let c = class_of w in
+    let f = bridge_of_window s w in
+    let c = window_class w in
     let highest = highest_in c f.probe in
     let wanted = wanted_in q.spares c in
     ap (λ b. cond (b && is_bridge f && nat_lt 0 wanted) (Some (spare_extent c wanted highest)) None) (sym (tells.slot w.bridge within))

@@ -17,7 +17,7 @@ use Rattle.settle_spec.specs.Lines.{lines_on, lines_behind}
 use Rattle.settle_spec.specs.Lists.{Request}
 use Rattle.settle_spec.specs.Parts.{FunctionPart, system_parts, addresses, class_in, are_same_space}
 use Rattle.settle_spec.specs.Stands.{part_space, window_part}
-use Rattle.settle_spec.specs.Items.{Item as ItemValue, AllPlaced, highest_in, bus_items, new_window}
+use Rattle.settle_spec.specs.Items.{PlacingItem as ItemValue, AllPlaced, highest_in, bus_items, new_window}
 use Rattle.settle_spec.specs.Reach.{reach}
 use Rattle.settle_spec.specs.Growth.{grown_to, there_on, taken_around, window_comes_to}
 use Rattle.settle_spec.proofs.SameTaken.{HaveSame}
@@ -38,7 +38,7 @@ use Rattle.pci_place.specs.Items.{function_in}
 use Rattle.pci_first_fit.specs.declared.item.Item.{Item}
 use Rattle.pci_first_fit.specs.declared.item.Part.TheVariants.{Rom}
 use Rattle.pci_first_fit.specs.Buses.{AreInTurn, bus_listing}
-use Rattle.pci_first_fit.specs.NewWindows.{HasNewWindows, HasMarkedWindows, told_extent}
+use Rattle.pci_first_fit.specs.NewWindows.{HasNewWindows, HasMarkedWindows, new_window_extent}
 use Rattle.pci_first_fit.specs.Lines.{AreLines, level_of}
 use Rattle.pci_first_fit.specs.Own.{class_part, asked_item_value}
 use Rattle.pci_first_fit.specs.Placings.{at_places}
@@ -46,14 +46,15 @@ use Rattle.pci_first_fit.specs.Turns.{HasExtent}
 use Rattle.pci_first_fit.proofs.Marked.{told_is}
 use Rattle.pci_kept.specs.declared.region.Region.{Region}
 use Rattle.pci_kept.specs.Known.{Known, region_value}
-use Rattle.pci_kept.specs.Windows.{IsWhole}
+use Rattle.pci_kept.specs.Windows.{IsWholeRange}
 use Rattle.pci_grow.proofs.LowReaches.{highest_below, reach_low}
 use Rattle.pci_grow.specs.declared.around.Around.{Around}
 use Rattle.pci_grow.specs.Arounds.{HaveBehind, ArePlacesAround, HaveNoPlaces}
 use Rattle.pci_grow.specs.Grounds.{Ground, AreAlike}
-use Rattle.pci_grow.specs.Rows.{row_number, row_of}
+use Rattle.pci_grow.specs.Rows.{region_row_number}
+use Rattle.pci_grow.specs.RoomRows.{row_number}
 use Rattle.pci_grow.specs.There.{Tables, in_row, there_of, there_of_class, range_told, class_told, holding, placed_ranges, there_told}
-use Rattle.pci_grow.specs.Telling.{Setting, IsGrowing, IsWindowOf, IsThereTold}
+use Rattle.pci_grow.specs.Telling.{Setting, IsGrowing, IsWindowWithReach, IsThereTold}
 use Rattle.pci_grow.proofs.AlikeTaken.{alike_same, alike_trans, alike_append}
 use Rattle.pci_grow.proofs.Comings.{StandFor, behind_item, comes_none, comes_some}
 use Rattle.pci_grow.proofs.InRows.{known_in}
@@ -74,7 +75,7 @@ module _ (p : Setting) (t : Tables) (b : Bridge) (class : CodeKind) (a : Around)
   abbrev c : WindowKind
   c = kind_value class
 
-  module _ (q : Request) (f : Function) (growing : IsGrowing q p) (window : IsWindowOf q s f b class a) (told : IsThereTold q s t) where
+  module _ (q : Request) (f : Function) (growing : IsGrowing q p) (window : IsWindowWithReach q s f b class a) (told : IsThereTold q s t) where
     abbrev there : FunctionPart → Option DecodedRange
     there = there_told s t
 
@@ -137,7 +138,7 @@ module _ (p : Setting) (t : Tables) (b : Bridge) (class : CodeKind) (a : Around)
     stand_for : StandFor (behind_item q) a (map (asked_item_value s c) items) (bus_items q s c (λ r. is_some (there r)) (new_window q s c) (secondary f))
     stand_for = by (growing.new class f listed window.stand)
       where
-        by : HasNewWindows q s c p.classing.terms (by_kind p.windows class) ⊎ (HasMarkedWindows q s c (by_kind p.windows class) × (IsWhole (reach q s c f) → ⊥))
+        by : HasNewWindows q s c p.classing.terms (by_kind p.windows class) ⊎ (HasMarkedWindows q s c (by_kind p.windows class) × (IsWholeRange (reach q s c f) → ⊥))
             → StandFor (behind_item q) a (map (asked_item_value s c) items) (bus_items q s c (λ r. is_some (there r)) (new_window q s c) (secondary f))
         by (inl new) = inl (
             turn record { request = q; keeps = λ r. is_some (there r); extent = new_window q s c } record { left = growing.left; keeps_is = told.keeps; behind = new.behind b.secondary }
@@ -145,9 +146,9 @@ module _ (p : Setting) (t : Tables) (b : Bridge) (class : CodeKind) (a : Around)
         by (inr (marked, narrow)) =
             subst (λ n. StandFor (behind_item q) a (map (asked_item_value s c) items) (bus_items q s c (λ r. is_some (there r)) (new_window q s c) n)) (sym bus)
             (subst (λ xs. StandFor (behind_item q) a xs (bus_items q s c (λ r. is_some (there r)) (new_window q s c) b.secondary))
-            (sym (turn record { request = q; keeps = λ r. is_some (there r); extent = told_extent (by_kind p.windows class) }
+            (sym (turn record { request = q; keeps = λ r. is_some (there r); extent = new_window_extent (by_kind p.windows class) }
             record { left = growing.left; keeps_is = told.keeps; behind = λ g in_g beside is. told_is _ _ _ (marked g in_g is) }))
-            (marks_stand q s growing.system growing.nested c (behind_item q) a small low inside (λ whole. narrow (subst IsWhole window.reach_is whole)) (λ r. is_some (there r)) (by_kind p.windows class) b.secondary marked))
+            (marks_stand q s growing.system growing.nested c (behind_item q) a small low inside (λ whole. narrow (subst IsWholeRange window.reach_is whole)) (λ r. is_some (there r)) (by_kind p.windows class) b.secondary marked))
 
     -- ---- what lines hold behind them
 
@@ -174,14 +175,14 @@ module _ (p : Setting) (t : Tables) (b : Bridge) (class : CodeKind) (a : Around)
     off : HaveBehind g (behind_item q) (map (asked_item_value s c) items) items
     off = by (growing.new class f listed window.stand)
       where
-        by : HasNewWindows q s c p.classing.terms (by_kind p.windows class) ⊎ (HasMarkedWindows q s c (by_kind p.windows class) × (IsWhole (reach q s c f) → ⊥))
+        by : HasNewWindows q s c p.classing.terms (by_kind p.windows class) ⊎ (HasMarkedWindows q s c (by_kind p.windows class) × (IsWholeRange (reach q s c f) → ⊥))
             → HaveBehind g (behind_item q) (map (asked_item_value s c) items) items
         by (inl new) =
             all_behind (new_window q s c) b.secondary
             (turn record { request = q; keeps = λ r. is_some (there r); extent = new_window q s c } record { left = growing.left; keeps_is = told.keeps; behind = new.behind b.secondary })
         by (inr (marked, narrow)) =
-            all_behind (told_extent (by_kind p.windows class)) b.secondary
-            (turn record { request = q; keeps = λ r. is_some (there r); extent = told_extent (by_kind p.windows class) }
+            all_behind (new_window_extent (by_kind p.windows class)) b.secondary
+            (turn record { request = q; keeps = λ r. is_some (there r); extent = new_window_extent (by_kind p.windows class) }
             record { left = growing.left; keeps_is = told.keeps; behind = λ g in_g beside is. told_is _ _ _ (marked g in_g is) })
 
     -- ---- what is there behind it
@@ -189,7 +190,7 @@ module _ (p : Setting) (t : Tables) (b : Bridge) (class : CodeKind) (a : Around)
     row_at : row ≡ in_row (row_number (secondary f + 1) (window_space c)) p.rows
     row_at = row_is ∙ ap (λ n. in_row (row_number (n + 1) (window_space c)) p.rows) (sym bus)
 
-    on_bus : (r : Region) → Contains p.rows r → row_of r ≡ row_number (secondary f + 1) (window_space c) → IsOnBus q (secondary f) (window_space c) (region_value s r)
+    on_bus : (r : Region) → Contains p.rows r → region_row_number r ≡ row_number (secondary f + 1) (window_space c) → IsOnBus q (secondary f) (window_space c) (region_value s r)
     on_bus r has at = row_bus q s r (known_in q s growing.system growing.nested p.rows growing.rows r has) (secondary f) (window_space c) at
 
     same_space : HaveSame (map decoded_range_of (there_of t row)) (there_on q s there (λ r. are_same_space (window_space c) (part_space r)) (secondary f))

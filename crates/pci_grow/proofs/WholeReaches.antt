@@ -30,7 +30,7 @@ use Rattle.pci_first_fit.specs.Buses.{Classing, TellsClasses}
 use Rattle.pci_first_fit.specs.NewWindows.{IsTooLarge}
 use Rattle.pci_kept.specs.declared.windows.TooLarge.{TooLarge}
 use Rattle.pci_kept.specs.Holding.{HasNewBeside, HasNewWhereStands}
-use Rattle.pci_kept.specs.Windows.{AreAllNew, IsWhole, is_whole_range}
+use Rattle.pci_kept.specs.Windows.{AreAllNew, IsWholeRange, is_whole_range}
 use Rattle.pci_grow.specs.Reaching.{Reaching, IsReaching, tells_whole, TellsWhole, HasWholeReach}
 use Rattle.pci_first_fit.specs.Tables.{untold, told}
 use Rattle.pci_grow.specs.Telling.{HasNewAround}
@@ -41,13 +41,13 @@ told_whole o = is_whole_range (option_map decoded_range_of o)
 
 -- ---- ranges
 
-whole_of : (r : DecodedRange) → is_whole_range (Some r) ≡ true → IsWhole r
+whole_of : (r : DecodedRange) → is_whole_range (Some r) ≡ true → IsWholeRange r
 whole_of r is =
     let parts = and_parts (r.first == 0) (r.last == 0xffff_ffff_ffff_ffff) is in
     let last = eqb-true r.last 0xffff_ffff_ffff_ffff parts.1 in
     record { first = eqb-true r.first 0 parts.0; last = omega (arith, last) }
 
-is_whole_of : (r : DecodedRange) → IsWhole r → is_whole_range (Some r) ≡ true
+is_whole_of : (r : DecodedRange) → IsWholeRange r → is_whole_range (Some r) ≡ true
 is_whole_of r is = (let last = is.last in and_from (r.first == 0) (r.last == 0xffff_ffff_ffff_ffff) (eq-eqb r.first 0 is.first) (eq-eqb r.last 0xffff_ffff_ffff_ffff (omega (arith, last))))
 
 -- ---- the windows of one function
@@ -100,7 +100,7 @@ module _ (q : Request) (s : System) (system : IsSystem s) (nested : IsNested q.r
         one_whole k of_class.0 within of_class.1
 
     -- where nothing told has, no reach does
-    pub none_whole : All (λ ranges. tells_whole ranges ≡ false) x.reaches → (class : CodeKind) (f : Function) → Contains s f → stands q s (window_part (kind_value class) f) ≡ true → IsWhole (reach q s (kind_value class) f) → ⊥
+    pub none_whole : All (λ ranges. tells_whole ranges ≡ false) x.reaches → (class : CodeKind) (f : Function) → Contains s f → stands q s (window_part (kind_value class) f) ≡ true → IsWholeRange (reach q s (kind_value class) f) → ⊥
     none_whole none class f listed stand whole =
         let k = listed.0 in
         let at : slice_get s k ≡ Some f = slice_get-get_or s k f listed.1 ∙ ap Some listed.2 in
@@ -110,14 +110,14 @@ module _ (q : Request) (s : System) (system : IsSystem s) (nested : IsNested q.r
         both_ways (tells_whole (get_or x.reaches k untold)) (none k untold within) all
 
     pub known_around : (large : Option TooLarge) → (large ≡ None) ⊎ All (λ ranges. tells_whole ranges ≡ false) x.reaches
-        → (large ≡ None) ⊎ ((class : CodeKind) (f : Function) → Contains s f → stands q s (window_part (kind_value class) f) ≡ true → IsWhole (reach q s (kind_value class) f) → ⊥)
+        → (large ≡ None) ⊎ ((class : CodeKind) (f : Function) → Contains s f → stands q s (window_part (kind_value class) f) ≡ true → IsWholeRange (reach q s (kind_value class) f) → ⊥)
     known_around large (inl none) = inl none
     known_around large (inr narrow) = inr (none_whole narrow)
 
   -- ---- a window of all addresses has such a reach
 
   module _ (low : WindowsAreLow q s) (c : WindowKind) (f : Function) (listed : Contains s f) (stand : stands q s (window_part c f) ≡ true) where
-    window_whole : IsWhole (range_of f (Window c)) → IsWhole (reach q s c f)
+    window_whole : IsWholeRange (range_of f (Window c)) → IsWholeRange (reach q s c f)
     window_whole is =
         let can = reaches_are_around q s c nested system low f record { part = window_listed q s c f listed ((stands_by_itself q s nested).only (window_part c f) listed stand); stands = stand } in
         let first = can.first in
@@ -130,7 +130,7 @@ module _ (q : Request) (s : System) (system : IsSystem s) (nested : IsNested q.r
 -- ---- new windows
 
 pub new_around : (p : Classing) (q : Request) → TellsClasses p q → (windows : ByKind (List (Option Extent))) (large : Option TooLarge) → AreAllNew p windows large
-    → (large ≡ None) ⊎ ((class : CodeKind) (f : Function) → Contains p.system f → stands q p.system (window_part (kind_value class) f) ≡ true → IsWhole (reach q p.system (kind_value class) f) → ⊥)
+    → (large ≡ None) ⊎ ((class : CodeKind) (f : Function) → Contains p.system f → stands q p.system (window_part (kind_value class) f) ≡ true → IsWholeRange (reach q p.system (kind_value class) f) → ⊥)
     → (class : CodeKind) (f : Function) → Contains p.system f → stands q p.system (window_part (kind_value class) f) ≡ true → HasNewAround q p (kind_value class) (by_kind windows class) f
 new_around p q left windows None all known class f listed stand = inl (all class q left)
 new_around p q left windows (Some x) all (inl none) class f listed stand = (let no : ⊥ = cc in absurd no)

@@ -4,7 +4,7 @@ use Rattle.pci_spec.specs.Decoded.{Range as DecodedRange}
 use Rattle.plan_spec.specs.Place.{range_from}
 use Rattle.settle_spec.specs.FirstPlace.{HasNoPlace, first_place_in}
 use Rattle.settle_spec.specs.LastPlace.{last_place_in}
-use Rattle.settle_spec.specs.Items.{Item as ItemValue, AllPlaced, are_placed, place_each}
+use Rattle.settle_spec.specs.Items.{PlacingItem as ItemValue, AllPlaced, are_placed, place_each}
 use Rattle.settle_spec.specs.Growth.{place_around}
 use Rattle.pci_base.specs.declared.range.Range.{Range}
 use Rattle.pci_base.specs.Ranges.{decoded_range_of}
@@ -67,14 +67,14 @@ pub record IsSearch (a : Around) (taken : List Range) (s : Search) : Type 0 wher
   pub begun : IsLastBegun s.first s.last
 
 -- where a place is put, nothing is of what lies above where last places are looked for next
-abbrev pub IsBelowLast : List Range → Search → Spot → Type 0
-IsBelowLast taken search spot =
+abbrev pub IsBelowLateSearch : List Range → Search → Spot → Type 0
+IsBelowLateSearch taken search spot =
     IfSome search.last (λ late. spot.index + late.above ≤ length taken)
 
 -- ---- one item after another
 
 -- ranges by rising first and last addresses, none of them backward
-pub record AreInOrder (taken : List Range) : Type 0 where
+pub record AreRisingAtBothEnds (taken : List Range) : Type 0 where
   pub rising : AreRisingRanges taken
   pub lasts : LastsRise taken
 

@@ -27,7 +27,8 @@ use Rattle.pci_grow.specs.declared.board.Facts.{Facts}
 use Rattle.pci_grow.specs.declared.spare_room.Room.{Room as CodeRoom}
 use Rattle.pci_first_fit.specs.Lists.{lists_value}
 use Rattle.pci_first_fit.specs.Lines.{AreLines}
-use Rattle.pci_grow.specs.RoomRows.{level, row_number, row_at, HasRanges, AreSameBut, IsEndedIn, IsAddedTo, LastsRise}
+use Rattle.pci_grow.specs.RoomRows.{bus_level, row_number, row_at, HasRanges, AreSameBut, IsEndedIn, IsAddedTo}
+use Rattle.pci_grow.specs.LastPlaces.{LastsRise}
 use Rattle.pci_first_fit.specs.Spots.{FirstsRise}
 use Rattle.pci_first_fit.specs.Tables.{told, TellsSame}
 
@@ -46,17 +47,17 @@ pub record IsAsked (q : Request) (s : System) (b : Board) : Type 0 where
 -- ---- windows
 
 -- its bridge
-abbrev pub bridge_of : System → BridgeWindow → Function
-bridge_of s w = function_in s w.bridge
+abbrev pub bridge_of_window : System → BridgeWindow → Function
+bridge_of_window s w = function_in s w.bridge
 
 -- the class as the definitions have it
-abbrev pub class_of : BridgeWindow → WindowKind
-class_of w = kind_value w.class
+abbrev pub window_class : BridgeWindow → WindowKind
+window_class w = kind_value w.class
 
 -- a window of a bridge of the system
 pub record IsWindow (s : System) (w : BridgeWindow) : Type 0 where
   pub within : w.bridge < length s
-  pub bridge : is_bridge (bridge_of s w) ≡ true
+  pub bridge : is_bridge (bridge_of_window s w) ≡ true
 
 -- what is known of a window
 pub record AreFacts (q : Request) (c : WindowKind) (f : Function) (facts : Facts) : Type 0 where
@@ -73,9 +74,9 @@ HasFacts q c f None = is_bridge f ≡ false
 HasFacts q c f (Some facts) = AreFacts q c f facts
 
 -- the bridge over a bus, by its index
-abbrev pub IsOver : System → ℕ → Option ℕ → Type 0
-IsOver s bus None = bridge_over s bus ≡ None
-IsOver s bus (Some k) = (k < length s) × (bridge_over s bus ≡ Some (function_in s k))
+abbrev pub IsBridgeIndexOver : System → ℕ → Option ℕ → Type 0
+IsBridgeIndexOver s bus None = bridge_over s bus ≡ None
+IsBridgeIndexOver s bus (Some k) = (k < length s) × (bridge_over s bus ≡ Some (function_in s k))
 
 -- ---- what is there so far
 
@@ -103,20 +104,20 @@ abbrev pub told_then : List (ByKind (Option Range)) → Room → BridgeWindow �
 told_then windows room w = option_or (told room.wished w.bridge w.class) (told windows w.bridge w.class)
 
 -- the room is that where this is kept so far
-pub record IsTold (q : Request) (s : System) (k : Kept) (b : Board) (room : Room) : Type 0 where
+pub record IsRoomOfKept (q : Request) (s : System) (k : Kept) (b : Board) (room : Room) : Type 0 where
   pub asked : IsAsked q s b
   pub windows : (w : BridgeWindow) → IsWindow s w
       → option_map decoded_range_of (told b.windows.now w.bridge w.class)
-      ≡ place_then q s k (window_part (class_of w) (bridge_of s w))
+      ≡ place_then q s k (window_part (window_class w) (bridge_of_window s w))
   pub wished : (w : BridgeWindow) → w.bridge < length s
       → option_map decoded_range_of (told room.wished w.bridge w.class)
-      ≡ k.wished (window_part (class_of w) (bridge_of s w))
+      ≡ k.wished (window_part (window_class w) (bridge_of_window s w))
   -- a window that isn't there has no addresses
   pub there : (w : BridgeWindow) → IsWindow s w → (r : DecodedRange)
-      → range_then q s k (window_part (class_of w) (bridge_of s w)) ≡ Some r
-      → has_window (class_of w) (bridge_of s w).probe ≡ true
+      → range_then q s k (window_part (window_class w) (bridge_of_window s w)) ≡ Some r
+      → has_window (window_class w) (bridge_of_window s w).probe ≡ true
   pub rows : (space : Space) (bus : ℕ) → bus < 256
-      → HasRanges (row_at room.rows (row_number (level q.roots bus) space)) (there_then q s k space bus)
+      → HasRanges (row_at room.rows (row_number (bus_level q.roots bus) space)) (there_then q s k space bus)
 
 -- what does not hang on what is kept: a place for each window and each row, and rows in order
 pub record IsRoom (functions : ℕ) (room : Room) : Type 0 where
@@ -134,7 +135,7 @@ pub record IsEnded (old new : Room) (w : BridgeWindow) (row : ℕ) (window : Ran
   pub rest : AreSameBut old.rows new.rows row
 
 -- a window is opened
-pub record IsOpened (old new : Room) (w : BridgeWindow) (row : ℕ) (range : Range) : Type 0 where
+pub record IsWindowOpened (old new : Room) (w : BridgeWindow) (row : ℕ) (range : Range) : Type 0 where
   pub told_is : told new.wished w.bridge w.class ≡ Some range
   pub others : TellsSame old.wished new.wished w.bridge w.class
   pub added : IsAddedTo (row_at old.rows row) (row_at new.rows row) range

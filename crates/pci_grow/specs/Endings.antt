@@ -23,17 +23,17 @@ use Rattle.pci_first_fit.specs.Spots.{extent_value}
 use Rattle.pci_first_fit.specs.Lists.{lists_value}
 use Rattle.pci_grow.specs.Lists.{ranges_had}
 use Rattle.pci_grow.specs.RoomRows.{HasRanges}
-use Rattle.pci_grow.specs.Board.{IsWindow, class_of, bridge_of, Room, IsTold}
+use Rattle.pci_grow.specs.Board.{IsWindow, window_class, bridge_of_window, Room, IsRoomOfKept}
 
 -- where nothing is kept that way nothing changed
 abbrev pub IsEndedAs : Request → System → Board → Option Kept → Bool → Room → Room → Type 0
 IsEndedAs q s b None result old new = (result ≡ false) × (new ≡ old)
-IsEndedAs q s b (Some k) result old new = (result ≡ true) × IsTold q s k b new
+IsEndedAs q s b (Some k) result old new = (result ≡ true) × IsRoomOfKept q s k b new
 
 -- the same of a spare with its place
 abbrev pub IsSparedAs : Request → System → Board → Option Spared → Option ℕ → Room → Room → Type 0
 IsSparedAs q s b None place old new = (place ≡ None) × (new ≡ old)
-IsSparedAs q s b (Some found) place old new = (place ≡ Some found.at) × IsTold q s found.kept b new
+IsSparedAs q s b (Some found) place old new = (place ≡ Some found.at) × IsRoomOfKept q s found.kept b new
 
 -- the first spot of an extent from an address on, where it ends by the highest address that the extent may have
 abbrev pub IsSpotBelow : List Range → ℕ → Extent → Option ℕ → Type 0
@@ -44,7 +44,7 @@ IsSpotBelow taken low e (Some at) =
 -- this is taken on a bus in the space of a class, with what is behind windows that are opened
 abbrev pub IsTakenOn : Board → Room → ℕ → WindowKind → List CodeRange → List CodeRange → Type 0
 IsTakenOn b room bus c behind taken =
-    (q : Request) (s : System) (k : Kept) (held : List Range) → IsTold q s k b room → HasRanges behind held
+    (q : Request) (s : System) (k : Kept) (held : List Range) → IsRoomOfKept q s k b room → HasRanges behind held
     → HasRanges taken (held ++ taken_then q s k (window_space c) bus)
 
 -- such a spot beside all that
@@ -63,21 +63,21 @@ pub record IsPlaceBeside (b : Board) (room : Room) (bus : ℕ) (c : WindowKind) 
 abbrev pub IsSparedIn : Request → System → Kept → Board → BridgeWindow → CodeRange → Extent → List Range → Option ℕ → Room → Room → Type 0
 IsSparedIn q s k b w range e behind place old new =
     IsSparedAs q s b
-    (spared_at q s (class_of w) (bridge_of s w) (extent_value e) k
-    (spot_behind q s (class_of w) (bridge_of s w) (extent_value e) behind k (decoded_range_of range)))
+    (spared_at q s (window_class w) (bridge_of_window s w) (extent_value e) k
+    (spot_behind q s (window_class w) (bridge_of_window s w) (extent_value e) behind k (decoded_range_of range)))
     place old new
 
 -- a closed window on a root is opened at its first place, if there is one
 abbrev pub spared_on_root : Request → System → Kept → BridgeWindow → Extent → List Range → Option Spared
 spared_on_root q s k w e behind =
-    option_map (opened_at q s (class_of w) (bridge_of s w) (extent_value e))
+    option_map (opened_at q s (window_class w) (bridge_of_window s w) (extent_value e))
     (option_map (λ at. record { at = at; kept = k })
-    (first_place (class_ranges q (class_of w) (bridge_of s w).slot.bus)
-    (behind ++ taken_then q s k (window_space (class_of w)) (bridge_of s w).slot.bus) (extent_value e)))
+    (first_place (class_ranges q (window_class w) (bridge_of_window s w).slot.bus)
+    (behind ++ taken_then q s k (window_space (window_class w)) (bridge_of_window s w).slot.bus) (extent_value e)))
 
 abbrev pub IsSparedOnRoot : Request → System → Kept → Board → BridgeWindow → Facts → Extent → List Range → Option ℕ → Room → Room → Type 0
 IsSparedOnRoot q s k b w facts e behind place old new =
-    facts.there ≡ true → range_then q s k (window_part (class_of w) (bridge_of s w)) ≡ None
+    facts.there ≡ true → range_then q s k (window_part (window_class w) (bridge_of_window s w)) ≡ None
     → IsSparedAs q s b (spared_on_root q s k w e behind) place old new
 
 -- what is kept where something is around a window
@@ -89,17 +89,17 @@ kept_around s above last k (Window bridge) = above (function_in s bridge) last k
 -- the window over another one is that of a bridge on a lower bus
 pub record IsOverOne (s : System) (w : BridgeWindow) (bridge : ℕ) : Type 0 where
   pub window : IsWindow s record { bridge = bridge; class = w.class }
-  pub lower : (function_in s bridge).slot.bus < (bridge_of s w).slot.bus
+  pub lower : (function_in s bridge).slot.bus < (bridge_of_window s w).slot.bus
 
 abbrev pub IsAroundOne : System → BridgeWindow → Around → Type 0
 IsAroundOne s w (Window bridge) = IsOverOne s w bridge
 IsAroundOne s w around = Unit {0}
 
 -- what is around a window of a bridge where it has these addresses
-pub record IsAround (q : Request) (s : System) (w : BridgeWindow) (window : Range) (around : Around) : Type 0 where
+pub record IsAroundWindow (q : Request) (s : System) (w : BridgeWindow) (window : Range) (around : Around) : Type 0 where
   pub one : IsAroundOne s w around
   pub kept : (above : Function → ℕ → Kept → Option Kept) (k : Kept)
-      → with_room_above q s (class_of w) above (bridge_of s w) window k ≡ kept_around s above window.last k around
+      → with_room_above q s (window_class w) above (bridge_of_window s w) window k ≡ kept_around s above window.last k around
 
 -- its bridge is one of so many functions
 abbrev pub IsAroundIn : ℕ → Around → Type 0

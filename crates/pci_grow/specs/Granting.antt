@@ -20,7 +20,7 @@ use Rattle.pci_grow.specs.declared.board.Board.{Board}
 use Rattle.pci_grow.specs.declared.board.BridgeWindow.{BridgeWindow}
 use Rattle.pci_first_fit.specs.declared.extent.Extent.{Extent}
 use Rattle.pci_first_fit.specs.Spots.{IsExtent}
-use Rattle.pci_grow.specs.Board.{bridge_of, class_of, Room, IsTold}
+use Rattle.pci_grow.specs.Board.{bridge_of_window, window_class, Room, IsRoomOfKept}
 
 -- the spare that is wanted in a window of a function
 abbrev pub spare_in : List Bool → ByKind (Option Extent) → BridgeWindow → Option Extent
@@ -37,17 +37,17 @@ spare_up_to highest e = record { size = e.size; alignment = e.alignment; highest
 -- these are the spares that are wanted behind bridges
 abbrev pub AreSpares : System → List Bool → ByKind (Option Extent) → (WindowKind → Function → Option ExtentValue) → Type 0
 AreSpares s slots spares spare =
-    (w : BridgeWindow) → w.bridge < length s → spare (class_of w) (bridge_of s w)
-    ≡ (if is_bridge (bridge_of s w)
-    then option_map (spare_up_to (highest_in (class_of w) (bridge_of s w).probe)) (spare_in slots spares w)
+    (w : BridgeWindow) → w.bridge < length s → spare (window_class w) (bridge_of_window s w)
+    ≡ (if is_bridge (bridge_of_window s w)
+    then option_map (spare_up_to (highest_in (window_class w) (bridge_of_window s w).probe)) (spare_in slots spares w)
     else None)
 
 abbrev pub part_of : System → BridgeWindow → FunctionPart
-part_of s w = window_part (class_of w) (bridge_of s w)
+part_of s w = window_part (window_class w) (bridge_of_window s w)
 
 -- the room is that where this was granted, and these are the windows whose spares are denied
 pub record AreGranted (q : Request) (s : System) (b : Board) (g : Granted) (room : Room) (denied : List BridgeWindow) : Type 0 where
-  pub told_is : IsTold q s g.kept b room
+  pub told_is : IsRoomOfKept q s g.kept b room
   pub denied_are : g.denied ≡ map (part_of s) denied
 
 -- flags and extents tell what is asked for: which bridges have a slot, and how large the spares are

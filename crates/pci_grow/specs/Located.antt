@@ -21,14 +21,14 @@ use Rattle.pci_base.specs.Space.{space_of}
 use Rattle.pci_grow.specs.declared.board.BridgeWindow.{BridgeWindow}
 use Rattle.pci_grow.specs.declared.fill.Located.{Located}
 use Rattle.pci_first_fit.specs.Spots.{FirstsRise}
-use Rattle.pci_grow.specs.RoomRows.{level, row_number, row_at, total, IsAddedTo, AreSameBut}
+use Rattle.pci_grow.specs.RoomRows.{bus_level, row_number, row_at, total, IsAddedTo, AreSameBut}
 use Rattle.pci_first_fit.specs.Tables.{told}
-use Rattle.pci_grow.specs.Board.{IsWindow, bridge_of, class_of}
+use Rattle.pci_grow.specs.Board.{IsWindow, bridge_of_window, window_class}
 
 -- what a part weighs in a row: nothing in another one
 abbrev pub located_weight : List ℕ → (DecodedRange → ℕ) → ℕ → Located → ℕ
 located_weight roots weight n p =
-    if row_number (level roots p.bus) (space_of p.space) == n then weight (decoded_range_of p.range) else 0
+    if row_number (bus_level roots p.bus) (space_of p.space) == n then weight (decoded_range_of p.range) else 0
 
 -- the weight of the parts of a row
 abbrev pub located_total : List ℕ → (DecodedRange → ℕ) → ℕ → List Located → ℕ
@@ -47,7 +47,7 @@ told_weight weight row n (Some r) = if row == n then weight (decoded_range_of r)
 
 abbrev pub window_weight : List ℕ → System → List (ByKind (Option Range)) → (DecodedRange → ℕ) → ℕ → BridgeWindow → ℕ
 window_weight roots s table weight n w =
-    told_weight weight (row_number (level roots (bridge_of s w).slot.bus) (window_space (class_of w))) n
+    told_weight weight (row_number (bus_level roots (bridge_of_window s w).slot.bus) (window_space (window_class w))) n
     (told table w.bridge w.class)
 
 -- what the windows of a function weigh
@@ -74,7 +74,7 @@ own_then q s k space bus =
 abbrev pub AreOwn : Request → System → Kept → List Located → Type 0
 AreOwn q s k own =
     (space : Space) (bus : ℕ) → bus < 256 → (weight : DecodedRange → ℕ)
-    → located_total q.roots weight (row_number (level q.roots bus) space) own ≡ sum_by weight (own_then q s k space bus)
+    → located_total q.roots weight (row_number (bus_level q.roots bus) space) own ≡ sum_by weight (own_then q s k space bus)
 
 -- a range was put at the end of a row
 pub record IsPushed (old new : List (List Range)) (row : ℕ) (range : Range) : Type 0 where
@@ -91,9 +91,9 @@ pub record AreWindowsThen (q : Request) (s : System) (k : Kept) (table : List (B
   pub unwished : (r : FunctionPart) → k.wished r ≡ None
   pub windows : (w : BridgeWindow) → IsWindow s w
       → option_map decoded_range_of (told table w.bridge w.class)
-      ≡ place_then q s k (window_part (class_of w) (bridge_of s w))
-  pub devices : (w : BridgeWindow) → w.bridge < length s → is_bridge (bridge_of s w) ≡ false
+      ≡ place_then q s k (window_part (window_class w) (bridge_of_window s w))
+  pub devices : (w : BridgeWindow) → w.bridge < length s → is_bridge (bridge_of_window s w) ≡ false
       → told table w.bridge w.class ≡ None
   pub there : (w : BridgeWindow) → IsWindow s w → (r : DecodedRange)
-      → place_then q s k (window_part (class_of w) (bridge_of s w)) ≡ Some r
-      → has_window (class_of w) (bridge_of s w).probe ≡ true
+      → place_then q s k (window_part (window_class w) (bridge_of_window s w)) ≡ Some r
+      → has_window (window_class w) (bridge_of_window s w).probe ≡ true

@@ -48,15 +48,15 @@ abbrev pub told_at : List ToldRange → ℕ → ToldRange
 told_at told k = slice_index_or told k blank
 
 -- whether a row is of a level and a space, and is no held range of a slot
-abbrev pub row_keeps_off : List ToldRange → Slot → ℕ → Space → Line → Bool
-row_keeps_off told slot level space l =
+abbrev pub line_keeps_slot_off : List ToldRange → Slot → ℕ → Space → Line → Bool
+line_keeps_slot_off told slot level space l =
     (l.level == level && are_same_space space (space_of l.space))
     && not (is_marked_held (told_at told l.index).mark && same_slot (told_at told l.index).slot slot)
 
 -- what such a row holds beside a window
 abbrev pub row_pieces : List ToldRange → Slot → ℕ → Space → DecodedRange → Line → List DecodedRange
 row_pieces told slot level space w l =
-    if row_keeps_off told slot level space l then pieces w (decoded_range_of l.range) else []
+    if line_keeps_slot_off told slot level space l then pieces w (decoded_range_of l.range) else []
 
 -- and all of them
 abbrev pub rows_beside : List ToldRange → Slot → ℕ → Space → DecodedRange → List Line → List DecodedRange

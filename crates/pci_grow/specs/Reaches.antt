@@ -36,7 +36,7 @@ abbrev pub beside_window : Request → System → FunctionPart → List Range
 beside_window q s w = lines_beside q w ++ standing_beside q s w
 
 -- a window of a bridge with its neighbours among what is beside it, and the highest address that it can hold
-pub record IsAmong (q : Request) (s : System) (c : WindowKind) (b : Function) (highest : ℕ)
+pub record IsWindowAmong (q : Request) (s : System) (c : WindowKind) (b : Function) (highest : ℕ)
     (a : Among) : Type 0 where
   pub window : addresses (window_part c b) ≡ decoded_range_of a.window
   pub highest_is : highest_in c b.probe ≡ highest
@@ -55,13 +55,13 @@ AreToldOver s c bus reach table =
 -- ---- all windows that stand
 
 -- the lists, and the ranges that a text tells of, with their rows
-pub record Given : Type 0 where
+pub record ListsAndLines : Type 0 where
   pub lists : Lists
   pub told : List ToldRange
   pub lines : List Line
 
 -- those of the code
-abbrev pub given_value : Board → Given
+abbrev pub given_value : Board → ListsAndLines
 given_value b = record {
   lists = lists_value b.lists.now;
   told = b.told.now;
@@ -69,7 +69,7 @@ given_value b = record {
 }
 
 -- a lawful board with the rows of what stands and of what is told, and no window above the highest address that it can hold
-pub record StandsInRows (q : Request) (s : System) (records : List Record) (given : Given)
+pub record StandsInRows (q : Request) (s : System) (records : List Record) (given : ListsAndLines)
     (rows : List Region) : Type 0 where
   pub board : IsBoard q s records given.lists
   pub told_is : q.told.ranges ≡ given.told
@@ -79,7 +79,7 @@ pub record StandsInRows (q : Request) (s : System) (records : List Record) (give
   pub has : HasRows q s rows
 
 -- and the window over a part is told
-pub record IsToldAbove (q : Request) (s : System) (records : List Record) (given : Given)
+pub record IsToldAbove (q : Request) (s : System) (records : List Record) (given : ListsAndLines)
     (rows : List Region) (index : ℕ) (class : CodeKind)
     (table : List (ByKind (Option CodeRange))) : Type 0 where
   pub stand : StandsInRows q s records given rows
@@ -103,8 +103,8 @@ TellsSameOutside rows count old new =
     → told new k class ≡ told old k class
 
 -- a table tells the reach of each window that stands
-abbrev pub AreReaches : Request → System → List (ByKind (Option CodeRange)) → Type 0
-AreReaches q s table =
+abbrev pub AreWindowReaches : Request → System → List (ByKind (Option CodeRange)) → Type 0
+AreWindowReaches q s table =
     (k : ℕ) (f : Function) (class : CodeKind) → slice_get s k ≡ Some f → IsTrue (is_bridge f)
     → IsTrue (stands q s (window_part (kind_value class) f))
     → option_map decoded_range_of (told table k class) ≡ Some (reach q s (kind_value class) f)

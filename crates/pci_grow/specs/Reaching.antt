@@ -23,10 +23,10 @@ use Rattle.pci_kept.specs.declared.region.Region.{Region}
 use Rattle.pci_kept.specs.Known.{AreParts}
 use Rattle.pci_kept.specs.Passing.{AreStanding}
 use Rattle.pci_kept.specs.declared.windows.TooLarge.{TooLarge}
-use Rattle.pci_kept.specs.Windows.{IsWhole, is_whole_range}
+use Rattle.pci_kept.specs.Windows.{IsWholeRange, is_whole_range}
 use Rattle.pci_grow.specs.declared.reaching.Reaching.{Reaching as CodeReaching}
-use Rattle.pci_grow.specs.Reaches.{AreReaches}
-use Rattle.pci_grow.specs.Rows.{row_of, AreRows}
+use Rattle.pci_grow.specs.Reaches.{AreWindowReaches}
+use Rattle.pci_grow.specs.Rows.{region_row_number, AreRowsOfStanding}
 use Rattle.pci_first_fit.specs.Tables.{told}
 
 -- the parts of all functions, which of them stand, those row by row, how far each window can grow, and the told ranges
@@ -51,10 +51,10 @@ reaching_value x = record {
 pub record IsReaching (q : Request) (s : System) (x : Reaching) : Type 0 where
   pub parts : AreParts q s x.regions
   pub stand : AreStanding q s x.kept
-  pub are_rows : AreRows x.regions x.kept x.rows
-  pub rise : IsNonDecreasingBy row_of x.rows
+  pub are_rows : AreRowsOfStanding x.regions x.kept x.rows
+  pub rise : IsNonDecreasingBy region_row_number x.rows
   pub count : length x.reaches ≡ length s
-  pub told_reaches : AreReaches q s x.reaches
+  pub told_reaches : AreWindowReaches q s x.reaches
   pub line_rows : AreLineRows x.lines
   pub are_lines : AreLines q.roots q.told.ranges x.lines
   pub only : (k : ℕ) (f : Function) (class : CodeKind) → slice_get s k ≡ Some f
@@ -78,7 +78,7 @@ pub record HasWholeReach (q : Request) (s : System) : Type 0 where
   pub listed : Contains s function
   pub class : WindowKind
   pub stand : IsTrue (stands q s (window_part class function))
-  pub whole : IsWhole (reach q s class function)
+  pub whole : IsWholeRange (reach q s class function)
 
 -- a new window of some class is too large, and a window that stands can grow to all addresses, or there was no memory
 abbrev pub IsTooLargeAround : Request → System → Refused TooLarge → Type 0

@@ -1,5 +1,5 @@
 -- What is there, row by row: of a bus and a space, all roots being one bus.
-use Rattle.std.specs.Prelude.{◌≡◌, ℕ, ◌+◌, ◌*◌, ◌<◌, ◌≤◌, if◌then◌else◌, List, [], length, slice_index_or}
+use Rattle.std.specs.Prelude.{◌≡◌, ℕ, ◌+◌, ◌*◌, if◌then◌else◌, List, [], slice_index_or}
 use Rattle.std.specs.List.{All, Contains, sum_by}
 use Rattle.pci_spec.specs.Decoded.{Range as DecodedRange}
 use Rattle.pci_spec.specs.System.{Space, Io, Memory}
@@ -17,13 +17,13 @@ abbrev pub HasRanges : List Range → List DecodedRange → Type 0
 HasRanges row ranges = (weight : DecodedRange → ℕ) → total weight row ≡ sum_by weight ranges
 
 -- all roots are the lowest bus
-abbrev pub level : List ℕ → ℕ → ℕ
-level roots bus = if is_root roots bus then 0 else bus + 1
+abbrev pub bus_level : List ℕ → ℕ → ℕ
+bus_level roots bus = if is_root roots bus then 0 else bus + 1
 
 -- the row of a bus and a space
 abbrev pub row_number : ℕ → Space → ℕ
-row_number level Io = 2 * level
-row_number level Memory = 2 * level + 1
+row_number bus_level Io = 2 * bus_level
+row_number bus_level Memory = 2 * bus_level + 1
 
 -- one for each bus and space, and for the roots
 abbrev pub ROWS : ℕ
@@ -34,14 +34,8 @@ abbrev pub row_at : List (List Range) → ℕ → List Range
 row_at rows number = slice_index_or rows number []
 
 -- they stand by rising first addresses
-abbrev pub AreOrdered : List (List Range) → Type 0
-AreOrdered rows = All FirstsRise rows
-
--- no last address of a row is below one before it
-abbrev pub LastsRise : List Range → Type 0
-LastsRise row =
-    (j k : ℕ) (d : Range) → j < k → k < length row
-    → (slice_index_or row j d).last ≤ (slice_index_or row k d).last
+abbrev pub AreRisingRoomRows : List (List Range) → Type 0
+AreRisingRoomRows rows = All FirstsRise rows
 
 -- one range of a row ends later
 abbrev pub IsEndedIn : List Range → List Range → Range → ℕ → Type 0

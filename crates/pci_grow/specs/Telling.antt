@@ -12,8 +12,8 @@ use Rattle.settle_spec.specs.Stands.{rank, part_space, window_part, stands}
 use Rattle.settle_spec.specs.Items.{AllPlaced, has_room_behind}
 use Rattle.settle_spec.specs.Places.{placed_of, place_among}
 use Rattle.settle_spec.specs.Reach.{reach}
-use Rattle.settle_spec.specs.Growth.{range_list, taken_around, window_comes_to, there, comes_to, takes}
-use Rattle.settle_spec.specs.Kept.{place_of}
+use Rattle.settle_spec.specs.Growth.{range_list, taken_around, window_comes_to, there, comes_to, takes_growth}
+use Rattle.settle_spec.specs.Kept.{address_of_placed}
 use Rattle.settle_laws.specs.Order.{level}
 use Rattle.settle_laws.specs.Reach.{WindowsAreLow}
 use Rattle.pci_base.specs.declared.range.Range.{Range}
@@ -23,7 +23,7 @@ use Rattle.pci_base.specs.Ranges.{decoded_range_of}
 use Rattle.pci_base.specs.WindowKinds.{kind_value, by_kind}
 use Rattle.pci_function.specs.declared.record.Bridge.{Bridge}
 use Rattle.pci_function.specs.declared.record.Record.{Record}
-use Rattle.pci_place.specs.Records.{IsRecordOf}
+use Rattle.pci_place.specs.Records.{IsRecordInSystem}
 use Rattle.pci_first_fit.specs.declared.extent.Extent.{Extent}
 use Rattle.pci_first_fit.specs.declared.lines.Line.{Line}
 use Rattle.pci_first_fit.specs.Lines.{AreLineRows, AreLines}
@@ -35,15 +35,16 @@ use Rattle.pci_first_fit.specs.Placings.{at_places}
 use Rattle.pci_kept.specs.declared.region.Region.{Region}
 use Rattle.pci_kept.specs.Boards.{IsKnown}
 use Rattle.pci_kept.specs.Known.{region_value}
-use Rattle.pci_kept.specs.Windows.{IsWhole}
+use Rattle.pci_kept.specs.Windows.{IsWholeRange}
 use Rattle.pci_kept.specs.Holding.{AreHolding}
 use Rattle.pci_grow.specs.declared.around.Around.{Around}
 use Rattle.pci_grow.specs.declared.coming.Coming.{Coming}
 use Rattle.pci_grow.specs.declared.coming.Setting.{Setting as CodeSetting}
 use Rattle.pci_first_fit.specs.PlaceTables.{ArePlaceless}
-use Rattle.pci_grow.specs.Rows.{row_number, IsInRowOrder}
+use Rattle.pci_grow.specs.Rows.{IsInRowOrder}
+use Rattle.pci_grow.specs.RoomRows.{row_number}
 use Rattle.pci_first_fit.specs.Tables.{AreUntold, told, TellsSame}
-use Rattle.pci_grow.specs.Reaches.{AreReaches}
+use Rattle.pci_grow.specs.Reaches.{AreWindowReaches}
 use Rattle.pci_grow.specs.There.{Tables, grown_told, there_told, place_told, in_row}
 
 -- ---- what is given
@@ -80,7 +81,7 @@ pub record AreStandingRows (q : Request) (s : System) (rows : List Region) : Typ
 abbrev pub HasNewAround : Request → Classing → WindowKind → List (Option Extent) → Function → Type 0
 HasNewAround q p c windows f =
     HasNewWindows q p.system c p.terms windows
-    ⊎ (HasMarkedWindows q p.system c windows × (IsWhole (reach q p.system c f) → ⊥))
+    ⊎ (HasMarkedWindows q p.system c windows × (IsWholeRange (reach q p.system c f) → ⊥))
 
 -- what is asked for of a lawful system
 pub record IsGrowing (q : Request) (p : Setting) : Type 0 where
@@ -91,7 +92,7 @@ pub record IsGrowing (q : Request) (p : Setting) : Type 0 where
   pub low : WindowsAreLow q p.classing.system
   pub left : TellsClasses p.classing q
   pub rows : AreStandingRows q p.classing.system p.rows
-  pub reaches : AreReaches q p.classing.system p.reaches
+  pub reaches : AreWindowReaches q p.classing.system p.reaches
   pub new : (class : CodeKind) (f : Function) → Contains p.classing.system f
       → IsTrue (stands q p.classing.system (window_part (kind_value class) f))
       → HasNewAround q p.classing (kind_value class) (by_kind p.windows class) f
@@ -99,10 +100,10 @@ pub record IsGrowing (q : Request) (p : Setting) : Type 0 where
 -- ---- what a window comes to
 
 -- a window of a bridge that stands, with its addresses and how far it can grow
-pub record IsWindowOf (q : Request) (s : System) (f : Function) (b : Bridge) (class : CodeKind)
+pub record IsWindowWithReach (q : Request) (s : System) (f : Function) (b : Bridge) (class : CodeKind)
     (around : Around) : Type 0 where
   pub x : Record
-  pub is : IsRecordOf s f x
+  pub is : IsRecordInSystem s f x
   pub bridge : x.bridge ≡ Some b
   pub stand : IsTrue (stands q s (window_part (kind_value class) f))
   pub window : decoded_range_of around.window ≡ addresses (window_part (kind_value class) f)
@@ -125,26 +126,26 @@ IsComing q s told c f (Some x) =
 -- ---- what is done
 
 -- the row of a part
-abbrev pub part_row : Request → FunctionPart → ℕ
-part_row q r = row_number (level q r.function.slot.bus) (part_space r)
+abbrev pub part_row_number : Request → FunctionPart → ℕ
+part_row_number q r = row_number (level q r.function.slot.bus) (part_space r)
 
 -- a part is in a row behind one, or among the first so many of that row
 abbrev pub IsDone : Request → System → List Region → ℕ → ℕ → FunctionPart → Type 0
 IsDone q s rows number count r =
-    (number < part_row q r) ⊎ Contains (map (region_value s) (take count (in_row number rows))) r
+    (number < part_row_number q r) ⊎ Contains (map (region_value s) (take count (in_row number rows))) r
 
 -- what a window that takes comes to, and nothing of other parts
 abbrev pub grown_there : Request → System → FunctionPart → Option DecodedRange
-grown_there q s r = if takes q s r then comes_to q s r else None
+grown_there q s r = if takes_growth q s r then comes_to q s r else None
 
-abbrev pub as_it_stands : Request → System → FunctionPart → Option DecodedRange
-as_it_stands q s r = if has_room_behind q s r then Some (addresses r) else None
+abbrev pub range_as_it_stands : Request → System → FunctionPart → Option DecodedRange
+range_as_it_stands q s r = if has_room_behind q s r then Some (addresses r) else None
 
 -- the place of a part around the window over it, where that takes
 abbrev pub place_there : Request → System → WindowKind → Function → FunctionPart → Option ℕ
 place_there q s c b r =
-    if takes q s (window_part c b)
-    then place_of (place_among r (placed_of (taken_around q s (there q s) c b))) else None
+    if takes_growth q s (window_part c b)
+    then address_of_placed (place_among r (placed_of (taken_around q s (there q s) c b))) else None
 
 -- a part of a class is on the bus behind a bridge
 pub record IsUnder (q : Request) (s : System) (c : WindowKind) (b : Function) (r : FunctionPart) : Type 0 where
@@ -169,7 +170,7 @@ pub record AreToldWhere (q : Request) (s : System) (done : FunctionPart → Type
   pub each : (r : FunctionPart) → Contains (system_parts q s) r → IsTrue (stands q s r) → done r
       → IsToldAs s t r (grown_there q s r) (there q s r)
   pub rest : (r : FunctionPart) → Contains (system_parts q s) r → IsTrue (stands q s r)
-      → (done r → ⊥) → IsToldAs s t r None (as_it_stands q s r)
+      → (done r → ⊥) → IsToldAs s t r None (range_as_it_stands q s r)
   pub keeps : AreKeptParts s (λ r. is_some (there_told s t r)) t.kept
   pub around : (c : WindowKind) (b : Function) (r : FunctionPart) → Contains s b
       → IsTrue (stands q s (window_part c b)) → IsUnder q s c b r → done (window_part c b)
@@ -180,7 +181,7 @@ pub record AreToldWhere (q : Request) (s : System) (done : FunctionPart → Type
 
 -- those in rows from a number on are done
 abbrev pub AreToldFrom : Request → System → ℕ → Tables → Type 0
-AreToldFrom q s number t = AreToldWhere q s (λ r. number ≤ part_row q r) t
+AreToldFrom q s number t = AreToldWhere q s (λ r. number ≤ part_row_number q r) t
 
 -- so are those in rows behind one, and the first so many of that row
 abbrev pub AreToldTo : Request → System → List Region → ℕ → ℕ → Tables → Type 0
@@ -207,7 +208,7 @@ pub record IsRowOfSome (p : Setting) (number : ℕ) (t : Tables) : Type 0 where
   pub told : AreToldFrom request p.classing.system (number + 1) t
 
 -- what a window has come to is noted, and that it is there
-pub record IsNoted (old new : Tables) (k : ℕ) (class : CodeKind) (range : Range) : Type 0 where
+pub record IsWindowNoted (old new : Tables) (k : ℕ) (class : CodeKind) (range : Range) : Type 0 where
   pub kept_size : length new.kept ≡ length old.kept
   pub grown_size : length new.grown ≡ length old.grown
   pub places_size : length new.places ≡ length old.places
@@ -232,7 +233,7 @@ there_among q s rs = flat_map (λ r. range_list (there q s (region_value s r))) 
 -- ---- from the beginning to the end
 
 -- nothing has grown
-pub record IsBegun (q : Request) (s : System) (t : Tables) : Type 0 where
+pub record IsNothingGrown (q : Request) (s : System) (t : Tables) : Type 0 where
   pub holding : AreHolding q s t.kept
   pub untold : AreUntold t.grown
   pub placeless : ArePlaceless t.places
@@ -243,7 +244,7 @@ pub record IsBegun (q : Request) (s : System) (t : Tables) : Type 0 where
 pub record IsBegunOfSome (p : Setting) (t : Tables) : Type 0 where
   pub request : Request
   pub growing : IsGrowing request p
-  pub begun : IsBegun request p.classing.system t
+  pub begun : IsNothingGrown request p.classing.system t
 
 -- tables tell all that is there
 pub record AreThere (q : Request) (s : System) (t : Tables) : Type 0 where

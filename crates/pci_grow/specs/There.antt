@@ -17,11 +17,11 @@ use Rattle.pci_first_fit.specs.declared.kept.Part.{Part as CodePart}
 use Rattle.pci_first_fit.specs.declared.kept.Part.TheVariants as parts
 use Rattle.pci_first_fit.specs.Spots.{extent_range}
 use Rattle.pci_kept.specs.declared.region.Region.{Region}
-use Rattle.pci_kept.specs.Held.{is_kept}
+use Rattle.pci_kept.specs.Held.{is_region_kept}
 use Rattle.pci_kept.specs.Tables.{index_of, stands_in}
 use Rattle.pci_first_fit.specs.declared.place.Places.{Places}
 use Rattle.pci_grow.specs.declared.there.There.{There}
-use Rattle.pci_grow.specs.Rows.{row_of}
+use Rattle.pci_grow.specs.Rows.{region_row_number}
 use Rattle.pci_first_fit.specs.PlaceTables.{placed}
 use Rattle.pci_first_fit.specs.Tables.{untold, told}
 
@@ -38,10 +38,10 @@ abbrev pub tables_of : {A : Type 0} → There A → Tables
 tables_of t = record { kept = t.kept.items; grown = t.grown.items; places = t.places.items }
 
 -- what a window has come to
-abbrev pub grown_of : List (ByKind (Option Range)) → ℕ → CodePart → Option Range
-grown_of table k (parts.Bar n) = None
-grown_of table k parts.Rom = None
-grown_of table k (parts.Window class) = told table k class
+abbrev pub grown_window_range : List (ByKind (Option Range)) → ℕ → CodePart → Option Range
+grown_window_range table k (parts.Bar n) = None
+grown_window_range table k parts.Rom = None
+grown_window_range table k (parts.Window class) = told table k class
 
 -- those addresses, or else its own where a part keeps them
 abbrev pub or_own : Option Range → Bool → Range → Option Range
@@ -50,7 +50,7 @@ or_own (Some grown) keeps own = Some grown
 
 -- the addresses with which a part is there
 abbrev pub range_told : Tables → Region → Option Range
-range_told t r = or_own (grown_of t.grown r.function r.part) (is_kept t.kept r) r.range
+range_told t r = or_own (grown_window_range t.grown r.function r.part) (is_region_kept t.kept r) r.range
 
 -- the same of parts of a class
 abbrev pub class_told : WindowKind → Tables → Region → Option Range
@@ -69,7 +69,7 @@ there_of_class c t row = flat_map (λ r. listed (class_told c t r)) row
 
 -- the parts of a row
 abbrev pub in_row : ℕ → List Region → List Region
-in_row number rows = filter (λ r. row_of r == number) rows
+in_row number rows = filter (λ r. region_row_number r == number) rows
 
 -- ---- ranges around others
 
@@ -87,10 +87,10 @@ placed_ranges (i ∷ items) [] = []
 placed_ranges (i ∷ items) (a ∷ places) = extent_range i.extent a ∷ placed_ranges items places
 
 -- the greatest last address so far
-abbrev pub later_of : Option ℕ → Option Range → Option ℕ
-later_of end None = end
-later_of None (Some r) = Some r.last
-later_of (Some e) (Some r) = Some (max e r.last)
+abbrev pub later_range_end : Option ℕ → Option Range → Option ℕ
+later_range_end end None = end
+later_range_end None (Some r) = Some r.last
+later_range_end (Some e) (Some r) = Some (max e r.last)
 
 -- whether a range begins behind an address, if there is one
 abbrev pub is_past : Option ℕ → Range → Bool

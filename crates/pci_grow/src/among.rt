@@ -10,8 +10,8 @@ ghost use Rattle.pci_base.specs.Ranges.{decoded_range_of};
 ghost use Rattle.pci_base.specs.Space.{space_of};
 ghost use Rattle.pci_first_fit.specs.Lines.{line_level};
 ghost use Rattle.pci_grow.specs.Rooms.{IsNearestBelow, IsNearestAbove};
-ghost use Rattle.pci_grow.specs.Rows.{row_of, AreApartInRows, AreBeside};
-ghost use Rattle.pci_grow.specs.OffLines.{ending_later, beginning_sooner, part_before, part_behind, pieces, row_keeps_off, row_pieces, rows_beside, HaveRanges, IsAmongAlso};
+ghost use Rattle.pci_grow.specs.Rows.{region_row_number, AreApartInRows, AreOtherRangesOfRow};
+ghost use Rattle.pci_grow.specs.OffLines.{ending_later, beginning_sooner, part_before, part_behind, pieces, line_keeps_slot_off, row_pieces, rows_beside, HaveRanges, IsAmongAlso};
 
 use crate::beside::{before, behind};
 use pci_base::range::Range;
@@ -104,7 +104,7 @@ fn is_same(space: Space, other: Space) -> bool
 fn keeps_off(told: &[ToldRange], line: &Line, region: &Region, slot: Slot) -> bool
     requires { line.now.index < length told.now }
     ensures { result
-        ≡ row_keeps_off told.now slot region.now.level (space_of region.now.space) line.now }
+        ≡ line_keeps_slot_off told.now slot region.now.level (space_of region.now.space) line.now }
 {
     let range = &told[line.index];
     line.level == region.level
@@ -198,17 +198,17 @@ impl Among {
 pub fn with_neighbours(rows: &[Region], index: usize) -> Among
     requires index { index < length rows.now }
     // those of a row follow one another
-    requires order { IsNonDecreasingBy row_of rows.now }
+    requires order { IsNonDecreasingBy region_row_number rows.now }
     ensures window { (d : Region) → result.window ≡ (slice_index_or rows.now index d).range }
     // what ends before it isn't at the end of 64 bits
     ensures apart { AreApartInRows rows.now
         → IfSome result.before (λ other. other.last < result.window.first) }
     ensures below { (beside : List DecodedRange) → AreApartInRows rows.now
-        → AreBeside rows.now index beside
+        → AreOtherRangesOfRow rows.now index beside
         → IsNearestBelow (decoded_range_of result.window) beside
         (option_map decoded_range_of result.before) }
     ensures above { (beside : List DecodedRange) → AreApartInRows rows.now
-        → AreBeside rows.now index beside
+        → AreOtherRangesOfRow rows.now index beside
         → IsNearestAbove (decoded_range_of result.window) beside
         (option_map decoded_range_of result.behind) }
 {

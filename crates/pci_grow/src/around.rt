@@ -4,7 +4,7 @@ ghost use Rattle.std.specs.Prelude.{◌≡◌, ◌<◌, ◌≤◌, ◌++◌, Non
 ghost use Rattle.std.specs.List.{All, AllWithin};
 ghost use Rattle.pci_spec.specs.Decoded.{Range as DecodedRange};
 ghost use Rattle.settle_spec.specs.FirstPlace.{first_place_in};
-ghost use Rattle.settle_spec.specs.Items.{Item as ItemValue, place_each};
+ghost use Rattle.settle_spec.specs.Items.{PlacingItem as ItemValue, place_each};
 ghost use Rattle.settle_spec.specs.Growth.{place_around};
 ghost use Rattle.pci_base.specs.Ranges.{decoded_range_of};
 ghost use Rattle.pci_first_fit.specs.Spots.{extent_value, IsExtent, FirstsRise, IsBetweenTaken, spot_place};
@@ -13,7 +13,7 @@ ghost use Rattle.pci_first_fit.specs.Placings.{placing_of};
 ghost use Rattle.pci_first_fit.specs.Turns.{HasExtent};
 ghost use Rattle.pci_grow.specs.LastPlaces.{LastsRise};
 ghost use Rattle.pci_grow.specs.Grounds.{ground_value, IsBehindItem};
-ghost use Rattle.pci_grow.specs.Arounds.{onward, backward, last_place_of, find_around, IsSearch, IsBelowLast, AreInOrder, IsPutAt, HaveExtents, HaveBehind, AreEndingAll};
+ghost use Rattle.pci_grow.specs.Arounds.{onward, backward, last_place_of, find_around, IsSearch, IsBelowLateSearch, AreRisingAtBothEnds, IsPutAt, HaveExtents, HaveBehind, AreEndingAll};
 
 use crate::ground::{Ground, can_hold, taken_for};
 use crate::last_place::{LateSpot, last_place, last_start};
@@ -94,7 +94,7 @@ impl Search {
             (map decoded_range_of taken.now) (extent_value self.old.extent) }
         ensures between { IfSome result (IsBetweenTaken taken.now self.old.extent) }
         ensures search { IsSearch around.now taken.now self.new }
-        ensures index { IfSome result (IsBelowLast taken.now self.new) }
+        ensures index { IfSome result (IsBelowLateSearch taken.now self.new) }
         ensures none { result ≡ None → self.new.first ≡ None }
     {
         let mut start = self.first?;
@@ -115,7 +115,7 @@ impl Search {
         ensures place { spot_place result ≡ last_place_of (backward around.now) taken.now self.old.extent }
         ensures between { IfSome result (IsBetweenTaken taken.now self.old.extent) }
         ensures search { IfSome result (λ _. IsSearch around.now taken.now self.new) }
-        ensures index { IfSome result (IsBelowLast taken.now self.new) }
+        ensures index { IfSome result (IsBelowLateSearch taken.now self.new) }
     {
         let range = around.backward()?;
         let from = self.last?;
@@ -153,7 +153,7 @@ fn next_spot(search: &mut Search, around: &Around, taken: &[Range]) -> Option<Sp
     ensures extent { search.new.extent ≡ search.old.extent }
     ensures search { IfSome result (λ _. IsSearch around.now taken.now search.new) }
     // so the search goes on there once the place is taken
-    ensures index { IfSome result (IsBelowLast taken.now search.new) }
+    ensures index { IfSome result (IsBelowLateSearch taken.now search.new) }
 {
     match search.first_from(around, taken) {
         Some(spot) => Some(spot),
@@ -167,14 +167,14 @@ fn take_next<A: Allocator>(
     around: &Around,
     taken: &mut Vec<Range, A>,
 ) -> Result<Option<u64>, OutOfMemory>
-    requires listed { AreInOrder taken.old.items }
+    requires listed { AreRisingAtBothEnds taken.old.items }
     requires search { IsSearch around.now taken.old.items search.old }
     ensures place { IfOk result (λ place. place
         ≡ place_around (decoded_range_of around.now.window) (decoded_range_of around.now.reach)
         (map decoded_range_of taken.old.items) (extent_value search.old.extent)) }
     ensures taken { IfOk result (λ place. IfSome place
         (IsPutAt taken.old.items taken.new.items search.old.extent)) }
-    ensures listed { AreInOrder taken.new.items }
+    ensures listed { AreRisingAtBothEnds taken.new.items }
     ensures search { IfOk result (λ place. IfSome place
         (λ _. IsSearch around.now taken.new.items search.new)) }
 {
@@ -207,7 +207,7 @@ fn take_off<A: Allocator + Copy>(
 ) -> Result<Option<u64>, OutOfMemory>
     requires rows { AreLineRows ground.now.lines.now }
     requires item { HasExtent item.now }
-    requires listed { AreInOrder taken.old.items }
+    requires listed { AreRisingAtBothEnds taken.old.items }
     ensures place { IfOk result (λ place. (held : List DecodedRange)
         → IsBehindItem (ground_value ground.now) item.now held
         → place ≡ place_around (decoded_range_of ground.now.around.window)
@@ -215,7 +215,7 @@ fn take_off<A: Allocator + Copy>(
         (extent_value item.now.extent)) }
     ensures taken { IfOk result (λ place. IfSome place
         (IsPutAt taken.old.items taken.new.items item.now.extent)) }
-    ensures listed { AreInOrder taken.new.items }
+    ensures listed { AreRisingAtBothEnds taken.new.items }
 {
     let all = taken_for(alloc, ground, taken.as_slice(), item)?;
     let mut search = Search::begin(&ground.around, item.extent);
@@ -239,7 +239,7 @@ fn take_one<A: Allocator + Copy>(
 ) -> Result<Option<u64>, OutOfMemory>
     requires rows { AreLineRows ground.now.lines.now }
     requires item { HasExtent item.now }
-    requires listed { AreInOrder taken.old.items }
+    requires listed { AreRisingAtBothEnds taken.old.items }
     requires search { IfSome last.old (IsSearch ground.now.around taken.old.items) }
     ensures place { IfOk result (λ place. (held : List DecodedRange)
         → IsBehindItem (ground_value ground.now) item.now held
@@ -248,7 +248,7 @@ fn take_one<A: Allocator + Copy>(
         (extent_value item.now.extent)) }
     ensures taken { IfOk result (λ place. IfSome place
         (IsPutAt taken.old.items taken.new.items item.now.extent)) }
-    ensures listed { AreInOrder taken.new.items }
+    ensures listed { AreRisingAtBothEnds taken.new.items }
     ensures search { IfOk result (λ place. IfSome place
         (λ _. IfSome last.new (IsSearch ground.now.around taken.new.items))) }
 {
@@ -276,7 +276,7 @@ pub fn places_around<A: Allocator + Copy>(
     // without an address it has no last one, and of 0 there is no multiple
     requires items { All HasExtent items.now }
     // what is free lies between two that follow one another
-    requires listed { AreInOrder taken.old.items }
+    requires listed { AreRisingAtBothEnds taken.old.items }
     // an item's place stands at its index
     requires count { length places.old ≡ length items.now }
     ensures placing { IfOk result (λ lack. (values : List ItemValue) → (behind : ItemValue → List DecodedRange)

@@ -3,8 +3,9 @@ ghost use Rattle.std.specs.Prelude.{◌≡◌, ◌<◌, ◌≤◌, ℕ, IfOk, If
 ghost use Rattle.std.specs.List.{AllPairs, AllWithin, filter};
 ghost use Rattle.std.specs.List.Sorted.{IsPermutation, IsNonDecreasingBy};
 ghost use Rattle.pci_base.specs.Space.{space_of};
-ghost use Rattle.pci_kept.specs.Held.{is_kept};
-ghost use Rattle.pci_grow.specs.Rows.{row_number, row_of, IsLower, IsInRowOrder, AreRows, IsBefore, IsBehind, AreAllInLowerRows, AreAllInHigherRows};
+ghost use Rattle.pci_kept.specs.Held.{is_region_kept};
+ghost use Rattle.pci_grow.specs.Rows.{region_row_number, IsLower, IsInRowOrder, AreRowsOfStanding, IsRangeBeforeInRow, IsRangeBehindInRow, AreAllInLowerRows, AreAllInHigherRows};
+ghost use Rattle.pci_grow.specs.RoomRows.{row_number};
 
 use pci_base::memory::OutOfMemory;
 use pci_base::range::Range;
@@ -39,7 +40,7 @@ pub fn row(level: u16, space: Space) -> u32
 
 /// The row of a part.
 pub fn row_of(region: &Region) -> u32
-    ensures { result ≡ row_of region.now }
+    ensures { result ≡ region_row_number region.now }
 {
     row(region.level, region.space)
 }
@@ -50,7 +51,7 @@ fn sort_by_row<A: Allocator + Copy>(regions: &mut Vec<Region, A>) -> Result<(), 
     ensures sorted { OnOk result ((number : Region → ℕ) → AllPairs (IsLower number) regions.old.items
         → AllPairs (IsInRowOrder number) regions.new.items) }
     // so rows are found by halves
-    ensures rows { OnOk result (IsNonDecreasingBy row_of regions.new.items) }
+    ensures rows { OnOk result (IsNonDecreasingBy region_row_number regions.new.items) }
 {
     match regions.sort_by_key(|region| row_of(region)) {
         Ok(()) => Ok(()),
@@ -64,7 +65,7 @@ fn standing_parts<A: Allocator>(
     regions: &[Region],
     standing: &[Kept],
 ) -> Result<Vec<Region, A>, OutOfMemory>
-    ensures { IfOk result (λ parts. parts.items ≡ filter (is_kept standing.now) regions.now) }
+    ensures { IfOk result (λ parts. parts.items ≡ filter (is_region_kept standing.now) regions.now) }
 {
     let mut parts = Vec::new(alloc);
     for region in regions {
@@ -81,9 +82,9 @@ pub fn standing_in_rows<A: Allocator + Copy>(
     regions: &[Region],
     standing: &[Kept],
 ) -> Result<Vec<Region, A>, OutOfMemory>
-    ensures rows { IfOk result (λ rows. AreRows regions.now standing.now rows.items) }
+    ensures rows { IfOk result (λ rows. AreRowsOfStanding regions.now standing.now rows.items) }
     // so rows are found by halves
-    ensures order { IfOk result (λ rows. IsNonDecreasingBy row_of rows.items) }
+    ensures order { IfOk result (λ rows. IsNonDecreasingBy region_row_number rows.items) }
 {
     let mut rows = standing_parts(alloc, regions, standing)?;
     sort_by_address(&mut rows)?;
@@ -93,10 +94,10 @@ pub fn standing_in_rows<A: Allocator + Copy>(
 
 /// The index of the first part of a row or a later one.
 pub fn first_from(rows: &[Region], row: u32) -> usize
-    requires { IsNonDecreasingBy row_of rows.now }
+    requires { IsNonDecreasingBy region_row_number rows.now }
     ensures bound { result ≤ length rows.now }
-    ensures before { AllWithin (λ r. row_of r < row) rows.now 0 result }
-    ensures after { AllWithin (λ r. row ≤ row_of r) rows.now result (length rows.now) }
+    ensures before { AllWithin (λ r. region_row_number r < row) rows.now 0 result }
+    ensures after { AllWithin (λ r. row ≤ region_row_number r) rows.now result (length rows.now) }
 {
     rows.partition_point(|region| row_of(region) < row)
 }
@@ -105,8 +106,8 @@ pub fn first_from(rows: &[Region], row: u32) -> usize
 pub fn before(rows: &[Region], index: usize) -> Option<Range>
     requires index { index < length rows.now }
     // those of a row follow one another
-    requires order { IsNonDecreasingBy row_of rows.now }
-    ensures some { IfSome result (IsBefore rows.now index) }
+    requires order { IsNonDecreasingBy region_row_number rows.now }
+    ensures some { IfSome result (IsRangeBeforeInRow rows.now index) }
     ensures none { IfNone result (AreAllInLowerRows rows.now index) }
 {
     if index == 0 {
@@ -124,8 +125,8 @@ pub fn before(rows: &[Region], index: usize) -> Option<Range>
 pub fn behind(rows: &[Region], index: usize) -> Option<Range>
     requires index { index < length rows.now }
     // those of a row follow one another
-    requires order { IsNonDecreasingBy row_of rows.now }
-    ensures some { IfSome result (IsBehind rows.now index) }
+    requires order { IsNonDecreasingBy region_row_number rows.now }
+    ensures some { IfSome result (IsRangeBehindInRow rows.now index) }
     ensures none { IfNone result (AreAllInHigherRows rows.now index) }
 {
     if index + 1 >= rows.len() {

@@ -3,7 +3,7 @@ ghost use Rattle.std.specs.Prelude.{◌≡◌, ◌<◌, length, false, slice_ind
 ghost use Rattle.pci_spec.specs.System.{System};
 ghost use Rattle.settle_spec.specs.Lists.{Request};
 ghost use Rattle.pci_tree.specs.Ways.{IsBridgeToBus};
-ghost use Rattle.pci_grow.specs.Board.{IsAsked, bridge_of, class_of, HasFacts, IsOver};
+ghost use Rattle.pci_grow.specs.Board.{IsAsked, bridge_of_window, window_class, HasFacts, IsBridgeIndexOver};
 
 use pci_base::slot::BUSES;
 use pci_base::window_kind::WindowKind;
@@ -70,7 +70,7 @@ impl Board<'_> {
         // a window's bridge is one of the functions
         requires { window.bridge < length self.now.records.now }
         ensures { (q : Request) → (s : System) → IsAsked q s self.now
-            → HasFacts q (class_of window) (bridge_of s window) result }
+            → HasFacts q (window_class window) (bridge_of_window s window) result }
     {
         let record = &self.records[window.bridge];
         match &record.bridge {
@@ -87,7 +87,7 @@ impl Board<'_> {
 
     /// The index of the bridge over a bus; None where none leads there.
     pub fn bridge_over(&self, bus: u8) -> Option<usize>
-        ensures over { (q : Request) → (s : System) → IsAsked q s self.now → IsOver s bus result }
+        ensures over { (q : Request) → (s : System) → IsAsked q s self.now → IsBridgeIndexOver s bus result }
         // so it has a record
         ensures within { IsBridgeToBus self.now.records.now self.now.over.now
             → IfSome result (λ k. k < length self.now.records.now) }

@@ -2,8 +2,7 @@
 ghost use Rattle.std.specs.Prelude.{◌≡◌, ℕ, ◌+◌, ◌++◌, ◌<◌, true, IfOk, IfSome, IfNone, length, map, slice_index_or};
 ghost use Rattle.std.specs.List.{All};
 ghost use Rattle.std.specs.List.Sorted.{IsNonDecreasingBy};
-ghost use Rattle.pci_spec.specs.System.{System, IsSystem, Function, Part, window_space};
-ghost use Rattle.pci_spec.specs.System.{Window as WindowPart};
+ghost use Rattle.pci_spec.specs.System.{System, IsSystem, Function, Part, window_space, Window as WindowPart};
 ghost use Rattle.settle_spec.specs.Lines.{lines_on};
 ghost use Rattle.settle_spec.specs.Lists.{Request};
 ghost use Rattle.pci_base.specs.Ranges.{decoded_range_of};
@@ -16,13 +15,14 @@ ghost use Rattle.pci_first_fit.specs.Own.{asked_item_value};
 ghost use Rattle.pci_first_fit.specs.Placings.{at_places};
 ghost use Rattle.pci_first_fit.specs.Turns.{HasExtent};
 ghost use Rattle.pci_kept.specs.Windows.{AreAllLawful};
-ghost use Rattle.pci_grow.specs.Arounds.{AreInOrder, ArePlacesAround, HaveNoPlaces};
+ghost use Rattle.pci_grow.specs.Arounds.{AreRisingAtBothEnds, ArePlacesAround, HaveNoPlaces};
 ghost use Rattle.pci_grow.specs.Grounds.{ground_value, AreAlike};
 ghost use Rattle.pci_first_fit.specs.PlaceTables.{IsItemPart};
 ghost use Rattle.pci_grow.specs.Putting.{ArePutOver, HasItemPart};
-ghost use Rattle.pci_grow.specs.Rows.{row_number, row_of};
+ghost use Rattle.pci_grow.specs.Rows.{region_row_number};
+ghost use Rattle.pci_grow.specs.RoomRows.{row_number};
 ghost use Rattle.pci_grow.specs.There.{tables_of, there_told, there_of, in_row};
-ghost use Rattle.pci_grow.specs.Telling.{setting_value, IsGrowing, IsWindowOf, IsThereTold, IsComing, IsNoted};
+ghost use Rattle.pci_grow.specs.Telling.{setting_value, IsGrowing, IsWindowWithReach, IsThereTold, IsComing, IsWindowNoted};
 
 use crate::around::{Around, places_around};
 use crate::beside::row;
@@ -73,7 +73,7 @@ pub struct Coming<A: Allocator> {
 /// The parts that stand on a bus that is no root, in the space of a class.
 fn on_bus(rows: &[Region], bus: u8, class: WindowKind) -> &[Region]
     // rows are found by halves
-    requires order { IsNonDecreasingBy row_of rows.now }
+    requires order { IsNonDecreasingBy region_row_number rows.now }
     ensures { result.now
         ≡ in_row (row_number (bus + 1) (window_space (kind_value class))) rows.now }
 {
@@ -117,11 +117,11 @@ fn taken_behind<A: Allocator + Copy, B: Allocator>(
     class: WindowKind,
 ) -> Result<Vec<Range, A>, OutOfMemory>
     // rows are found by halves
-    requires order { IsNonDecreasingBy row_of setting.now.rows.now }
+    requires order { IsNonDecreasingBy region_row_number setting.now.rows.now }
     requires rows { AreLineRows setting.now.lines.now }
-    requires listed { AreInOrder (there_of (tables_of there.now)
+    requires listed { AreRisingAtBothEnds (there_of (tables_of there.now)
         (in_row (row_number (bus + 1) (window_space (kind_value class))) setting.now.rows.now)) }
-    ensures order { IfOk result (λ taken. AreInOrder taken.items) }
+    ensures order { IfOk result (λ taken. AreRisingAtBothEnds taken.items) }
     ensures taken { IfOk result (λ taken. (q : Request) → (n : ℕ)
         → AreLines q.roots q.told.ranges setting.now.lines.now → level_of q.roots n ≡ bus + 1
         → AreAlike (map decoded_range_of taken.items) (lines_on q (window_space (kind_value class)) n
@@ -151,7 +151,7 @@ fn places_of<A: Allocator + Copy>(
     requires items { All HasExtent items.now }
     requires rows { AreLineRows ground.now.lines.now }
     // what is free lies between two that follow one another
-    requires listed { AreInOrder taken.items }
+    requires listed { AreRisingAtBothEnds taken.items }
     ensures some { IfOk result (λ places. IfSome places (λ table. ArePlacesAround ground.now.around
         (ground_value ground.now) taken.items items.now table.items)) }
     ensures none { IfOk result (λ places. IfNone places (HaveNoPlaces ground.now.around
@@ -180,14 +180,14 @@ pub fn comes_to<A: Allocator + Copy, B: Allocator>(
     // places are looked for by sizes and alignments
     requires lawful { AreAllLawful setting.now.windows.now }
     // rows are found by halves
-    requires order { IsNonDecreasingBy row_of setting.now.rows.now }
+    requires order { IsNonDecreasingBy region_row_number setting.now.rows.now }
     requires rows { AreLineRows setting.now.lines.now }
     // what is free lies between two that follow one another
-    requires listed { AreInOrder (there_of (tables_of there.now)
+    requires listed { AreRisingAtBothEnds (there_of (tables_of there.now)
         (in_row (row_number (bridge.now.secondary + 1) (window_space (kind_value class))) setting.now.rows.now)) }
     ensures comes { IfOk result (λ coming. (q : Request) → (f : Function)
         → IsGrowing q (setting_value setting.now)
-        → IsWindowOf q (system_in setting.now.classing.now.admitted.now) f bridge.now class around.now
+        → IsWindowWithReach q (system_in setting.now.classing.now.admitted.now) f bridge.now class around.now
         → IsThereTold q (system_in setting.now.classing.now.admitted.now) (tables_of there.now)
         → IsComing q (system_in setting.now.classing.now.admitted.now)
         (there_told (system_in setting.now.classing.now.admitted.now) (tables_of there.now))
@@ -248,7 +248,7 @@ pub fn note_coming<A: Allocator>(
     requires parts { All (λ i. IsItemPart i.part) coming.now.items.items }
     // an item's place stands at its index
     requires count { length coming.now.places.items ≡ length coming.now.items.items }
-    ensures noted { IsNoted (tables_of there.old) (tables_of there.new) function class coming.now.range }
+    ensures noted { IsWindowNoted (tables_of there.old) (tables_of there.new) function class coming.now.range }
     ensures placed { (s : System) → IsSystem s → length s ≡ length there.old.places.items
         → All (HasItemPart s (kind_value class)) coming.now.items.items
         → ArePutOver s (at_places (map (asked_item_value s (kind_value class)) coming.now.items.items) coming.now.places.items)

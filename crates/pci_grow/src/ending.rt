@@ -10,11 +10,11 @@ ghost use Rattle.pci_base.specs.Ranges.{decoded_range_of};
 ghost use Rattle.pci_base.specs.WindowKinds.{kind_value};
 ghost use Rattle.pci_tree.specs.Roots.{buses_of};
 ghost use Rattle.pci_tree.specs.Ways.{IsBridgeToBus};
-ghost use Rattle.pci_grow.specs.RoomRows.{level, row_number, row_at};
-ghost use Rattle.pci_grow.specs.Board.{room_value, IsAsked, IsWindow, AreFacts, bridge_of, class_of, AreRising, IsRoom, IsTold};
+ghost use Rattle.pci_grow.specs.RoomRows.{bus_level, row_number, row_at};
+ghost use Rattle.pci_grow.specs.Board.{room_value, IsAsked, IsWindow, AreFacts, bridge_of_window, window_class, AreRising, IsRoom, IsRoomOfKept};
 ghost use Rattle.pci_first_fit.specs.Lines.{AreLineRows};
 ghost use Rattle.pci_first_fit.specs.Spots.{FirstsRise};
-ghost use Rattle.pci_grow.specs.Endings.{IsEndedAs, IsAround, IsAroundIn};
+ghost use Rattle.pci_grow.specs.Endings.{IsEndedAs, IsAroundWindow, IsAroundIn};
 
 use crate::board::{Board, BridgeWindow, Facts};
 use crate::half::end_over;
@@ -40,7 +40,7 @@ pub enum Around {
 
 /// The row of the windows of a class on a bus.
 pub fn window_row(board: &Board, bus: u8, class: WindowKind) -> usize
-    ensures row { result ≡ row_number (level (buses_of board.now.roots.now) bus) (window_space (kind_value class)) }
+    ensures row { result ≡ row_number (bus_level (buses_of board.now.roots.now) bus) (window_space (kind_value class)) }
     ensures small { result < 514 }
 {
     row(board.roots, bus, Space::of(class))
@@ -71,7 +71,7 @@ fn gains_no_line(board: &Board, window: BridgeWindow, range: Range, last: u64) -
     requires window { window.bridge < length board.now.records.now }
     requires later { range.last < last }
     ensures { (q : Request) → (s : System) → IsAsked q s board.now → IsWindow s window
-        → result ≡ is_off_lines q s (class_of window) (bridge_of s window) (gained (decoded_range_of range) last) }
+        → result ≡ is_off_lines q s (window_class window) (bridge_of_window s window) (gained (decoded_range_of range) last) }
 {
     let slot = board.records[window.bridge].slot;
     let level = level(board.roots, slot.bus());
@@ -91,8 +91,8 @@ fn what_is_around(board: &Board, facts: &Facts, class: WindowKind, window: Range
     requires over { IsBridgeToBus board.now.records.now board.now.over.now }
     ensures within { IsAroundIn (length board.now.records.now) result }
     ensures around { (q : Request) → (s : System) → IsAsked q s board.now → (w : BridgeWindow) → w.class ≡ class
-        → IsWindow s w → AreFacts q (class_of w) (bridge_of s w) facts.now
-        → IsAround q s w (decoded_range_of window) result }
+        → IsWindow s w → AreFacts q (window_class w) (bridge_of_window s w) facts.now
+        → IsAroundWindow q s w (decoded_range_of window) result }
 {
     if is_root(board.roots, facts.bus) {
         if board.lists.hold(facts.bus, Space::of(class), window) {
@@ -125,9 +125,9 @@ pub fn end_by<A: Allocator>(
     requires room { IsRoom (length board.now.records.now) (room_value room.old) }
     requires window { window.bridge < length board.now.records.now }
     ensures room { IsRoom (length board.now.records.now) (room_value room.new) }
-    ensures ended { (q : Request) → (s : System) → (k : Kept) → IsTold q s k board.now (room_value room.old)
+    ensures ended { (q : Request) → (s : System) → (k : Kept) → IsRoomOfKept q s k board.now (room_value room.old)
         → IsWindow s window
-        → IsEndedAs q s board.now (ending_within q s (class_of window) depth (bridge_of s window) last k)
+        → IsEndedAs q s board.now (ending_within q s (window_class window) depth (bridge_of_window s window) last k)
         result (room_value room.old) (room_value room.new) }
 {
     if depth == 0 {

@@ -6,8 +6,9 @@ ghost use Rattle.pci_spec.specs.System.{System};
 ghost use Rattle.settle_spec.specs.Lists.{Request};
 ghost use Rattle.settle_spec.specs.Kept.{Kept};
 ghost use Rattle.pci_tree.specs.Roots.{buses_of};
-ghost use Rattle.pci_grow.specs.Board.{room_value, IsAsked, IsRoom, IsTold};
-ghost use Rattle.pci_grow.specs.RoomRows.{total, row_at, LastsRise};
+ghost use Rattle.pci_grow.specs.Board.{room_value, IsAsked, IsRoom, IsRoomOfKept};
+ghost use Rattle.pci_grow.specs.RoomRows.{total, row_at};
+ghost use Rattle.pci_grow.specs.LastPlaces.{LastsRise};
 ghost use Rattle.pci_grow.specs.Located.{located_total, window_weight, function_weight, windows_total, ArePut, IsPushed, AreSorted, AreOwn, AreWindowsThen};
 
 use crate::board::{Board, BridgeWindow};
@@ -164,7 +165,7 @@ pub fn room_of<A: Allocator + Copy>(
     // so wishes can be granted there
     ensures told { IfOk result (λ room. (q : Request) → (s : System) → (k : Kept) → IsAsked q s board.now
         → AreWindowsThen q s k board.now.windows.now → AreOwn q s k own.now
-        → IsTold q s k board.now (room_value room)) }
+        → IsRoomOfKept q s k board.now (room_value room)) }
 {
     let windows = windows_of(alloc, board)?;
     let mut rows = no_rows(alloc)?;

@@ -7,9 +7,9 @@ ghost use Rattle.pci_place.specs.Above.{AreAboves, system_in};
 ghost use Rattle.pci_place.specs.Items.{function_in};
 ghost use Rattle.pci_first_fit.specs.declared.kept.Part.TheVariants.{Window};
 ghost use Rattle.pci_kept.specs.Windows.{AreAllLawful};
-ghost use Rattle.pci_grow.specs.Rows.{row_of};
+ghost use Rattle.pci_grow.specs.Rows.{region_row_number};
 ghost use Rattle.pci_grow.specs.There.{tables_of, in_row, there_told};
-ghost use Rattle.pci_grow.specs.Telling.{setting_value, IsGrowing, IsComing, IsNext, IsNextOfSome, IsRowOfSome, IsBegunOfSome, IsLatest, there_among, AreToldTo, AreToldFrom, IsBegun, AreThere};
+ghost use Rattle.pci_grow.specs.Telling.{setting_value, IsGrowing, IsComing, IsNext, IsNextOfSome, IsRowOfSome, IsBegunOfSome, IsLatest, there_among, AreToldTo, AreToldFrom, IsNothingGrown, AreThere};
 
 use crate::around::Around;
 use crate::coming::{Coming, Setting, comes_to, note_coming};
@@ -33,7 +33,7 @@ fn coming_of<A: Allocator + Copy, B: Allocator>(
     requires above { AreAboves (system_in setting.now.classing.now.admitted.now)
         setting.now.classing.now.aboves.now }
     requires lawful { AreAllLawful setting.now.windows.now }
-    requires order { IsNonDecreasingBy row_of setting.now.rows.now }
+    requires order { IsNonDecreasingBy region_row_number setting.now.rows.now }
     requires function { region.now.function < length (system_in setting.now.classing.now.admitted.now) }
     requires window { region.now.part ≡ Window class }
     // what is there behind it is told, and lies in order
@@ -74,7 +74,7 @@ fn take<A: Allocator + Copy, B: Allocator>(
     requires above { AreAboves (system_in setting.now.classing.now.admitted.now)
         setting.now.classing.now.aboves.now }
     requires lawful { AreAllLawful setting.now.windows.now }
-    requires order { IsNonDecreasingBy row_of setting.now.rows.now }
+    requires order { IsNonDecreasingBy region_row_number setting.now.rows.now }
     requires function { region.now.function < length (system_in setting.now.classing.now.admitted.now) }
     requires window { region.now.part ≡ Window class }
     requires next { IsNextOfSome (setting_value setting.now) (tables_of there.old) region.now }
@@ -106,7 +106,7 @@ fn note_one<A: Allocator + Copy, B: Allocator>(
     requires above { AreAboves (system_in setting.now.classing.now.admitted.now)
         setting.now.classing.now.aboves.now }
     requires lawful { AreAllLawful setting.now.windows.now }
-    requires order { IsNonDecreasingBy row_of setting.now.rows.now }
+    requires order { IsNonDecreasingBy region_row_number setting.now.rows.now }
     requires function { region.now.function < length (system_in setting.now.classing.now.admitted.now) }
     requires next { IsNextOfSome (setting_value setting.now) (tables_of there.old) region.now }
     ensures { OnOk result ((q : Request) → (number count : ℕ)
@@ -132,7 +132,7 @@ fn find_in_row<A: Allocator + Copy, B: Allocator>(
     requires above { AreAboves (system_in setting.now.classing.now.admitted.now)
         setting.now.classing.now.aboves.now }
     requires lawful { AreAllLawful setting.now.windows.now }
-    requires order { IsNonDecreasingBy row_of setting.now.rows.now }
+    requires order { IsNonDecreasingBy region_row_number setting.now.rows.now }
     // another row is behind it
     requires number { number + 1 < 2 ^ 32 }
     // what is there in the rows behind it is told
@@ -166,11 +166,11 @@ pub fn find_there<A: Allocator + Copy, B: Allocator>(
     // places are looked for by sizes and alignments
     requires lawful { AreAllLawful setting.now.windows.now }
     // rows are found by halves
-    requires order { IsNonDecreasingBy row_of setting.now.rows.now }
+    requires order { IsNonDecreasingBy region_row_number setting.now.rows.now }
     // in a lawful system what is there lies in order, as looking for places asks
     requires begun { IsBegunOfSome (setting_value setting.now) (tables_of there.old) }
     ensures { OnOk result ((q : Request) → IsGrowing q (setting_value setting.now)
-        → IsBegun q (system_in setting.now.classing.now.admitted.now) (tables_of there.old)
+        → IsNothingGrown q (system_in setting.now.classing.now.admitted.now) (tables_of there.old)
         → AreThere q (system_in setting.now.classing.now.admitted.now) (tables_of there.new)) }
 {
     for done in 0..ROWS {

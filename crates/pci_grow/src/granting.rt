@@ -10,7 +10,7 @@ ghost use Rattle.settle_spec.specs.Wishes.{Granted, with_spare_of, with_spares_o
 ghost use Rattle.pci_place.specs.Items.{function_in};
 ghost use Rattle.pci_first_fit.specs.Lines.{AreLineRows};
 ghost use Rattle.pci_tree.specs.Ways.{IsBridgeToBus};
-ghost use Rattle.pci_grow.specs.Board.{room_value, class_of, bridge_of, IsRoom, IsTold};
+ghost use Rattle.pci_grow.specs.Board.{room_value, window_class, bridge_of_window, IsRoom, IsRoomOfKept};
 ghost use Rattle.pci_grow.specs.Granting.{spare_in, AreExtents, AreSpares, AreGranted, SparesAreTold};
 
 use crate::board::{Board, BridgeWindow, flag_of};
@@ -63,8 +63,8 @@ fn grant_window<A: Allocator + Copy>(
         → (spare : KindValue → Function → Option ExtentValue) → (g : Granted)
         → AreSpares s wanted.now.slots.now wanted.now.spares.now spare
         → AreGranted q s board.now g (room_value room.old) denied.old.items
-        → AreGranted q s board.now (with_spare_of q s (class_of window) (bridge_of s window)
-        (spare (class_of window) (bridge_of s window)) g) (room_value room.new) denied.new.items) }
+        → AreGranted q s board.now (with_spare_of q s (window_class window) (bridge_of_window s window)
+        (spare (window_class window) (bridge_of_window s window)) g) (room_value room.new) denied.new.items) }
 {
     let Some(spare) = wanted.spare(window) else {
         return Ok(());
@@ -144,7 +144,7 @@ pub fn grant<A: Allocator + Copy>(
     ensures granted { IfOk result (λ denied. (q : Request) → (s : System)
         → (spare : KindValue → Function → Option ExtentValue) → (k : Kept)
         → AreSpares s wanted.now.slots.now wanted.now.spares.now spare
-        → IsTold q s k board.now (room_value room.old)
+        → IsRoomOfKept q s k board.now (room_value room.old)
         → AreGranted q s board.now (granted q s spare k) (room_value room.new) denied.items) }
 {
     let mut denied = Vec::new(alloc);

@@ -4,7 +4,7 @@ ghost use Rattle.std.specs.List.{Contains};
 ghost use Rattle.pci_spec.specs.Decoded.{Range as DecodedRange};
 ghost use Rattle.pci_base.specs.Ranges.{decoded_range_of};
 ghost use Rattle.pci_first_fit.specs.Lines.{AreForwardRanges, AreLineRows, AreAdded};
-ghost use Rattle.pci_grow.specs.Arounds.{AreInOrder};
+ghost use Rattle.pci_grow.specs.Arounds.{AreRisingAtBothEnds};
 ghost use Rattle.pci_grow.specs.Grounds.{ground_value, is_new_window, IsBehindItem, AreAlike};
 ghost use Rattle.pci_grow.specs.Widest.{LiesInOne};
 
@@ -102,8 +102,8 @@ pub fn taken_for<A: Allocator + Copy>(
 ) -> Result<Vec<Range, A>, OutOfMemory>
     // those of a level are found by halving
     requires rows { AreLineRows ground.now.lines.now }
-    requires listed { AreInOrder taken.now }
-    ensures order { IfOk result (λ all. AreInOrder all.items) }
+    requires listed { AreRisingAtBothEnds taken.now }
+    ensures order { IfOk result (λ all. AreRisingAtBothEnds all.items) }
     // it is off what is taken
     ensures taken { IfOk result (λ all. (r : Range) → Contains taken.now r → LiesInOne all.items r) }
     ensures same { IfOk result (λ all. (held : List DecodedRange)

@@ -5,7 +5,7 @@ ghost use Rattle.pci_spec.specs.Bus.{IsNested};
 ghost use Rattle.pci_spec.specs.Sound.{IsInProfile};
 ghost use Rattle.pci_spec.specs.System.{System, IsSystem};
 ghost use Rattle.settle_spec.specs.Lists.{Request};
-ghost use Rattle.settle_spec.specs.Growth.{takes, has_grown};
+ghost use Rattle.settle_spec.specs.Growth.{takes_growth, has_grown};
 ghost use Rattle.settle_spec.specs.Kept.{is_kept, growing as growing_kept};
 ghost use Rattle.pci_tree.specs.Ways.{IsBridgeToBus};
 ghost use Rattle.pci_place.specs.Above.{AreAboves, system_in};
@@ -14,7 +14,7 @@ ghost use Rattle.pci_first_fit.specs.Keeping.{TellsKept};
 ghost use Rattle.pci_first_fit.specs.Lists.{lists_value};
 ghost use Rattle.pci_first_fit.specs.Slots.{demand_value};
 ghost use Rattle.pci_kept.specs.Boards.{IsBoard};
-ghost use Rattle.pci_kept.specs.Known.{asked_by, AreParts};
+ghost use Rattle.pci_kept.specs.Known.{asked_by_rules, AreParts};
 ghost use Rattle.pci_kept.specs.Passing.{CanBeNoted};
 ghost use Rattle.pci_kept.specs.Holding.{AreHolding};
 ghost use Rattle.pci_kept.specs.Staying.{AreStayingBy};
@@ -96,11 +96,11 @@ fn stay_grown<A: Allocator>(
     requires ready { All (CanBeNoted (length board.now.records.now)) board.now.regions.now }
     ensures stays { OnOk result ((q : Request) → (s : System)
         → IsBoard q s board.now.records.now (lists_value lists.now)
-        → AreParts q s board.now.regions.now → AreHolding q s table.old → AreComing q s (takes q s) coming.old
+        → AreParts q s board.now.regions.now → AreHolding q s table.old → AreComing q s (takes_growth q s) coming.old
         → AreStayingBy q s (is_kept q s) table.new) }
     ensures grown { OnOk result ((q : Request) → (s : System)
         → IsBoard q s board.now.records.now (lists_value lists.now)
-        → AreParts q s board.now.regions.now → AreComing q s (takes q s) coming.old
+        → AreParts q s board.now.regions.now → AreComing q s (takes_growth q s) coming.old
         → AreComing q s (has_grown q s) coming.new) }
 {
     let mut marks = marks(alloc, coming)?;
@@ -187,10 +187,10 @@ pub fn growing<A: Allocator + Copy, B: Allocator>(
     rules: &Rules,
 ) -> Result<Grown<A>, Refused<TooLarge>>
     ensures grown { IfOk result (λ grown. AreGrown
-        (asked_by admitted.now.roots (demand_value lists.now) rules.now) (system_in admitted.now)
+        (asked_by_rules admitted.now.roots (demand_value lists.now) rules.now) (system_in admitted.now)
         (grown_value grown)) }
     ensures fault { IfErr result (IsTooLargeAround
-        (asked_by admitted.now.roots (demand_value lists.now) rules.now) (system_in admitted.now)) }
+        (asked_by_rules admitted.now.roots (demand_value lists.now) rules.now) (system_in admitted.now)) }
 {
     let aboves = aboves(admitted);
     let opened = open_windows(admitted.outline().records(), rules.anew);

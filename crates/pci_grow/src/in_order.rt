@@ -2,7 +2,7 @@
 ghost use Rattle.std.specs.Prelude.{◌≡◌, IfOk};
 ghost use Rattle.std.specs.List.{Contains};
 ghost use Rattle.pci_first_fit.specs.Lines.{AreForwardRanges};
-ghost use Rattle.pci_grow.specs.Arounds.{AreInOrder};
+ghost use Rattle.pci_grow.specs.Arounds.{AreRisingAtBothEnds};
 ghost use Rattle.pci_grow.specs.Widest.{is_beyond, KeptBy, LiesInOne};
 
 use pci_base::memory::OutOfMemory;
@@ -42,7 +42,7 @@ pub fn in_order<A: Allocator + Copy>(
 ) -> Result<Vec<Range, A>, OutOfMemory>
     // places are looked for between ranges with addresses
     requires { AreForwardRanges ranges.items }
-    ensures order { IfOk result (λ kept. AreInOrder kept.items) }
+    ensures order { IfOk result (λ kept. AreRisingAtBothEnds kept.items) }
     ensures only { IfOk result (λ kept. (r : Range) → Contains kept.items r → Contains ranges.items r) }
     // so the same addresses are in them
     ensures all { IfOk result (λ kept. (r : Range) → Contains ranges.items r → LiesInOne kept.items r) }

@@ -15,12 +15,12 @@ ghost use Rattle.pci_grow.specs.Rooms.{first_behind};
 ghost use Rattle.pci_first_fit.specs.Tables.{told};
 ghost use Rattle.pci_tree.specs.Ways.{IsBridgeToBus};
 ghost use Rattle.pci_place.specs.Items.{function_in};
-ghost use Rattle.pci_place.specs.Records.{IsRecordOf};
+ghost use Rattle.pci_place.specs.Records.{IsRecordInSystem};
 ghost use Rattle.pci_first_fit.specs.Lists.{lists_value};
 ghost use Rattle.pci_first_fit.specs.declared.kept.Part.TheVariants.{Window};
 ghost use Rattle.pci_kept.specs.declared.region.Region.{Region as CodeRegion};
 ghost use Rattle.pci_kept.specs.Boards.{IsBoard, IsKnown};
-ghost use Rattle.pci_grow.specs.Reaches.{IsAmong, given_value, AreToldOver, StandsInRows, IsToldAbove, AreFirstReaches, TellsSameOutside, AreReaches};
+ghost use Rattle.pci_grow.specs.Reaches.{IsWindowAmong, given_value, AreToldOver, StandsInRows, IsToldAbove, AreFirstReaches, TellsSameOutside, AreWindowReaches};
 
 use crate::among::{Among, with_neighbours};
 use crate::halves::{cut_to_halves, whole_pages};
@@ -59,7 +59,7 @@ pub fn reach_in(class: WindowKind, among: &Among, highest: u64, room: Range) -> 
         (first_behind room.first (option_map decoded_range_of among.now.before))
         ≤ among.now.window.first }
     ensures { (q : Request) → (s : System) → (b : Function)
-        → IsAmong q s (kind_value class) b highest among.now
+        → IsWindowAmong q s (kind_value class) b highest among.now
         → decoded_range_of result ≡ reach_in q s (kind_value class) b (decoded_range_of room) }
 {
     let low = no_higher(highest, room);
@@ -105,7 +105,7 @@ fn room_around(
 
 /// The highest address that the window of a class of a bridge can hold.
 fn highest_of(function: &Record, class: WindowKind) -> u64
-    ensures { (s : System) → (f : Function) → IsRecordOf s f function.now → IsTrue (is_bridge f)
+    ensures { (s : System) → (f : Function) → IsRecordInSystem s f function.now → IsTrue (is_bridge f)
         → result ≡ highest_of_window (kind_value class) f.probe }
 {
     match &function.bridge {
@@ -188,7 +188,7 @@ pub fn find_reaches(board: &Board, rows: &[Region], reaches: &mut [WindowRanges]
         (given_value board.now) rows.now }
     ensures count { length reaches.new ≡ length reaches.old }
     ensures reaches { (q : Request) → (s : System) → StandsInRows q s board.now.records.now
-        (given_value board.now) rows.now → AreReaches q s reaches.new }
+        (given_value board.now) rows.now → AreWindowReaches q s reaches.new }
     // nothing is told of a window that isn't in the rows
     ensures others { TellsSameOutside rows.now (length rows.now) reaches.old reaches.new }
 {

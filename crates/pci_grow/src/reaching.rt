@@ -3,7 +3,7 @@ ghost use Rattle.std.specs.Prelude.{◌≡◌, ◌⊎◌, None, Some, IsTrue, Is
 ghost use Rattle.std.specs.List.{All};
 ghost use Rattle.pci_place.specs.Above.{system_in};
 ghost use Rattle.pci_first_fit.specs.Slots.{demand_value};
-ghost use Rattle.pci_kept.specs.Known.{asked_by};
+ghost use Rattle.pci_kept.specs.Known.{asked_by_rules};
 ghost use Rattle.pci_grow.specs.Reaching.{reaching_value, IsReaching, tells_whole, TellsWhole};
 
 use crate::beside::standing_in_rows;
@@ -45,7 +45,7 @@ pub fn all_reaches<A: Allocator + Copy, B: Allocator>(
     rules: &Rules,
 ) -> Result<Reaching<A>, OutOfMemory>
     ensures { IfOk result (λ reaching. IsReaching
-        (asked_by admitted.now.roots (demand_value lists.now) rules.now) (system_in admitted.now)
+        (asked_by_rules admitted.now.roots (demand_value lists.now) rules.now) (system_in admitted.now)
         (reaching_value reaching)) }
 {
     let outline = admitted.outline();

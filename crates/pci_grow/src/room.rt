@@ -5,7 +5,7 @@ ghost use Rattle.std.specs.List.{find, fold};
 ghost use Rattle.pci_spec.specs.Decoded.{Range as DecodedRange};
 ghost use Rattle.settle_spec.specs.Lists.{Request};
 ghost use Rattle.settle_spec.specs.Parts.{lies_within};
-ghost use Rattle.settle_spec.specs.Reach.{clear_of, no_higher, ranges_for};
+ghost use Rattle.settle_spec.specs.Reach.{clear_of, no_higher, root_window_ranges};
 ghost use Rattle.pci_base.specs.Ranges.{decoded_range_of};
 ghost use Rattle.pci_base.specs.WindowKinds.{kind_value};
 ghost use Rattle.pci_first_fit.specs.Lists.{lists_value};
@@ -42,7 +42,7 @@ fn range_of_either(list: &[RootRange], other: &[RootRange], bus: u8, range: Rang
 /// The range in which a window on a root stands: of its class, or else of other memory.
 pub fn room_on_root(lists: &Lists, bus: u8, class: WindowKind, range: Range) -> Option<Range>
     ensures { (q : Request) → q.lists ≡ lists_value lists.now → option_map decoded_range_of result
-        ≡ find (lies_within (decoded_range_of range)) (ranges_for q (kind_value class) bus) }
+        ≡ find (lies_within (decoded_range_of range)) (root_window_ranges q (kind_value class) bus) }
 {
     match class {
         WindowKind::Io => range_with(lists.io, bus, range),

@@ -6,7 +6,8 @@ ghost use Rattle.settle_spec.specs.Wishes.{gained};
 ghost use Rattle.pci_base.specs.Ranges.{decoded_range_of};
 ghost use Rattle.pci_base.specs.Space.{space_of};
 ghost use Rattle.pci_tree.specs.Roots.{buses_of};
-ghost use Rattle.pci_grow.specs.RoomRows.{level, row_number, IsEndedIn, IsAddedTo, LastsRise};
+ghost use Rattle.pci_grow.specs.RoomRows.{bus_level, row_number, IsEndedIn, IsAddedTo};
+ghost use Rattle.pci_grow.specs.LastPlaces.{LastsRise};
 ghost use Rattle.pci_first_fit.specs.Spots.{FirstsRise};
 
 use pci_base::memory::OutOfMemory;
@@ -21,7 +22,7 @@ pub const ROWS: usize = 514;
 
 /// 0 for a root, else one more than the bus number: all roots are one bus.
 pub fn level(roots: &Roots, bus: u8) -> u16
-    ensures level { result ≡ level (buses_of roots.now) bus }
+    ensures level { result ≡ bus_level (buses_of roots.now) bus }
     ensures small { result < 257 }
 {
     if is_root(roots, bus) {
@@ -33,7 +34,7 @@ pub fn level(roots: &Roots, bus: u8) -> u16
 
 /// The row of what is on a bus in a space.
 pub fn row(roots: &Roots, bus: u8, space: Space) -> usize
-    ensures row { result ≡ row_number (level (buses_of roots.now) bus) (space_of space) }
+    ensures row { result ≡ row_number (bus_level (buses_of roots.now) bus) (space_of space) }
     ensures small { result < 514 }
 {
     let level = level(roots, bus) as usize;

@@ -1,6 +1,6 @@
 //! What is there with the room that is kept free so far.
 ghost use Rattle.std.specs.Prelude.{◌≡◌, ◌<◌, ℕ, false, OnOk, length, slice_index_or};
-ghost use Rattle.pci_grow.specs.Board.{room_value, told_then, IsRoom, IsEnded, IsOpened};
+ghost use Rattle.pci_grow.specs.Board.{room_value, told_then, IsRoom, IsEnded, IsWindowOpened};
 ghost use Rattle.pci_grow.specs.RoomRows.{row_at};
 ghost use Rattle.pci_first_fit.specs.Spots.{FirstsRise};
 
@@ -81,7 +81,7 @@ impl<A: Allocator> Room<A> {
         requires order { (row : ℕ) → FirstsRise (row_at (room_value self.old).rows row) }
         requires window { window.bridge < length (room_value self.old).wished }
         requires row { row < length (room_value self.old).rows }
-        ensures opened { OnOk result (IsOpened (room_value self.old) (room_value self.new) window row range) }
+        ensures opened { OnOk result (IsWindowOpened (room_value self.old) (room_value self.new) window row range) }
         ensures room { (functions : ℕ) → IsRoom functions (room_value self.old) → IsRoom functions (room_value self.new) }
     {
         add(&mut self.rows[row], range)?;

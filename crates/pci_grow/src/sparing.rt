@@ -15,7 +15,7 @@ ghost use Rattle.pci_tree.specs.Ways.{IsBridgeToBus};
 ghost use Rattle.pci_grow.specs.RoomRows.{row_at, HasRanges};
 ghost use Rattle.pci_first_fit.specs.Lines.{AreLineRows};
 ghost use Rattle.pci_first_fit.specs.Spots.{extent_value, extent_range, IsExtent, FirstsRise};
-ghost use Rattle.pci_grow.specs.Board.{room_value, told_then, IsAsked, IsWindow, AreFacts, bridge_of, class_of, IsRoom, IsTold, IsOpened};
+ghost use Rattle.pci_grow.specs.Board.{room_value, told_then, IsAsked, IsWindow, AreFacts, bridge_of_window, window_class, IsRoom, IsRoomOfKept, IsWindowOpened};
 ghost use Rattle.pci_grow.specs.Endings.{IsSparedAs, IsSpotBelow, IsTakenOn, IsSpotBeside, IsPlaceBeside, IsSparedOnRoot, IsSparedIn};
 
 use crate::board::{Board, BridgeWindow, Facts};
@@ -60,7 +60,7 @@ fn held_behind<A: Allocator>(
     requires lines { AreLineRows board.now.lines.now }
     requires window { window.bridge < length board.now.records.now }
     ensures { IfOk result (λ held. (q : Request) → (s : System) → IsAsked q s board.now → IsWindow s window
-        → HasRanges held.items (lines_behind q (window_part (class_of window) (bridge_of s window)))) }
+        → HasRanges held.items (lines_behind q (window_part (window_class window) (bridge_of_window s window)))) }
 {
     let record = &board.records[window.bridge];
     let mut held = Vec::new(alloc);
@@ -186,7 +186,7 @@ fn spared_in<A: Allocator + Copy>(
     ensures room { IsRoom (length board.now.records.now) (room_value room.new) }
     ensures ends { IfOk result (λ place. IfSome place (λ at. (range_from at sought.now.extent.size).last < 2 ^ 64)) }
     ensures spared { (q : Request) → (s : System) → (k : Kept) → (behind : List DecodedRange)
-        → IsTold q s k board.now (room_value room.old)
+        → IsRoomOfKept q s k board.now (room_value room.old)
         → IsWindow s window → HasRanges sought.now.behind.now behind
         → told_then board.now.windows.now (room_value room.old) window ≡ Some range
         → IfOk result (λ place. IsSparedIn q s k board.now window range sought.now.extent behind place
@@ -223,7 +223,7 @@ fn open_at<A: Allocator>(
     requires order { (row : ℕ) → FirstsRise (row_at (room_value room.old).rows row) }
     requires window { window.bridge < length (room_value room.old).wished }
     requires row { row < length (room_value room.old).rows }
-    ensures opened { OnOk result (IsOpened (room_value room.old) (room_value room.new) window row (extent_range extent at)) }
+    ensures opened { OnOk result (IsWindowOpened (room_value room.old) (room_value room.new) window row (extent_range extent at)) }
     ensures room { (functions : ℕ) → IsRoom functions (room_value room.old) → IsRoom functions (room_value room.new) }
 {
     let last = at + (extent.size - 1);
@@ -245,8 +245,8 @@ fn spared_on_root<A: Allocator + Copy>(
     ensures room { IsRoom (length board.now.records.now) (room_value room.new) }
     ensures ends { IfOk result (λ place. IfSome place (λ at. (range_from at sought.now.extent.size).last < 2 ^ 64)) }
     ensures spared { (q : Request) → (s : System) → (k : Kept) → (behind : List DecodedRange)
-        → IsTold q s k board.now (room_value room.old)
-        → IsWindow s window → AreFacts q (class_of window) (bridge_of s window) facts.now
+        → IsRoomOfKept q s k board.now (room_value room.old)
+        → IsWindow s window → AreFacts q (window_class window) (bridge_of_window s window) facts.now
         → HasRanges sought.now.behind.now behind
         → IfOk result (λ place. IsSparedOnRoot q s k board.now window facts.now sought.now.extent behind place
         (room_value room.old) (room_value room.new)) }
@@ -284,10 +284,10 @@ pub fn spared<A: Allocator + Copy>(
     ensures room { IsRoom (length board.now.records.now) (room_value room.new) }
     ensures ends { IfOk result (λ place. IfSome place (λ at. (range_from at sought.now.extent.size).last < 2 ^ 64)) }
     ensures spared { (q : Request) → (s : System) → (k : Kept) → (behind : List DecodedRange)
-        → IsTold q s k board.now (room_value room.old)
+        → IsRoomOfKept q s k board.now (room_value room.old)
         → IsWindow s window → HasRanges sought.now.behind.now behind
         → IfOk result (λ place. IsSparedAs q s board.now
-        (spared_within q s (class_of window) depth (bridge_of s window) (extent_value sought.now.extent) behind k)
+        (spared_within q s (window_class window) depth (bridge_of_window s window) (extent_value sought.now.extent) behind k)
         place (room_value room.old) (room_value room.new)) }
 {
     if depth == 0 {

@@ -5,8 +5,8 @@ ghost use Rattle.std.specs.List.Sorted.{IsNonDecreasingBy};
 ghost use Rattle.pci_base.specs.WindowKinds.{kind_value};
 ghost use Rattle.pci_first_fit.specs.Turns.{HasExtent};
 ghost use Rattle.pci_grow.specs.Arounds.{AreEndingAll};
-ghost use Rattle.pci_grow.specs.Rows.{row_of};
-ghost use Rattle.pci_grow.specs.There.{tables_of, grown_of, range_told, class_told, there_of, there_of_class, in_row, holding, placed_ranges, is_past, later_of};
+ghost use Rattle.pci_grow.specs.Rows.{region_row_number};
+ghost use Rattle.pci_grow.specs.There.{tables_of, grown_window_range, range_told, class_told, there_of, there_of_class, in_row, holding, placed_ranges, is_past, later_range_end};
 
 use crate::beside::first_from;
 use pci_base::memory::OutOfMemory;
@@ -32,7 +32,7 @@ pub struct There<A: Allocator> {
 
 /// What a window has come to.
 fn grown_of(grown: &[WindowRanges], region: &Region) -> Option<Range>
-    ensures { result ≡ grown_of grown.now region.now.function region.now.part }
+    ensures { result ≡ grown_window_range grown.now region.now.function region.now.part }
 {
     match region.part {
         Part::Window(class) => told_of(grown, region.function, class),
@@ -69,7 +69,7 @@ impl<A: Allocator> There<A> {
 
 /// The parts of a row.
 pub fn in_row(rows: &[Region], number: u32) -> &[Region]
-    requires order { IsNonDecreasingBy row_of rows.now }
+    requires order { IsNonDecreasingBy region_row_number rows.now }
     // another row is behind it
     requires number { number + 1 < 2 ^ 32 }
     ensures { result.now ≡ in_row number rows.now }
@@ -156,7 +156,7 @@ pub fn is_past(end: Option<u64>, range: Range) -> bool
 
 /// The later of the ends of two ranges, where there are any.
 pub fn later(end: Option<u64>, range: Option<Range>) -> Option<u64>
-    ensures { result ≡ later_of end range }
+    ensures { result ≡ later_range_end end range }
 {
     match (end, range) {
         (end, None) => end,

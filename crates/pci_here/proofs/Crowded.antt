@@ -9,10 +9,10 @@ use Rattle.pci_spec.specs.SizesText.{SizesBlock, sized_slots}
 use Rattle.pci_spec.specs.Stops.{IsAboveLast, last_slot}
 use Rattle.pci_spec.proofs.Fronts.{rising_more}
 use Rattle.pci_spec.proofs.Members.{in_head, in_tail}
-use Rattle.pci_here.specs.Place.{Place}
+use Rattle.pci_here.specs.Place.{FunctionPlace}
 use Rattle.pci_here.specs.Shown.{Shown}
-use Rattle.pci_here.specs.Functions.{IsTaken, HasOneAt, IsTooMany, IsNotTaken, HasNoRoom, HasNoRoomFor, IsNotPut, is_own}
-use Rattle.pci_here.specs.Taken.{AreTaken}
+use Rattle.pci_here.specs.Functions.{IsFunctionTaken, HasOneAt, IsTooMany, IsNotTaken, HasNoRoom, HasNoRoomFor, IsNotPut, is_physical_function}
+use Rattle.pci_here.specs.Taken.{AreFunctionsTaken}
 use Rattle.pci_here.specs.declared.functions.Functions.{Functions}
 use Rattle.pci_here.specs.declared.function.Function.{Function}
 use Rattle.pci_here.specs.declared.trouble.Trouble.{Trouble}
@@ -55,7 +55,7 @@ last_not_below (b ∷ c ∷ blocks) slot never =
     let behind = last_not_below (c ∷ blocks) slot never in
     record { block = behind.block; there = in_tail b (c ∷ blocks) behind.block behind.there; least = behind.least }
 
-one_at : (m : Shown) (places : List Place) (p : Place) (f : Functions) → AreTaken m places f → IsAtOrAbove f.dump p.slot → HasOneAt m places p
+one_at : (m : Shown) (places : List FunctionPlace) (p : FunctionPlace) (f : Functions) → AreFunctionsTaken m places f → IsAtOrAbove f.dump p.slot → HasOneAt m places p
 one_at m places p f taken at =
     let of = (taken.blocks at.block).0 at.there in
     record { other = of.0; there = of.1; own = of.2.own; slot = omega (arith, at.least, ap slot_number of.2.slot) }
@@ -78,13 +78,13 @@ dump_too f x same rising slot (inr full) = inr (sym (same_count f.dump f.sizes s
 dump_too f x same rising slot (inl never) =
     inl (λ above. never (subst IsRising (sym (slots_more f.dump f.sizes x.block x.sizes same slot)) (rising_more f.dump x.block rising above)))
 
-crowded_by : (m : Shown) (places : List Place) (p : Place) (f : Functions) (x : Function) → AreTaken m places f → x.block.slot ≡ p.slot
-    → HasNoRoom f.dump x.block.slot → (count_by (is_own m) places ≡ 4096) ⊎ HasOneAt m places p
+crowded_by : (m : Shown) (places : List FunctionPlace) (p : FunctionPlace) (f : Functions) (x : Function) → AreFunctionsTaken m places f → x.block.slot ≡ p.slot
+    → HasNoRoom f.dump x.block.slot → (count_by (is_physical_function m) places ≡ 4096) ⊎ HasOneAt m places p
 crowded_by m places p f x taken slot (inr full) = inl (sym taken.count ∙ full)
 crowded_by m places p f x taken slot (inl never) =
     inr (one_at m places p f taken (last_not_below f.dump p.slot (subst (λ s. IsAboveLast (last_slot f.dump) s → ⊥) slot never)))
 
-too_many : (m : Shown) (places : List Place) (p : Place) (f : Functions) (x : Function) → AreTaken m places f → IsTaken m p x
+too_many : (m : Shown) (places : List FunctionPlace) (p : FunctionPlace) (f : Functions) (x : Function) → AreFunctionsTaken m places f → IsFunctionTaken m p x
     → HasNoRoom f.dump x.block.slot ⊎ HasNoRoomFor f.sizes x.sizes → IsTooMany m places p
 too_many m places p f x taken read (inl never) = record { function = x; read = read; crowded = crowded_by m places p f x taken read.block.slot never }
 too_many m places p f x taken read (inr never) = record {
@@ -96,8 +96,8 @@ too_many m places p f x taken read (inr never) = record {
 
 -- ---- why a function isn't taken
 
-pub not_put : (m : Shown) (places : List Place) (p : Place) (f : Functions) (x : Function) (t : Trouble) → IsTaken m p x
-    → IsNotPut f.dump f.sizes x t → AreTaken m places f → IsNotTaken m places p t
+pub not_put : (m : Shown) (places : List FunctionPlace) (p : FunctionPlace) (f : Functions) (x : Function) (t : Trouble) → IsFunctionTaken m p x
+    → IsNotPut f.dump f.sizes x t → AreFunctionsTaken m places f → IsNotTaken m places p t
 not_put m places p f x Memory read never taken = tt
 not_put m places p f x Unread read never taken = absurd never
 not_put m places p f x Short read never taken = absurd never

@@ -7,8 +7,8 @@ use Rattle.pciplan_lists.specs.PoolWords.{IsAddressWord}
 use Rattle.pciplan_lists.proofs.HexWords.{no_digit}
 use Rattle.pciplan_lists.proofs.RangeWords.{IsNoDigit, without_address}
 use Rattle.pciplan_lists.proofs.Without.{Without, not_without}
-use Rattle.pci_here.specs.LogLine.{IsBarSize, IsBarText, IsBehindNumber, IsDevice, IsIoText, IsKind, IsKindSize, IsLogLine, IsPlainSize, IsSaidOf, IsSizeText, IsTold}
-use Rattle.pci_here.specs.Place.{Place}
+use Rattle.pci_here.specs.LogLine.{IsBarSize, IsBarText, IsBehindNumber, IsDevice, IsIoText, IsKind, IsKindSize, IsLogLine, IsPlainSize, IsSaidOf, IsSizeText, IsLogMessage}
+use Rattle.pci_here.specs.Place.{FunctionPlace}
 use Rattle.pci_here.specs.declared.log_line.BarSize.{BarSize}
 use Rattle.pci_here.specs.declared.log_line.LogLine.{LogLine}
 use Rattle.pci_here.specs.declared.log_line.SizeTold.{SizeTold}
@@ -213,13 +213,13 @@ size_there text first second bar told one two of_bar is =
 
 -- ---- what is told
 
-pub nothing_told : (text : List ℕ) → (IsDevice text → ⊥) → ((size : BarSize) → IsBarSize text size → ⊥) → (told : Told) → IsTold text told → ⊥
+pub nothing_told : (text : List ℕ) → (IsDevice text → ⊥) → ((size : BarSize) → IsBarSize text size → ⊥) → (told : Told) → IsLogMessage text told → ⊥
 nothing_told text no_device no_bar Device is = no_device is
 nothing_told text no_device no_bar (Size size) is = no_bar size is
 
-pub no_function : (line : List ℕ) → ((p : Place) (text : List ℕ) → IsSaidOf line p text → ⊥) → (l : LogLine) → IsLogLine line l → ⊥
+pub no_function : (line : List ℕ) → ((p : FunctionPlace) (text : List ℕ) → IsSaidOf line p text → ⊥) → (l : LogLine) → IsLogLine line l → ⊥
 no_function line none l is = none l.place is.text is.said
 
-pub nothing_of_it : (line text : List ℕ) (place : Place) → ((p : Place) (other : List ℕ) → IsSaidOf line p other → (p ≡ place) × (other ≡ text))
-    → ((told : Told) → IsTold text told → ⊥) → (l : LogLine) → IsLogLine line l → ⊥
-nothing_of_it line text place only none l is = none l.told (subst (λ t. IsTold t l.told) (only l.place is.text is.said).1 is.is)
+pub nothing_of_it : (line text : List ℕ) (place : FunctionPlace) → ((p : FunctionPlace) (other : List ℕ) → IsSaidOf line p other → (p ≡ place) × (other ≡ text))
+    → ((told : Told) → IsLogMessage text told → ⊥) → (l : LogLine) → IsLogLine line l → ⊥
+nothing_of_it line text place only none l is = none l.told (subst (λ t. IsLogMessage t l.told) (only l.place is.text is.said).1 is.is)

@@ -6,9 +6,9 @@ use Rattle.std.proofs.lemmas.Bool.{cases_eq, cond-false, cond-true, eq-eqb, ne_e
 use Rattle.std.proofs.lemmas.List.{append_assoc, append-nil, ext_get_or, get_or_default, set_past, take_more}
 use Rattle.std.proofs.lemmas.List.Sums.{fold-append}
 use Rattle.pci_spec.specs.Resource.{ResourceLine, no_line}
-use Rattle.pci_here.specs.Log.{Registers, chosen, completed, nothing, registers_at, told_of, with_line, with_told}
+use Rattle.pci_here.specs.Log.{Registers, chosen, completed, no_register_told, registers_at, registers_told, with_line, with_told}
 use Rattle.pci_here.specs.LogLine.{AreLogLines, HasTold, IsLogLine, IsNoLogLine}
-use Rattle.pci_here.specs.Place.{Place, place_number}
+use Rattle.pci_here.specs.Place.{FunctionPlace, function_place_number}
 use Rattle.pci_here.specs.declared.log_line.LogLine.{LogLine}
 use Rattle.pci_here.specs.declared.log_line.Told.{Told}
 
@@ -82,17 +82,17 @@ number_more k q t m n put = elim (cases_eq k q) [
       ∙ sym (cond-false (k == q) (with_told (registers_at (get nat_cmp m q)) t) (registers_at (get nat_cmp m q)) (ne_eqb k q other))
 ]
 
-pub placed_more : (p : Place) (l : LogLine) (k : ℕ) (r before : Registers) (m n : BTreeMap ℕ Registers) → k ≡ place_number l.place
-    → before ≡ registers_at (get nat_cmp m (place_number l.place)) → r ≡ with_told before l.told → Updates nat_cmp m n k (Some r)
-    → registers_at (get nat_cmp n (place_number p)) ≡ with_line p (registers_at (get nat_cmp m (place_number p))) l
+pub placed_more : (p : FunctionPlace) (l : LogLine) (k : ℕ) (r before : Registers) (m n : BTreeMap ℕ Registers) → k ≡ function_place_number l.place
+    → before ≡ registers_at (get nat_cmp m (function_place_number l.place)) → r ≡ with_told before l.told → Updates nat_cmp m n k (Some r)
+    → registers_at (get nat_cmp n (function_place_number p)) ≡ with_line p (registers_at (get nat_cmp m (function_place_number p))) l
 placed_more p l k r before m n k_is before_is r_is put =
-    let value : r ≡ with_told (registers_at (get nat_cmp m (place_number l.place))) l.told = r_is ∙ ap (λ b. with_told b l.told) before_is in
-    number_more (place_number l.place) (place_number p) l.told m n
-    (subst (λ v. Updates nat_cmp m n (place_number l.place) (Some v)) value (subst (λ j. Updates nat_cmp m n j (Some r)) k_is put))
+    let value : r ≡ with_told (registers_at (get nat_cmp m (function_place_number l.place))) l.told = r_is ∙ ap (λ b. with_told b l.told) before_is in
+    number_more (function_place_number l.place) (function_place_number p) l.told m n
+    (subst (λ v. Updates nat_cmp m n (function_place_number l.place) (Some v)) value (subst (λ j. Updates nat_cmp m n j (Some r)) k_is put))
 
 -- a line more of some lines
-pub line_more : (p : Place) (lines : List LogLine) (i : ℕ) (l : LogLine) → i < length lines → get_or lines i l ≡ l
-    → told_of (take (i + 1) lines) p ≡ with_line p (told_of (take i lines) p) l
+pub line_more : (p : FunctionPlace) (lines : List LogLine) (i : ℕ) (l : LogLine) → i < length lines → get_or lines i l ≡ l
+    → registers_told (take (i + 1) lines) p ≡ with_line p (registers_told (take i lines) p) l
 line_more p lines i l within at =
-    ap (fold (with_line p) nothing) (take_more lines i l within) ∙ fold-append (with_line p) nothing (take i lines) (get_or lines i l ∷ [])
-    ∙ ap (λ x. with_line p (told_of (take i lines) p) x) at
+    ap (fold (with_line p) no_register_told) (take_more lines i l within) ∙ fold-append (with_line p) no_register_told (take i lines) (get_or lines i l ∷ [])
+    ∙ ap (λ x. with_line p (registers_told (take i lines) p) x) at

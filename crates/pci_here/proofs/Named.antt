@@ -12,25 +12,24 @@ use Rattle.std.proofs.lemmas.List.Kept.{Contains-dedup_nat, Contains-from_dedup}
 use Rattle.std.proofs.lemmas.Map.Keys.{IsStrictlyIncreasing-dedup}
 use Rattle.std.proofs.lemmas.List.Sorted.{Contains-permutation, IsPermutation-sym}
 use Rattle.pci_spec.proofs.Members.{in_nil}
-use Rattle.pci_here.specs.Place.{Place}
-use Rattle.pci_here.specs.Place.{IsPlaceName}
-use Rattle.pci_here.specs.Places.{IsNamed, IsDomainNamed, IsOfNoPlace, ArePlacesIn, AreDomainsIn}
+use Rattle.pci_here.specs.Place.{FunctionPlace, IsPlaceName}
+use Rattle.pci_here.specs.Places.{IsPlaceNamed, IsDomainNamed, IsOfNoPlace, ArePlacesOfNames, AreDomainsIn}
 
-named_left : (names : List (List ℕ)) (name : List ℕ) (domain : ℕ) (p : Place) → IsNamed names domain p → IsNamed (names ++ name ∷ []) domain p
+named_left : (names : List (List ℕ)) (name : List ℕ) (domain : ℕ) (p : FunctionPlace) → IsPlaceNamed names domain p → IsPlaceNamed (names ++ name ∷ []) domain p
 named_left names name domain p is =
     record { name = is.name; has = Contains-append_left names (name ∷ []) is.name is.has; is = is.is; of_domain = is.of_domain }
 
 -- a name more that tells no place of the domain
-pub named_same : (names : List (List ℕ)) (name : List ℕ) (domain : ℕ) (places : List Place) → IsOfNoPlace name domain
-    → ArePlacesIn names domain places → ArePlacesIn (names ++ name ∷ []) domain places
+pub named_same : (names : List (List ℕ)) (name : List ℕ) (domain : ℕ) (places : List FunctionPlace) → IsOfNoPlace name domain
+    → ArePlacesOfNames names domain places → ArePlacesOfNames (names ++ name ∷ []) domain places
 named_same [] name domain places none was = inr (none, was)
 named_same (first ∷ names) name domain places none (inl (p, more, tells, of_domain, rest, is)) =
     inl (p, more, tells, of_domain, named_same names name domain more none rest, is)
 named_same (first ∷ names) name domain places none (inr (other, rest)) = inr (other, named_same names name domain places none rest)
 
 -- a name more that tells one
-pub named_more : (names : List (List ℕ)) (name : List ℕ) (domain : ℕ) (places : List Place) (q : Place) → IsPlaceName name q → q.domain ≡ domain
-    → ArePlacesIn names domain places → ArePlacesIn (names ++ name ∷ []) domain (places ++ q ∷ [])
+pub named_more : (names : List (List ℕ)) (name : List ℕ) (domain : ℕ) (places : List FunctionPlace) (q : FunctionPlace) → IsPlaceName name q → q.domain ≡ domain
+    → ArePlacesOfNames names domain places → ArePlacesOfNames (names ++ name ∷ []) domain (places ++ q ∷ [])
 named_more [] name domain places q tells of_domain was = inl (q, [], tells, of_domain, refl, ap (λ l. l ++ q ∷ []) was)
 named_more (first ∷ names) name domain places q tells of_domain (inl (p, more, is_of, here, rest, is)) =
     inl (p, more ++ q ∷ [], is_of, here, named_more names name domain more q tells of_domain rest, ap (λ l. l ++ q ∷ []) is)
@@ -50,7 +49,7 @@ domain_left : (names : List (List ℕ)) (name : List ℕ) (d : ℕ) → IsDomain
 domain_left names name d is = (is.0, named_left names name d is.0 is.1)
 
 -- a name that tells no place
-pub domain_same : (names : List (List ℕ)) (name : List ℕ) (domains : List ℕ) → ((p : Place) → IsPlaceName name p → ⊥)
+pub domain_same : (names : List (List ℕ)) (name : List ℕ) (domains : List ℕ) → ((p : FunctionPlace) → IsPlaceName name p → ⊥)
     → AreDomainsIn names domains → AreDomainsIn (names ++ name ∷ []) domains
 domain_same names name domains none was d = (
   λ has. domain_left names name d ((was d).0 has),
@@ -61,7 +60,7 @@ domain_same names name domains none was d = (
 )
 
 -- a name that tells one
-pub domain_more : (names : List (List ℕ)) (name : List ℕ) (domains : List ℕ) (q : Place) → IsPlaceName name q → ((p : Place) → IsPlaceName name p → q ≡ p)
+pub domain_more : (names : List (List ℕ)) (name : List ℕ) (domains : List ℕ) (q : FunctionPlace) → IsPlaceName name q → ((p : FunctionPlace) → IsPlaceName name p → q ≡ p)
     → AreDomainsIn names domains → AreDomainsIn (names ++ name ∷ []) (domains ++ q.domain ∷ [])
 domain_more names name domains q tells only was d = (
   λ has. elim (Contains-push_cases domains q.domain d has) [
@@ -70,7 +69,7 @@ domain_more names name domains q tells only was d = (
   ],
   λ is. elim (Contains-push_cases names name is.1.name is.1.has) [
     | inl before ↦ Contains-append_left domains (q.domain ∷ []) d ((was d).1 (is.0, record { name = is.1.name; has = before; is = is.1.is; of_domain = is.1.of_domain }))
-    | inr here ↦ (let same : q.domain ≡ d = ap (λ (p : Place). p.domain) (only is.0 (subst (λ n. IsPlaceName n is.0) (sym here) is.1.is)) ∙ is.1.of_domain in
+    | inr here ↦ (let same : q.domain ≡ d = ap (λ (p : FunctionPlace). p.domain) (only is.0 (subst (λ n. IsPlaceName n is.0) (sym here) is.1.is)) ∙ is.1.of_domain in
         subst (λ x. Contains (domains ++ q.domain ∷ []) x) same (Contains-push domains q.domain))
   ],
 )

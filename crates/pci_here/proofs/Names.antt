@@ -10,8 +10,7 @@ use Rattle.pciplan_lists.specs.PoolWords.{IsAddressWord}
 use Rattle.pciplan_lists.specs.SlotWords.{IsSlotWord}
 use Rattle.pciplan_lists.proofs.PoolWords.{length_address, address_same}
 use Rattle.pciplan_lists.proofs.RangeWords.{no_colon, without_address}
-use Rattle.pci_here.specs.Place.{Place}
-use Rattle.pci_here.specs.Place.{IsDomainWord, IsPlaceName}
+use Rattle.pci_here.specs.Place.{FunctionPlace, IsDomainWord, IsPlaceName}
 use Rattle.pci_here.specs.declared.bus.Bus.{Bus}
 use Rattle.pci_here.specs.Bus.{IsBusName}
 
@@ -34,7 +33,7 @@ cut_domain text word tail domain is parts (Some cut) result =
     let same = split_after 58 text word tail (Some cut) result (omega arith) parts (without_address 58 no_colon word domain is.number) in
     (subst (λ w. IsDomainWord w domain) (sym same.0) is, same.1)
 
-pub place_parts : (name : List ℕ) (p : Place) → IsPlaceName name p
+pub place_parts : (name : List ℕ) (p : FunctionPlace) → IsPlaceName name p
     → (cut : Option (Bor (List ℕ) × Bor (List ℕ))) → IsSplitOnceResult 58 name cut
     → MatchOption cut ⊥ (λ parts. IsDomainWord parts.0.now p.domain × IsSlotWord parts.1.now p.slot)
 place_parts name p is None result = cut_domain name is.word (slot_text p.slot) p.domain is.domain is.text None result
@@ -81,7 +80,7 @@ stripped front text (Some x) strips rest is =
 pub strip_there : (front text : List ℕ) (x : Bor (List ℕ)) → StripsPrefix (FindsTextPrefix front) text x.now → text ≡ front ++ x.now
 strip_there front text x strips = strips.1.1 ∙ ap (λ t. front ++ t) (sym strips.2)
 
-pub place_same : (p : Place) (domain : ℕ) (slot : Slot) → domain ≡ p.domain → slot ≡ p.slot → Some (record { domain = domain; slot = slot }) ≡ Some p
+pub place_same : (p : FunctionPlace) (domain : ℕ) (slot : Slot) → domain ≡ p.domain → slot ≡ p.slot → Some (record { domain = domain; slot = slot }) ≡ Some p
 place_same p domain slot of_domain of_slot = λ i. Some record { domain = of_domain i; slot = of_slot i }
 
 pub bus_same : (b : Bus) (domain number : ℕ) → domain ≡ b.domain → number ≡ b.number → Some (record { domain = domain; number = number }) ≡ Some b

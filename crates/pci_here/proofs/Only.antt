@@ -8,14 +8,14 @@ use Rattle.pci_spec.proofs.SizesTexts.{same_back}
 use Rattle.pci_spec.proofs.Spelling.{byte_same}
 use Rattle.pciplan_lists.proofs.RangeWords.{no_colon, without_address}
 use Rattle.pciplan_lists.proofs.Without.{cut_same}
-use Rattle.pci_here.specs.Place.{Place}
+use Rattle.pci_here.specs.Place.{FunctionPlace}
 use Rattle.pci_here.specs.declared.bus.Bus.{Bus}
 use Rattle.pci_here.specs.Bus.{IsBusName}
 use Rattle.pci_here.specs.Link.{IsHostFolder, IsNoHostFolder, IsHostBus}
 use Rattle.pci_here.specs.Log.{completed}
 use Rattle.pci_here.specs.Resource.{AreFirstLines}
 use Rattle.pci_here.specs.Shown.{Shown}
-use Rattle.pci_here.specs.Functions.{IsBlockAt, IsSizesAt, IsRootAt}
+use Rattle.pci_here.specs.Functions.{IsShownBlockAt, IsSizesAt, IsRootAt}
 use Rattle.pci_here.proofs.Resources.{lines_same}
 
 number_same : (name : List ℕ) (a b : Bus) → IsBusName name a → IsBusName name b → a.number ≡ b.number
@@ -53,7 +53,7 @@ host_bus_same path a b of_a of_b =
     of_a.of ∙ last_same of_a.before of_b.before of_a.folder of_b.folder of_a.behind of_b.behind of_a.bus of_b.bus (sym of_a.parts ∙ of_b.parts) of_a.is of_b.is of_a.last of_b.last
     ∙ sym of_b.of
 
-pub block_only : (m : Shown) (p : Place) (b : Block) → IsBlockAt m p b → (c : Block) → IsBlockAt m p c → b ≡ c
+pub block_only : (m : Shown) (p : FunctionPlace) (b : Block) → IsShownBlockAt m p b → (c : Block) → IsShownBlockAt m p c → b ≡ c
 block_only m p b is_b c is_c =
     let told : Some is_b.image.bytes ≡ Some is_c.image.bytes = sym is_b.image.is_told ∙ is_c.image.is_told in
     let bytes : is_b.image.bytes ≡ is_c.image.bytes = cc told in
@@ -62,7 +62,7 @@ block_only m p b is_b c is_c =
     let title : b.title ≡ c.title = is_b.title ∙ sym is_c.title in
     λ i. record { slot = slot i; title = title i; image = image i }
 
-pub sizes_only : (m : Shown) (p : Place) (s : SizesBlock) → IsSizesAt m p s → (t : SizesBlock) → IsSizesAt m p t → s ≡ t
+pub sizes_only : (m : Shown) (p : FunctionPlace) (s : SizesBlock) → IsSizesAt m p s → (t : SizesBlock) → IsSizesAt m p t → s ≡ t
 sizes_only m p s is_s t is_t =
     let told : Some is_s.text ≡ Some is_t.text = sym is_s.resource ∙ is_t.resource in
     let text : is_s.text ≡ is_t.text = cc told in
@@ -71,7 +71,7 @@ sizes_only m p s is_s t is_t =
     let slot : s.slot ≡ t.slot = is_s.slot ∙ sym is_t.slot in
     λ i. record { slot = slot i; lines = lines i }
 
-pub root_only : (m : Shown) (p : Place) (a : ℕ) → IsRootAt m p a → (b : ℕ) → IsRootAt m p b → a ≡ b
+pub root_only : (m : Shown) (p : FunctionPlace) (a : ℕ) → IsRootAt m p a → (b : ℕ) → IsRootAt m p b → a ≡ b
 root_only m p a is_a b is_b =
     let told : Some is_a.path ≡ Some is_b.path = sym is_a.link ∙ is_b.link in
     let path : is_a.path ≡ is_b.path = cc told in

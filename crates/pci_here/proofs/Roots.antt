@@ -10,10 +10,10 @@ use Rattle.pci_spec.proofs.Members.{in_nil}
 use Rattle.pci_tree.specs.Roots.{buses_of, set_in, IsRootList}
 use Rattle.pci_tree.specs.declared.roots.Roots.{Roots}
 use Rattle.pci_tree.proofs.RootLists.{in_set_to, in_set_from, set_small, set_rises}
-use Rattle.pci_here.specs.Place.{Place}
+use Rattle.pci_here.specs.Place.{FunctionPlace}
 use Rattle.pci_here.specs.Shown.{Shown}
-use Rattle.pci_here.specs.Functions.{IsRootAt, IsRead, IsReadable}
-use Rattle.pci_here.specs.Taken.{Among, AreTaken}
+use Rattle.pci_here.specs.Functions.{IsRootAt, IsFunctionRead, IsFunctionReadable}
+use Rattle.pci_here.specs.Taken.{Among, AreFunctionsTaken}
 use Rattle.pci_here.specs.declared.function.Function.{Function}
 use Rattle.pci_here.specs.declared.functions.Functions.{Functions}
 
@@ -59,10 +59,10 @@ pub roots_there : (flags : List Bool) (buses : List ℕ) (made : Option Roots) �
 roots_there flags buses None is some of = sym is ∙ none_set flags (λ list. false≢true (some.1 (subst IsRootList (sym is) list))) buses is
 roots_there flags buses (Some roots) is some of = of ∙ is
 
-root_small : (m : Shown) (p : Place) (n : ℕ) → IsRootAt m p n → n < 256
+root_small : (m : Shown) (p : FunctionPlace) (n : ℕ) → IsRootAt m p n → n < 256
 root_small m p n at = omega (arith, at.is.of, at.is.is.is.below)
 
-pub roots_are : (m : Shown) (places : List Place) (f : Functions) (buses : List ℕ) → buses ≡ set_in f.is_root → AreTaken m places f
+pub roots_are : (m : Shown) (places : List FunctionPlace) (f : Functions) (buses : List ℕ) → buses ≡ set_in f.is_root → AreFunctionsTaken m places f
     → (n : ℕ) → Contains buses n ↔ Among (IsRootAt m) places n
 roots_are m places f buses is taken n = (
   λ has. (let inside : Contains (set_in f.is_root) n = subst (λ l. Contains l n) is has in
@@ -72,15 +72,15 @@ roots_are m places f buses is taken n = (
 )
 
 -- where there is no root bus, the functions that can be read are virtual
-virtual_read : (m : Shown) (places : List Place) (f : Functions) (p : Place) → AreTaken m places f → set_in f.is_root ≡ [] → Contains places p
-    → (read : Option Function) → IsRead m p read → m.is_virtual p ≡ Some true
+virtual_read : (m : Shown) (places : List FunctionPlace) (f : Functions) (p : FunctionPlace) → AreFunctionsTaken m places f → set_in f.is_root ≡ [] → Contains places p
+    → (read : Option Function) → IsFunctionRead m p read → m.is_virtual p ≡ Some true
 virtual_read m places f p taken none has None is = is
 virtual_read m places f p taken none has (Some g) is =
     let small : g.root < 256 = root_small m p g.root is.root in
     let set : get_or f.is_root g.root false ≡ true = (taken.roots g.root small).1 (p, has, is.root) in
     absurd (in_nil g.root (subst (λ l. Contains l g.root) none (in_set_from f.is_root g.root small set)))
 
-pub all_virtual : (m : Shown) (places : List Place) (f : Functions) → AreTaken m places f → set_in f.is_root ≡ [] → All (IsReadable m) places
+pub all_virtual : (m : Shown) (places : List FunctionPlace) (f : Functions) → AreFunctionsTaken m places f → set_in f.is_root ≡ [] → All (IsFunctionReadable m) places
     → All (λ p. m.is_virtual p ≡ Some true) places
 all_virtual m places f taken none readable = λ k d inside.
     virtual_read m places f (get_or places k d) taken none (All-contains_itself places k d inside) (readable k d inside).0 (readable k d inside).1

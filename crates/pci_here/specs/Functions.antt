@@ -6,24 +6,24 @@ use Rattle.pci_spec.specs.Slot.{Slot, slot_number, IsRising}
 use Rattle.pci_spec.specs.Stops.{IsAboveLast, last_slot}
 use Rattle.std.specs.List.{All, Contains, count_by}
 use Rattle.pci_spec.specs.Resource.{ResourceLine}
-use Rattle.pci_here.specs.Place.{Place}
+use Rattle.pci_here.specs.Place.{FunctionPlace}
 use Rattle.pci_here.specs.Link.{IsHostBus, IsNoHostFolder, folders}
 use Rattle.pci_here.specs.Log.{completed}
 use Rattle.pci_here.specs.Resource.{AreFirstLines}
-use Rattle.pci_here.specs.Shown.{Shown, IsFront, IsNoFront}
+use Rattle.pci_here.specs.Shown.{Shown, IsFileFront, IsNoFront}
 use Rattle.pci_here.specs.declared.function.Function.{Function}
 use Rattle.pci_here.specs.declared.trouble.Trouble.{Trouble}
 use Rattle.pci_here.specs.declared.trouble.Trouble.TheVariants.{Memory, Unread, Short, NoRoot, TooMany}
 
 -- a function at the place as a dump lists it: its first 256 bytes, and no title
-pub record IsBlockAt (m : Shown) (p : Place) (b : Block) : Type 0 where
+pub record IsShownBlockAt (m : Shown) (p : FunctionPlace) (b : Block) : Type 0 where
   pub own : m.is_virtual p ≡ Some false
   pub slot : b.slot ≡ p.slot
   pub title : b.title ≡ None
-  pub image : IsFront (m.config p) b.image
+  pub image : IsFileFront (m.config p) b.image
 
 -- what is told of its address registers: the first lines of its file `resource`, and the log's in the place of zeros
-pub record IsSizesAt (m : Shown) (p : Place) (s : SizesBlock) : Type 0 where
+pub record IsSizesAt (m : Shown) (p : FunctionPlace) (s : SizesBlock) : Type 0 where
   pub own : m.is_virtual p ≡ Some false
   pub slot : s.slot ≡ p.slot
   pub text : List ℕ
@@ -33,28 +33,28 @@ pub record IsSizesAt (m : Shown) (p : Place) (s : SizesBlock) : Type 0 where
   pub lines : s.lines ≡ completed first (m.log p)
 
 -- the host bus that it is below
-pub record IsRootAt (m : Shown) (p : Place) (bus : ℕ) : Type 0 where
+pub record IsRootAt (m : Shown) (p : FunctionPlace) (bus : ℕ) : Type 0 where
   pub own : m.is_virtual p ≡ Some false
   pub path : List ℕ
   pub link : m.link p ≡ Some path
   pub is : IsHostBus path bus
 
-pub record IsTaken (m : Shown) (p : Place) (f : Function) : Type 0 where
-  pub block : IsBlockAt m p f.block
+pub record IsFunctionTaken (m : Shown) (p : FunctionPlace) (f : Function) : Type 0 where
+  pub block : IsShownBlockAt m p f.block
   pub sizes : IsSizesAt m p f.sizes
   pub root : IsRootAt m p f.root
 
 -- what is read at a place: a function, and nothing of a virtual one
-abbrev pub IsRead : Shown → Place → Option Function → Type 0
-IsRead m p None = m.is_virtual p ≡ Some true
-IsRead m p (Some f) = IsTaken m p f
+abbrev pub IsFunctionRead : Shown → FunctionPlace → Option Function → Type 0
+IsFunctionRead m p None = m.is_virtual p ≡ Some true
+IsFunctionRead m p (Some f) = IsFunctionTaken m p f
 
 -- that a function can be read
-abbrev pub IsReadable : Shown → Place → Type 0
-IsReadable m p = (f : Option Function) × IsRead m p f
+abbrev pub IsFunctionReadable : Shown → FunctionPlace → Type 0
+IsFunctionReadable m p = (f : Option Function) × IsFunctionRead m p f
 
 -- why a function can't be read
-abbrev pub HasTrouble : Shown → Place → Trouble → Type 0
+abbrev pub HasTrouble : Shown → FunctionPlace → Trouble → Type 0
 HasTrouble m p Memory = Unit {0}
 HasTrouble m p Unread =
     (m.is_virtual p ≡ None) ⊎ (m.config p ≡ None) ⊎ (m.resource p ≡ None) ⊎ (m.link p ≡ None)
@@ -72,24 +72,24 @@ is_no None = false
 is_no (Some b) = not b
 
 -- whether a function isn't virtual
-abbrev pub is_own : Shown → Place → Bool
-is_own m p = is_no (m.is_virtual p)
+abbrev pub is_physical_function : Shown → FunctionPlace → Bool
+is_physical_function m p = is_no (m.is_virtual p)
 
 -- a place before it, of a function that isn't virtual, has its slot or a higher one
-pub record HasOneAt (m : Shown) (before : List Place) (p : Place) : Type 0 where
-  pub other : Place
+pub record HasOneAt (m : Shown) (before : List FunctionPlace) (p : FunctionPlace) : Type 0 where
+  pub other : FunctionPlace
   pub there : Contains before other
   pub own : m.is_virtual other ≡ Some false
   pub slot : slot_number p.slot ≤ slot_number other.slot
 
 -- a function that can be read, and isn't virtual, is one too many: 4,096 such functions are before it, or one at its slot
-pub record IsTooMany (m : Shown) (before : List Place) (p : Place) : Type 0 where
+pub record IsTooMany (m : Shown) (before : List FunctionPlace) (p : FunctionPlace) : Type 0 where
   pub function : Function
-  pub read : IsTaken m p function
-  pub crowded : (count_by (is_own m) before ≡ 4096) ⊎ HasOneAt m before p
+  pub read : IsFunctionTaken m p function
+  pub crowded : (count_by (is_physical_function m) before ≡ 4096) ⊎ HasOneAt m before p
 
 -- why a function behind others can't be taken: it can't be read, or it is one too many
-abbrev pub IsNotTaken : Shown → List Place → Place → Trouble → Type 0
+abbrev pub IsNotTaken : Shown → List FunctionPlace → FunctionPlace → Trouble → Type 0
 IsNotTaken m before p Memory = HasTrouble m p Memory
 IsNotTaken m before p Unread = HasTrouble m p Unread
 IsNotTaken m before p Short = HasTrouble m p Short

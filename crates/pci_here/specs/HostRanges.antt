@@ -44,19 +44,19 @@ HasFound domain roots lines left found = (more : List RootRange) → AreRangesOf
     → AreRangesOf domain roots lines (found ++ more)
 
 -- the lines of a text
-abbrev pub lines_of : List ℕ → List (List ℕ)
-lines_of text = slice_split (λ byte. byte == 10) text
+abbrev pub file_lines : List ℕ → List (List ℕ)
+file_lines text = slice_split (λ byte. byte == 10) text
 
 -- whether a range lies within another one of the same bus
-abbrev pub lies_within : RootRange → RootRange → Bool
-lies_within r q =
+abbrev pub lies_within_same_bus : RootRange → RootRange → Bool
+lies_within_same_bus r q =
     same_root r.root q.root && nat_le q.range.first r.range.first && nat_le r.range.last q.range.last
 
 -- the ranges without those that lie within an earlier one
 abbrev pub outer_ranges : List RootRange → List RootRange → List RootRange
 outer_ranges earlier [] = earlier
 outer_ranges earlier (r ∷ ranges) =
-    if list_any (lies_within r) earlier then outer_ranges earlier ranges
+    if list_any (lies_within_same_bus r) earlier then outer_ranges earlier ranges
     else outer_ranges (earlier ++ r ∷ []) ranges
 
 -- whether a list sends an address to a root bus
@@ -65,15 +65,15 @@ sends_by list bus a = list_any (λ r. sends bus a (host_range_of r)) list
 
 -- What is said by some ranges: those that don't lie within an earlier one, where no two of these overlap. They send
 -- what all the ranges send.
-abbrev pub IsSaid : List ℕ → List RootRange → Option (Vec RootRange) → Type 0
-IsSaid roots ranges None =
+abbrev pub IsSaidByRanges : List ℕ → List RootRange → Option (Vec RootRange) → Type 0
+IsSaidByRanges roots ranges None =
     (outer_ranges [] ranges ≡ []) ⊎ (IsGoodHostList roots (outer_ranges [] ranges) → ⊥)
-IsSaid roots ranges (Some list) =
+IsSaidByRanges roots ranges (Some list) =
     (list.items ≡ outer_ranges [] ranges) × IsGoodHostList roots list.items
     × ((bus a : ℕ) → sends_by list.items bus a ≡ sends_by ranges bus a)
 
 -- what a text tells of the root buses of a domain
 abbrev pub IsToldBy : ℕ → List ℕ → List ℕ → Option (Vec RootRange) → Type 0
 IsToldBy domain roots text list =
-    (ranges : List RootRange) × AreRangesOf domain roots (lines_of text) ranges
-    × IsSaid roots ranges list
+    (ranges : List RootRange) × AreRangesOf domain roots (file_lines text) ranges
+    × IsSaidByRanges roots ranges list

@@ -3,9 +3,9 @@ use Rattle.std.specs.Prelude.{◌≡◌, ℕ, ◌-◌, ◌==◌, ◌&&◌, nat_l
 use Rattle.std.specs.BTreeMap.{get}
 use Rattle.std.specs.Ordering.{nat_cmp}
 use Rattle.pci_spec.specs.Resource.{ResourceLine, has_size, no_line}
-use Rattle.pci_here.specs.HostRanges.{lines_of}
+use Rattle.pci_here.specs.HostRanges.{file_lines}
 use Rattle.pci_here.specs.LogLine.{AreLogLines}
-use Rattle.pci_here.specs.Place.{Place, place_number}
+use Rattle.pci_here.specs.Place.{FunctionPlace, function_place_number}
 use Rattle.pci_here.specs.declared.log.Log.{Log}
 use Rattle.pci_here.specs.declared.log_line.LogLine.{LogLine}
 use Rattle.pci_here.specs.declared.log_line.Told.{Told}
@@ -15,8 +15,8 @@ use Rattle.pci_here.specs.declared.log_line.Told.TheVariants.{Device, Size}
 abbrev pub Registers : Type 0
 Registers = List ResourceLine
 
-abbrev pub nothing : Registers
-nothing = replicate 7 no_line
+abbrev pub no_register_told : Registers
+no_register_told = replicate 7 no_line
 
 -- the addresses from 0 to a size less one, as a line of the file `resource` tells them
 abbrev pub extent : ℕ → ℕ → ResourceLine
@@ -30,36 +30,36 @@ size_line size flags =
 -- A size is told of its BAR, in the place of an earlier one. A device that is found makes all earlier lines those of
 -- another one.
 abbrev pub with_told : Registers → Told → Registers
-with_told before Device = nothing
+with_told before Device = no_register_told
 with_told before (Size size) =
     slice_set before size.bar (size_line size.told.size size.told.flags)
 
 -- a line more of a log
-abbrev pub with_line : Place → Registers → LogLine → Registers
+abbrev pub with_line : FunctionPlace → Registers → LogLine → Registers
 with_line p before l =
-    if place_number l.place == place_number p then with_told before l.told else before
+    if function_place_number l.place == function_place_number p then with_told before l.told else before
 
 -- what the lines of a log tell of the function at a place
-abbrev pub told_of : List LogLine → Place → Registers
-told_of told p = fold (with_line p) nothing told
+abbrev pub registers_told : List LogLine → FunctionPlace → Registers
+registers_told told p = fold (with_line p) no_register_told told
 
 -- nothing is told of any function
-abbrev pub no_log : Place → Registers
-no_log p = nothing
+abbrev pub empty_kernel_log : FunctionPlace → Registers
+empty_kernel_log p = no_register_told
 
 -- what a text tells of each function, as a kernel's log
-pub record IsLogOf (text : List ℕ) (log : Place → Registers) : Type 0 where
+pub record IsLogOf (text : List ℕ) (log : FunctionPlace → Registers) : Type 0 where
   pub told : List LogLine
-  pub are : AreLogLines (lines_of text) told
-  pub each : (p : Place) → log p ≡ told_of told p
+  pub are : AreLogLines (file_lines text) told
+  pub each : (p : FunctionPlace) → log p ≡ registers_told told p
 
 -- what a log that was taken tells of the function at a place
 abbrev pub registers_at : Option Registers → Registers
-registers_at None = nothing
+registers_at None = no_register_told
 registers_at (Some registers) = registers
 
-abbrev pub log_of : Log → Place → Registers
-log_of log p = registers_at (get nat_cmp log.told (place_number p))
+abbrev pub log_of : Log → FunctionPlace → Registers
+log_of log p = registers_at (get nat_cmp log.told (function_place_number p))
 
 -- ---- with the file `resource`
 

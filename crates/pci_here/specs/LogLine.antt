@@ -2,7 +2,7 @@
 use Rattle.std.specs.Prelude.{◌≡◌, ◌≢◌, ◌⊎◌, ℕ, ◌+◌, ◌<◌, ◌==◌, List, [], ◌∷◌, ◌++◌, codes, length, slice_index}
 use Rattle.std.specs.List.{All, slice_split}
 use Rattle.pciplan_lists.specs.PoolWords.{IsAddressWord}
-use Rattle.pci_here.specs.Place.{Place, IsPlaceName}
+use Rattle.pci_here.specs.Place.{FunctionPlace, IsPlaceName}
 use Rattle.pci_here.specs.declared.log_line.BarSize.{BarSize}
 use Rattle.pci_here.specs.declared.log_line.LogLine.{LogLine}
 use Rattle.pci_here.specs.declared.log_line.SizeTold.{SizeTold}
@@ -12,26 +12,26 @@ use Rattle.pci_here.specs.declared.log_line.Told.TheVariants.{Device, Size}
 -- ---- the function
 
 -- the words of a line, between its blanks
-abbrev pub words : List ℕ → List (List ℕ)
-words line = slice_split (λ byte. byte == 32) line
+abbrev pub log_line_words : List ℕ → List (List ℕ)
+log_line_words line = slice_split (λ byte. byte == 32) line
 
 -- the name of a function, and a colon
-pub record IsNameWord (word : List ℕ) (p : Place) : Type 0 where
+pub record IsFunctionNameWord (word : List ℕ) (p : FunctionPlace) : Type 0 where
   pub name : List ℕ
   pub is : IsPlaceName name p
   pub text : word ≡ name ++ 58 ∷ []
 
 abbrev pub IsNoNameWord : List ℕ → Type 0
-IsNoNameWord word = (p : Place) → IsNameWord word p → ⊥
+IsNoNameWord word = (p : FunctionPlace) → IsFunctionNameWord word p → ⊥
 
 -- what a line says of a function: what stands behind the first word that names one, as in
 -- `[    0.4] pci 0000:01:00.0: BAR 2 [mem size 0x00004000]: failed to assign`
-pub record IsSaidOf (line : List ℕ) (p : Place) (text : List ℕ) : Type 0 where
+pub record IsSaidOf (line : List ℕ) (p : FunctionPlace) (text : List ℕ) : Type 0 where
   pub before : List (List ℕ)
   pub word : List ℕ
-  pub parts : words line ≡ before ++ word ∷ words text
+  pub parts : log_line_words line ≡ before ++ word ∷ log_line_words text
   pub none : All IsNoNameWord before
-  pub names : IsNameWord word p
+  pub names : IsFunctionNameWord word p
 
 -- ---- a device
 
@@ -50,10 +50,10 @@ pub record IsDevice (text : List ℕ) : Type 0 where
 
 -- the words behind the size of a BAR of memory space, and the flags that they tell
 abbrev pub IsKind : List ℕ → ℕ → Type 0
-IsKind words flags =
-    ((words ≡ codes "64bit") × (flags ≡ 516))
-    ⊎ ((words ≡ codes "pref") × (flags ≡ 520))
-    ⊎ ((words ≡ codes "64bit pref") × (flags ≡ 524))
+IsKind log_line_words flags =
+    ((log_line_words ≡ codes "64bit") × (flags ≡ 516))
+    ⊎ ((log_line_words ≡ codes "pref") × (flags ≡ 520))
+    ⊎ ((log_line_words ≡ codes "64bit pref") × (flags ≡ 524))
 
 pub record IsKindSize (text : List ℕ) (s : SizeTold) : Type 0 where
   pub digits : List ℕ
@@ -104,15 +104,15 @@ pub record IsBarSize (text : List ℕ) (size : BarSize) : Type 0 where
 
 -- ---- a line
 
-abbrev pub IsTold : List ℕ → Told → Type 0
-IsTold text Device = IsDevice text
-IsTold text (Size size) = IsBarSize text size
+abbrev pub IsLogMessage : List ℕ → Told → Type 0
+IsLogMessage text Device = IsDevice text
+IsLogMessage text (Size size) = IsBarSize text size
 
 -- a line that tells of a function's BARs
 pub record IsLogLine (line : List ℕ) (l : LogLine) : Type 0 where
   pub text : List ℕ
   pub said : IsSaidOf line l.place text
-  pub is : IsTold text l.told
+  pub is : IsLogMessage text l.told
 
 -- a line that tells of none
 abbrev pub IsNoLogLine : List ℕ → Type 0

@@ -2,14 +2,13 @@
 use Rattle.std.specs.Prelude.{◌≡◌, ◌⊎◌, ◌↔◌, ℕ, List, [], ◌∷◌, Some}
 use Rattle.std.specs.List.{Contains}
 use Rattle.std.specs.List.Sorted.{IsPermutation, IsNonDecreasingBy, IsStrictlyIncreasing}
-use Rattle.pci_here.specs.Place.{Place}
-use Rattle.pci_here.specs.Place.{IsPlaceName, place_number}
+use Rattle.pci_here.specs.Place.{FunctionPlace, IsPlaceName, function_place_number}
 use Rattle.pci_here.specs.Shown.{Shown, IsNotHad}
 use Rattle.pci_here.specs.declared.trouble.Trouble.{Trouble}
 use Rattle.pci_here.specs.declared.trouble.Trouble.TheVariants.{Unread}
 
 -- one of the names tells the place, which is of the domain
-pub record IsNamed (names : List (List ℕ)) (domain : ℕ) (p : Place) : Type 0 where
+pub record IsPlaceNamed (names : List (List ℕ)) (domain : ℕ) (p : FunctionPlace) : Type 0 where
   pub name : List ℕ
   pub has : Contains names name
   pub is : IsPlaceName name p
@@ -17,28 +16,28 @@ pub record IsNamed (names : List (List ℕ)) (domain : ℕ) (p : Place) : Type 0
 
 -- a name that tells no place of the domain
 abbrev pub IsOfNoPlace : List ℕ → ℕ → Type 0
-IsOfNoPlace name domain = (p : Place) → IsPlaceName name p → p.domain ≡ domain → ⊥
+IsOfNoPlace name domain = (p : FunctionPlace) → IsPlaceName name p → p.domain ≡ domain → ⊥
 
 -- the places of the domain that some names tell, in the order of the names
-abbrev pub ArePlacesIn : List (List ℕ) → ℕ → List Place → Type 0
-ArePlacesIn [] domain places = places ≡ []
-ArePlacesIn (name ∷ names) domain places =
-    ((p : Place) × (more : List Place) × IsPlaceName name p × (p.domain ≡ domain)
-    × ArePlacesIn names domain more × (places ≡ p ∷ more))
-    ⊎ (IsOfNoPlace name domain × ArePlacesIn names domain places)
+abbrev pub ArePlacesOfNames : List (List ℕ) → ℕ → List FunctionPlace → Type 0
+ArePlacesOfNames [] domain places = places ≡ []
+ArePlacesOfNames (name ∷ names) domain places =
+    ((p : FunctionPlace) × (more : List FunctionPlace) × IsPlaceName name p × (p.domain ≡ domain)
+    × ArePlacesOfNames names domain more × (places ≡ p ∷ more))
+    ⊎ (IsOfNoPlace name domain × ArePlacesOfNames names domain places)
 
 -- the places of a domain, by slot
-pub record ArePlacesOf (m : Shown) (domain : ℕ) (places : List Place) : Type 0 where
+pub record ArePlacesOf (m : Shown) (domain : ℕ) (places : List FunctionPlace) : Type 0 where
   pub names : List (List ℕ)
   pub are_names : m.names ≡ Some names
-  pub named : List Place
-  pub are_named : ArePlacesIn names domain named
+  pub named : List FunctionPlace
+  pub are_named : ArePlacesOfNames names domain named
   pub same : IsPermutation named places
-  pub rising : IsNonDecreasingBy place_number places
+  pub rising : IsNonDecreasingBy function_place_number places
 
 -- one of the names tells a place of the domain
 abbrev pub IsDomainNamed : List (List ℕ) → ℕ → Type 0
-IsDomainNamed names domain = (p : Place) × IsNamed names domain p
+IsDomainNamed names domain = (p : FunctionPlace) × IsPlaceNamed names domain p
 
 -- the domains in a list are exactly those of the places that the names tell
 abbrev pub AreDomainsIn : List (List ℕ) → List ℕ → Type 0

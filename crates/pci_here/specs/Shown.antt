@@ -2,7 +2,7 @@
 use Rattle.std.specs.Prelude.{◌≡◌, ℕ, ◌<◌, ◌≤◌, Bool, List, Option, None, Some, String, length, take, string_bytes}
 use Rattle.std.specs.Global.{Global}
 use Rattle.pci_here.specs.Log.{Registers}
-use Rattle.pci_here.specs.Place.{Place}
+use Rattle.pci_here.specs.Place.{FunctionPlace}
 use Rattle.pci_here.specs.declared.trouble.Trouble.{Trouble}
 use Rattle.pci_here.specs.declared.trouble.Trouble.TheVariants.{Memory, Unread, Short, NoRoot, TooMany}
 
@@ -10,17 +10,17 @@ use Rattle.pci_here.specs.declared.trouble.Trouble.TheVariants.{Memory, Unread, 
 -- of what can't be read.
 pub record Shown : Type 0 where
   pub names : Option (List (List ℕ))
-  pub config : Place → Option (List ℕ)
-  pub resource : Place → Option (List ℕ)
-  pub link : Place → Option (List ℕ)
-  pub is_virtual : Place → Option Bool
+  pub config : FunctionPlace → Option (List ℕ)
+  pub resource : FunctionPlace → Option (List ℕ)
+  pub link : FunctionPlace → Option (List ℕ)
+  pub is_virtual : FunctionPlace → Option Bool
   pub ioports : Option (List ℕ)
   pub iomem : Option (List ℕ)
   -- what the kernel's log tells of a function's registers
-  pub log : Place → Registers
+  pub log : FunctionPlace → Registers
 
 -- the machine, and what a log tells of its functions' registers
-abbrev pub with_log : Option Shown → (Place → Registers) → Option Shown
+abbrev pub with_log : Option Shown → (FunctionPlace → Registers) → Option Shown
 with_log None log = None
 with_log (Some m) log = Some record {
   names = m.names;
@@ -42,7 +42,7 @@ IsNotHad told NoRoot = ⊥
 IsNotHad told TooMany = ⊥
 
 -- the first 256 bytes of what a file holds
-pub record IsFront (told : Option (List ℕ)) (image : List ℕ) : Type 0 where
+pub record IsFileFront (told : Option (List ℕ)) (image : List ℕ) : Type 0 where
   pub bytes : List ℕ
   pub is_told : told ≡ Some bytes
   pub enough : 256 ≤ length bytes

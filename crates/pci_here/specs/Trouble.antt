@@ -3,7 +3,7 @@ use Rattle.std.specs.Prelude.{ℕ, List, [], ◌∷◌, ◌++◌, Option, None, 
 use Rattle.pci_base.specs.declared.memory.Refused.{Refused}
 use Rattle.pci_base.specs.declared.memory.Refused.TheVariants as refusals
 use Rattle.pci_dump.specs.declared.dump.PushFault.{PushFault}
-use Rattle.pci_here.specs.Place.{Place, place_text}
+use Rattle.pci_here.specs.Place.{FunctionPlace, function_place_text}
 use Rattle.pci_here.specs.declared.trouble.TroubleAt.{TroubleAt}
 use Rattle.pci_here.specs.declared.trouble.Trouble.{Trouble}
 use Rattle.pci_here.specs.declared.trouble.Trouble.TheVariants.{Memory, Unread, Short, NoRoot, TooMany}
@@ -30,9 +30,9 @@ trouble_text NoRoot = codes "no host bus"
 trouble_text TooMany = codes "8 TooMany"
 
 -- a space and the function, where there is one
-abbrev pub at_text : Option Place → List ℕ
+abbrev pub at_text : Option FunctionPlace → List ℕ
 at_text None = []
-at_text (Some place) = 32 ∷ place_text place
+at_text (Some place) = 32 ∷ function_place_text place
 
 abbrev pub trouble_at_text : TroubleAt → List ℕ
 trouble_at_text t = trouble_text t.trouble ++ at_text t.place

@@ -3,9 +3,9 @@ ghost use Rattle.std.specs.Prelude.{◌++◌, ◌∷◌, [], ℕ, List, IfOk, If
 ghost use Rattle.pci_tree.specs.Roots.{buses_of};
 ghost use Rattle.pci_here.specs.Places.{AreDomainsIn, AreDomainsOf, HasNoDomains};
 ghost use Rattle.std.specs.List.{All};
-ghost use Rattle.pci_here.specs.Functions.{IsReadable};
-ghost use Rattle.pci_here.specs.Taken.{AreTaken, IsFirstTrouble};
-ghost use Rattle.pci_here.specs.Domain.{IsToldIn, file_text, IsDomain, IsNoDomain};
+ghost use Rattle.pci_here.specs.Functions.{IsFunctionReadable};
+ghost use Rattle.pci_here.specs.Taken.{AreFunctionsTaken, IsFirstTrouble};
+ghost use Rattle.pci_here.specs.Domain.{IsToldInFile, file_text, IsDomain, IsNoDomain};
 
 use crate::functions::Functions;
 use crate::host_ranges::host_ranges;
@@ -86,9 +86,9 @@ fn functions_of<M: Machine>(
     places: &[Place],
 ) -> Result<Functions, TroubleAt>
     ensures taken { IfOk result (λ functions. IfSome (M.shown machine.now)
-        (λ m. AreTaken m places.now functions)) }
+        (λ m. AreFunctionsTaken m places.now functions)) }
     // where they have no root bus, all of them are virtual
-    ensures read { OnOk result (IfSome (M.shown machine.now) (λ m. All (IsReadable m) places.now)) }
+    ensures read { OnOk result (IfSome (M.shown machine.now) (λ m. All (IsFunctionReadable m) places.now)) }
     ensures err { IfErr result (λ at. IfSome (M.shown machine.now) (λ m. IsFirstTrouble m places.now at)) }
 {
     let mut functions = Functions::none(alloc);
@@ -113,7 +113,7 @@ fn ranges_in(
     domain: u32,
     roots: &Roots,
 ) -> Result<Option<Vec<RootRange>>, OutOfMemory>
-    ensures { IfOk result (λ list. IsToldIn (file_text text) domain (buses_of roots.now) list) }
+    ensures { IfOk result (λ list. IsToldInFile (file_text text) domain (buses_of roots.now) list) }
 {
     match text {
         Some(text) => host_ranges(alloc, text.as_str(), domain, roots),
@@ -136,9 +136,9 @@ fn host_of<M: Machine>(
     roots: &Roots,
 ) -> Result<Host, OutOfMemory>
     ensures io { IfOk result (λ host. IfSome (M.shown machine.now)
-        (λ m. IsToldIn m.ioports domain (buses_of roots.now) host.io)) }
+        (λ m. IsToldInFile m.ioports domain (buses_of roots.now) host.io)) }
     ensures mem { IfOk result (λ host. IfSome (M.shown machine.now)
-        (λ m. IsToldIn m.iomem domain (buses_of roots.now) host.mem)) }
+        (λ m. IsToldInFile m.iomem domain (buses_of roots.now) host.mem)) }
 {
     let io = ranges_in(alloc, machine.ioports(alloc)?, domain, roots)?;
     let mem = ranges_in(alloc, machine.iomem(alloc)?, domain, roots)?;

@@ -1,6 +1,6 @@
 //! One function of a machine.
 ghost use Rattle.std.specs.Prelude.{IfSome, MatchResult};
-ghost use Rattle.pci_here.specs.Functions.{IsRead, HasTrouble};
+ghost use Rattle.pci_here.specs.Functions.{IsFunctionRead, HasTrouble};
 
 use crate::link::host_bus_of;
 use crate::log::completed;
@@ -29,7 +29,7 @@ pub fn read_function<M: Machine>(
     machine: &M,
     place: Place,
 ) -> Result<Option<Function>, Trouble>
-    ensures { IfSome (M.shown machine.now) (λ m. MatchResult result (IsRead m place) (HasTrouble m place)) }
+    ensures { IfSome (M.shown machine.now) (λ m. MatchResult result (IsFunctionRead m place) (HasTrouble m place)) }
 {
     if machine.is_virtual(alloc, place)? {
         return Ok(None);

@@ -3,9 +3,9 @@ ghost use Rattle.std.specs.Prelude.{◌≡◌, ◌+◌, ◌^◌, ◌<◌, ◌≤
 ghost use Rattle.arrayvec.specs.ArrayVec.{array_vec_len};
 ghost use Rattle.pci_spec.specs.Stops.{IsAboveLast, last_slot};
 ghost use Rattle.pci_tree.specs.Roots.{buses_of, set_in};
-ghost use Rattle.pci_here.specs.Place.{Place as PlaceValue};
-ghost use Rattle.pci_here.specs.Functions.{IsReadable, IsNotPut, IsNotTaken};
-ghost use Rattle.pci_here.specs.Taken.{AreTaken, IsNoneTaken};
+ghost use Rattle.pci_here.specs.Place.{FunctionPlace as PlaceValue};
+ghost use Rattle.pci_here.specs.Functions.{IsFunctionReadable, IsNotPut, IsNotTaken};
+ghost use Rattle.pci_here.specs.Taken.{AreFunctionsTaken, IsNoneTaken};
 
 use crate::function::{Function, read_function};
 use crate::machine::Machine;
@@ -81,11 +81,11 @@ impl Functions {
         // there are no more virtual functions than places
         requires { self.old.left_out < 2 ^ 63 }
         ensures few { OnOk result (self.new.left_out ≤ self.old.left_out + 1) }
-        ensures read { OnOk result (IfSome (M.shown machine.now) (λ m. IsReadable m place)) }
+        ensures read { OnOk result (IfSome (M.shown machine.now) (λ m. IsFunctionReadable m place)) }
         ensures err { IfErr result (λ t. IfSome (M.shown machine.now) (λ m. (places : List PlaceValue)
-            → AreTaken m places self.old → IsNotTaken m places place t)) }
+            → AreFunctionsTaken m places self.old → IsNotTaken m places place t)) }
         ensures taken { OnOk result (IfSome (M.shown machine.now) (λ m. (places : List PlaceValue)
-            → AreTaken m places self.old → AreTaken m (places ++ place ∷ []) self.new)) }
+            → AreFunctionsTaken m places self.old → AreFunctionsTaken m (places ++ place ∷ []) self.new)) }
     {
         match read_function(alloc, machine, place)? {
             Some(function) => {

@@ -3,7 +3,7 @@ ghost use Rattle.std.specs.Prelude.{◌≡◌, ◌↔◌, ◌∷◌, [], ℕ, Li
 ghost use Rattle.std.specs.List.{list_any};
 ghost use Rattle.pci_base.specs.declared.range.RootRange.{RootRange};
 ghost use Rattle.pci_tree.specs.Roots.{buses_of};
-ghost use Rattle.pci_here.specs.HostRanges.{IsOfHost, IsHostLine, IsNoHostLine, AreRangesOf, HasFound, lines_of, lies_within, outer_ranges, IsToldBy};
+ghost use Rattle.pci_here.specs.HostRanges.{IsOfHost, IsHostLine, IsNoHostLine, AreRangesOf, HasFound, file_lines, lies_within_same_bus, outer_ranges, IsToldBy};
 
 use crate::bus_line::{BusRange, bus_range_of};
 use crate::part::first_part;
@@ -62,7 +62,7 @@ fn ranges_of(
     roots: &Roots,
 ) -> Result<Vec<RootRange>, OutOfMemory>
     ensures { IfOk result
-        (λ ranges. AreRangesOf domain (buses_of roots.now) (lines_of text.now) ranges.items) }
+        (λ ranges. AreRangesOf domain (buses_of roots.now) (file_lines text.now) ranges.items) }
 {
     let mut ranges = Vec::new(alloc);
     let mut left = Some(text);
@@ -76,7 +76,7 @@ fn ranges_of(
 
 /// Whether a range lies within another one of the same bus.
 fn is_within(range: &RootRange, other: &RootRange) -> bool
-    ensures { result ≡ lies_within range.now other.now }
+    ensures { result ≡ lies_within_same_bus range.now other.now }
 {
     range.root == other.root
         && other.range.first <= range.range.first
@@ -85,7 +85,7 @@ fn is_within(range: &RootRange, other: &RootRange) -> bool
 
 /// Whether a range lies within one of some ranges.
 fn lies_in_one(range: &RootRange, ranges: &[RootRange]) -> bool
-    ensures { result ≡ list_any (lies_within range.now) ranges.now }
+    ensures { result ≡ list_any (lies_within_same_bus range.now) ranges.now }
 {
     for other in ranges {
         if is_within(range, other) {

@@ -1,9 +1,9 @@
 //! Sizes of BARs that the kernel's log tells.
 ghost use Rattle.std.specs.Prelude.{◌≡◌, ◌∷◌, ℕ, List, OnOk, IfOk};
-ghost use Rattle.pci_here.specs.HostRanges.{lines_of};
-ghost use Rattle.pci_here.specs.Log.{Registers, IsLogOf, chosen, completed, log_of, nothing, size_line, told_of, with_line, with_told};
+ghost use Rattle.pci_here.specs.HostRanges.{file_lines};
+ghost use Rattle.pci_here.specs.Log.{Registers, IsLogOf, chosen, completed, log_of, no_register_told, size_line, registers_told, with_line, with_told};
 ghost use Rattle.pci_here.specs.LogLine.{AreLogLines, HasTold};
-ghost use Rattle.pci_here.specs.Place.{Place as PlaceValue};
+ghost use Rattle.pci_here.specs.Place.{FunctionPlace as PlaceValue};
 
 use crate::log_line::{LogLine, Told, log_line_of};
 use crate::part::first_part;
@@ -54,7 +54,7 @@ fn add_line(told: &mut Vec<LogLine>, line: &str) -> Result<(), OutOfMemory>
 
 /// What the lines of a text tell, in their order.
 fn lines_told(alloc: Global, text: &str) -> Result<Vec<LogLine>, OutOfMemory>
-    ensures { IfOk result (λ told. AreLogLines (lines_of text.now) told.items) }
+    ensures { IfOk result (λ told. AreLogLines (file_lines text.now) told.items) }
 {
     let mut told = Vec::new(alloc);
     let mut left = Some(text);
@@ -104,7 +104,7 @@ fn with_told(before: Registers, told: Told) -> Registers
 impl Log {
     /// A log that tells nothing.
     pub fn none(alloc: Global) -> Log
-        ensures { (p : PlaceValue) → log_of result p ≡ nothing }
+        ensures { (p : PlaceValue) → log_of result p ≡ no_register_told }
     {
         Log {
             told: BTreeMap::new(alloc),
@@ -132,7 +132,7 @@ impl Log {
 
     /// What some lines tell, one behind the other.
     fn of_lines(alloc: Global, lines: &[LogLine]) -> Result<Log, OutOfMemory>
-        ensures { IfOk result (λ log. (p : PlaceValue) → log_of log p ≡ told_of lines.now p) }
+        ensures { IfOk result (λ log. (p : PlaceValue) → log_of log p ≡ registers_told lines.now p) }
     {
         let mut log = Log::none(alloc);
         for line in lines {

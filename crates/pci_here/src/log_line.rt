@@ -1,7 +1,7 @@
 //! A line of the kernel's log that tells of a function's BARs.
 ghost use Rattle.std.specs.Prelude.{◌≡◌, ◌⊎◌, ◌↔◌, ℕ, List, Some, IsTrue, IfSome, MatchOption};
-ghost use Rattle.pci_here.specs.Place.{Place as PlaceValue};
-ghost use Rattle.pci_here.specs.LogLine.{IsBarSize, IsBarText, IsBehindNumber, IsDevice, IsIoText, IsKind, IsKindSize, IsLogLine, IsNameWord, IsNoLogLine, IsPlainSize, IsSaidOf, IsSizeText, IsTold};
+ghost use Rattle.pci_here.specs.Place.{FunctionPlace as PlaceValue};
+ghost use Rattle.pci_here.specs.LogLine.{IsBarSize, IsBarText, IsBehindNumber, IsDevice, IsIoText, IsKind, IsKindSize, IsLogLine, IsFunctionNameWord, IsNoLogLine, IsPlainSize, IsSaidOf, IsSizeText, IsLogMessage};
 ghost use Rattle.pci_here.specs.declared.log_line.BarSize.{BarSize};
 ghost use Rattle.pci_here.specs.declared.log_line.SizeTold.{SizeTold};
 ghost use Rattle.pci_here.specs.declared.log_line.Told.{Told};
@@ -61,8 +61,8 @@ pub struct LogLine {
 /// The function that a word `DDDD:bb:dd.f:` names. There is none of any other word.
 #[tactic(auto, using(crate::proofs::LogWords::name_found, crate::proofs::LogWords::no_name))]
 fn place_named(word: &str) -> Option<Place>
-    ensures name { IfSome result (λ place. IsNameWord word.now place) }
-    ensures only { (place : PlaceValue) → IsNameWord word.now place → result ≡ Some place }
+    ensures name { IfSome result (λ place. IsFunctionNameWord word.now place) }
+    ensures only { (place : PlaceValue) → IsFunctionNameWord word.now place → result ≡ Some place }
 {
     let name = word.strip_suffix(':')?;
     place_of(name)
@@ -211,7 +211,7 @@ fn size_of(text: &str) -> Option<BarSize>
 /// What a text behind a function's name tells of it.
 #[tactic(auto, using(crate::proofs::LogForms::nothing_told))]
 fn told_of(text: &str) -> Option<Told>
-    ensures { MatchOption result ((told : Told) → IsTold text.now told → ⊥) (IsTold text.now) }
+    ensures { MatchOption result ((told : Told) → IsLogMessage text.now told → ⊥) (IsLogMessage text.now) }
 {
     match behind_device(text) {
         Some(_) => Some(Told::Device),

@@ -1,6 +1,6 @@
 //! What is told of a machine.
 ghost use Rattle.std.specs.Prelude.{◌≡◌, Option, Some, IfSome, IfOk, MatchResult, map, string_bytes};
-ghost use Rattle.pci_here.specs.Shown.{Shown, IsFront, IsText, IsNotHad, IsNoFront};
+ghost use Rattle.pci_here.specs.Shown.{Shown, IsFileFront, IsText, IsNotHad, IsNoFront};
 
 use crate::log::Registers;
 use crate::place::Place;
@@ -22,7 +22,7 @@ pub trait Machine {
     /// The first 256 bytes of a function's configuration space. `Short` where there are less.
     fn config(&self, alloc: Global, place: Place) -> Result<Image, Trouble>
         ensures { IfSome (shown self.now) (λ m. MatchResult result
-            (λ image. IsFront (m.config place) image.0) (IsNoFront (m.config place))) };
+            (λ image. IsFileFront (m.config place) image.0) (IsNoFront (m.config place))) };
 
     /// The text that tells of a function's address registers.
     fn resource(&self, alloc: Global, place: Place) -> Result<String, Trouble>

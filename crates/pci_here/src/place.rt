@@ -1,6 +1,6 @@
 //! Where a function stands: its domain and its slot.
 ghost use Rattle.std.specs.Prelude.{◌≡◌, ℕ, Some, IfSome};
-ghost use Rattle.pci_here.specs.Place.{Place as PlaceValue, IsDomainWord, IsPlaceName, place_number};
+ghost use Rattle.pci_here.specs.Place.{FunctionPlace as PlaceValue, IsDomainWord, IsPlaceName, function_place_number};
 
 use pci_base::slot::Slot;
 use pciplan_lists::pool_word::address_of;
@@ -21,7 +21,7 @@ pub struct Place {
 }
 
 impl Model for Place {
-    ghost use Rattle.pci_here.specs.Place.{Place as PlaceValue};
+    ghost use Rattle.pci_here.specs.Place.{FunctionPlace as PlaceValue};
 
     ghost Value = { PlaceValue };
 
@@ -33,7 +33,7 @@ impl Model for Place {
 impl Place {
     /// The place as one number of 48 bits, which orders places: the domain above the slot's number.
     pub fn number(self) -> u64
-        ensures { result ≡ place_number self }
+        ensures { result ≡ function_place_number self }
     {
         u64::from(self.domain) * 65536 + u64::from(self.slot.number())
     }
@@ -42,9 +42,9 @@ impl Place {
 /// `DDDD:bb:dd.f`, in lower-case hex digits; of a domain above ffff in as many digits as it has.
 impl fmt::Display for Place {
     ghost use Rattle.std.specs.Prelude.{Some};
-    ghost use Rattle.pci_here.specs.Place.{place_text};
+    ghost use Rattle.pci_here.specs.Place.{function_place_text};
 
-    ghost output = { λ p. Some (place_text p) };
+    ghost output = { λ p. Some (function_place_text p) };
 
     fn fmt<W: fmt::Write>(&self, f: &mut fmt::Formatter<W>) -> fmt::Result {
         let domain = self.domain;

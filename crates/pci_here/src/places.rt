@@ -1,6 +1,6 @@
 //! The places of a domain's functions.
 ghost use Rattle.std.specs.Prelude.{◌++◌, ◌∷◌, [], ℕ, List, IfOk, OnOk, IfSome, MatchResult, map, string_bytes};
-ghost use Rattle.pci_here.specs.Places.{ArePlacesIn, ArePlacesOf};
+ghost use Rattle.pci_here.specs.Places.{ArePlacesOfNames, ArePlacesOf};
 ghost use Rattle.pci_here.specs.Shown.{IsNotHad};
 
 use crate::machine::Machine;
@@ -10,8 +10,8 @@ use std::alloc::{AllocError, Global};
 
 /// Adds the place that a name tells, where it is of the domain.
 fn add_place(places: &mut Vec<Place>, name: &str, domain: u32) -> Result<(), AllocError>
-    ensures { OnOk result ((names : List (List ℕ)) → ArePlacesIn names domain places.old.items
-        → ArePlacesIn (names ++ name.now ∷ []) domain places.new.items) }
+    ensures { OnOk result ((names : List (List ℕ)) → ArePlacesOfNames names domain places.old.items
+        → ArePlacesOfNames (names ++ name.now ∷ []) domain places.new.items) }
 {
     match place_of(name) {
         Some(place) if place.domain == domain => {
@@ -24,7 +24,7 @@ fn add_place(places: &mut Vec<Place>, name: &str, domain: u32) -> Result<(), All
 
 /// The places of a domain that names tell, in their order.
 fn places_in(alloc: Global, names: &[String], domain: u32) -> Result<Vec<Place>, AllocError>
-    ensures { IfOk result (λ places. ArePlacesIn (map string_bytes names.now) domain places.items) }
+    ensures { IfOk result (λ places. ArePlacesOfNames (map string_bytes names.now) domain places.items) }
 {
     let mut places = Vec::new(alloc);
     for name in names {

@@ -2,7 +2,7 @@
 use Rattle.std.proofs.Common.{arith, ◌≡◌, ℕ, List, [], ◌∷◌, Bool, true, false, refl, sym, ap, ◌∙◌, codes, if◌then◌else◌}
 use Rattle.std.proofs.lemmas.Bool.{false≢true}
 use Rattle.json.specs.Json.{string}
-use Rattle.pci_json.specs.Lines.{parts_of, lines_of, content_of, is_inner, is_word}
+use Rattle.pci_json.specs.Lines.{parts_of_text, lines_of_text, content_of, is_inner, is_word}
 use Rattle.pci_json.specs.Members.{object_of}
 use Rattle.pci_json.specs.Listings.{rom_members}
 use Rattle.pci_json.specs.Groups.{inner_of, has_any, why_member, why_members, is_claim, single_members}
@@ -26,13 +26,13 @@ room_if : (deep : Bool) (first : List ℕ) (more : List (List ℕ)) → has_any 
 room_if true first more any = refl
 room_if false first more any = absurd (false≢true any)
 
-pub room_one : (text : List ℕ) → has_any (inner_of (lines_of text)) ≡ true
-    → room_member (inner_of (lines_of text)) ≡ (codes "why", object_of ((codes "text", string (content_of (first_line text))) ∷ [])) ∷ []
-unfolding parts_of
+pub room_one : (text : List ℕ) → has_any (inner_of (lines_of_text text)) ≡ true
+    → room_member (inner_of (lines_of_text text)) ≡ (codes "why", object_of ((codes "text", string (content_of (first_line text))) ∷ [])) ∷ []
+unfolding parts_of_text
 room_one [] any = absurd (false≢true any)
 room_one (b ∷ text) any =
     let cut = ap inner_of (parts_cut 10 (b ∷ text) (omega arith)) in
-    ap room_member cut ∙ room_if (is_inner (first_line (b ∷ text))) (content_of (first_line (b ∷ text))) (inner_of (lines_of (behind_line (b ∷ text)))) (sym (ap has_any cut) ∙ any)
+    ap room_member cut ∙ room_if (is_inner (first_line (b ∷ text))) (content_of (first_line (b ∷ text))) (inner_of (lines_of_text (behind_line (b ∷ text)))) (sym (ap has_any cut) ∙ any)
 
 pub no_claim : (line : List ℕ) → is_word 0 (codes "needs") line ≡ false → is_word 0 (codes "first") line ≡ false → is_word 0 (codes "second") line ≡ false
     → is_claim line ≡ false

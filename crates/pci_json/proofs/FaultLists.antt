@@ -10,7 +10,7 @@ use Rattle.pci_spec.specs.Line.{field, address_text, fault_text}
 use Rattle.pci_spec.specs.Fault.{Fault, NoVendor, HeaderKind, BarType, BarMask, BarPair, RomMask, WindowMask, CapRange, CapLoop, CapCut, SlotsDiffer, StrayProbe, LoneFunction, OfProfile, BusRange, Orphan, Unreached, Clash, Split}
 use Rattle.judge_spec.specs.Fault as given
 use Rattle.judge_spec.specs.Line as given_line
-use Rattle.pci_json.specs.Lines.{parts_of, put_front, lines_of, content_of, is_inner, behind}
+use Rattle.pci_json.specs.Lines.{parts_of_text, put_front, lines_of_text, content_of, is_inner, behind_words}
 use Rattle.pci_json.specs.Members.{object_of}
 use Rattle.pci_json.specs.Faults.{fault_members}
 use Rattle.pci_json.specs.Groups.{inner_of, why_member, fault_object}
@@ -23,8 +23,8 @@ use Rattle.pci_json.proofs.ProfileTexts.{profile_line}
 
 -- ---- a fault is one line
 
-put_more : (here : Bool) (b : ℕ) (w rest : List ℕ) → not here ≡ true → parts_of 10 (w ++ 10 ∷ rest) ≡ w ∷ parts_of 10 rest
-    → (if here then [] ∷ parts_of 10 (w ++ 10 ∷ rest) else put_front b (parts_of 10 (w ++ 10 ∷ rest))) ≡ (b ∷ w) ∷ parts_of 10 rest
+put_more : (here : Bool) (b : ℕ) (w rest : List ℕ) → not here ≡ true → parts_of_text 10 (w ++ 10 ∷ rest) ≡ w ∷ parts_of_text 10 rest
+    → (if here then [] ∷ parts_of_text 10 (w ++ 10 ∷ rest) else put_front b (parts_of_text 10 (w ++ 10 ∷ rest))) ≡ (b ∷ w) ∷ parts_of_text 10 rest
 put_more true b w rest is more = absurd (false≢true is)
 put_more false b w rest is more = ap (put_front b) more
 
@@ -36,8 +36,8 @@ right_of : (a b : Bool) → a && b ≡ true → b ≡ true
 right_of true b is = is
 right_of false b is = absurd (false≢true is)
 
-pub one_line : (w rest : List ℕ) → lacks 10 w ≡ true → lines_of (w ++ 10 ∷ rest) ≡ w ∷ lines_of rest
-unfolding parts_of
+pub one_line : (w rest : List ℕ) → lacks 10 w ≡ true → lines_of_text (w ++ 10 ∷ rest) ≡ w ∷ lines_of_text rest
+unfolding parts_of_text
 one_line [] rest ok = refl
 one_line (b ∷ w) rest ok =
     put_more (b == 10) b w rest (left_of (not (b == 10)) (lacks 10 w) ok) (one_line w rest (right_of (not (b == 10)) (lacks 10 w) ok))
@@ -94,7 +94,7 @@ pub record IsOfFault (line : List ℕ) : Type 0 where
   pub outer : is_inner line ≡ false
 
 pub of_known : (f : Fault) → IsOfFault (fault_text f)
-unfolding behind
+unfolding behind_words
 of_known (NoVendor s) = record { is = refl; content = refl; outer = refl }
 of_known (HeaderKind s) = record { is = refl; content = refl; outer = refl }
 of_known (SlotsDiffer s) = record { is = refl; content = refl; outer = refl }
@@ -116,17 +116,17 @@ of_known (Clash bus space a s r t q) = record { is = refl; content = refl; outer
 of_known (Split space a s r t q) = record { is = refl; content = refl; outer = refl }
 
 of_given : (f : given.Fault) → IsOfFault (given_line.fault_text f)
-unfolding behind
+unfolding behind_words
 of_given (given.Known fault) = of_known fault
 of_given (given.Outside s r space a) = record { is = refl; content = refl; outer = refl }
 
 -- ---- the list
 
-texts : (faults : List given.Fault) → lines_of (flat_map given_line.fault_line faults) ≡ map given_line.fault_text faults
-unfolding parts_of
+texts : (faults : List given.Fault) → lines_of_text (flat_map given_line.fault_line faults) ≡ map given_line.fault_text faults
+unfolding parts_of_text
 texts [] = refl
 texts (f ∷ fs) =
-    ap lines_of (append_assoc (given_line.fault_text f) (10 ∷ []) (flat_map given_line.fault_line fs))
+    ap lines_of_text (append_assoc (given_line.fault_text f) (10 ∷ []) (flat_map given_line.fault_line fs))
     ∙ one_line (given_line.fault_text f) (flat_map given_line.fault_line fs) (one_each f) ∙ ap (λ (ls : List (List ℕ)). given_line.fault_text f ∷ ls) (texts fs)
 
 none_inner : (faults : List given.Fault) → inner_of (map given_line.fault_text faults) ≡ []
@@ -134,8 +134,8 @@ none_inner [] = refl
 none_inner (f ∷ fs) =
     ap (λ (b : Bool). if b then content_of (given_line.fault_text f) ∷ inner_of (map given_line.fault_text fs) else []) (of_given f).outer
 
-object : (f : given.Fault) (behind : List (List ℕ)) → inner_of behind ≡ [] → fault_object (given_line.fault_text f) behind ≡ object_of (all_given_values f)
-object f behind none =
+object : (f : given.Fault) (behind_words : List (List ℕ)) → inner_of behind_words ≡ [] → fault_object (given_line.fault_text f) behind_words ≡ object_of (all_given_values f)
+object f behind_words none =
     ap (λ (ls : List (List ℕ)). object_of (fault_members (given_line.fault_text f) ++ why_member ls)) none
     ∙ ap object_of (append-nil (fault_members (given_line.fault_text f)) ∙ has_given_fault_members f)
 
@@ -149,6 +149,6 @@ each (f ∷ fs) =
     (each fs)
 
 pub has_each_fault : HasEachFault
-unfolding parts_of behind
+unfolding parts_of_text behind_words
 has_each_fault [] = refl
 has_each_fault (f ∷ fs) = ap faults_of (texts (f ∷ fs)) ∙ each (f ∷ fs)

@@ -8,7 +8,7 @@ use Rattle.std.specs.Cmp.Lexicographic.{pointwise}
 use Rattle.std.specs.Prelude.{nat_eq}
 use Rattle.std.specs.Str.{IsUtf8, IsCharBoundary}
 use Rattle.memchr.specs.Find.{NoneBefore, Nowhere, Passes, is_byte}
-use Rattle.pci_json.specs.Lines.{is_blank, is_word, behind}
+use Rattle.pci_json.specs.Lines.{is_blank, is_word, behind_words}
 
 ascii_there : (byte : ℕ) (s : List ℕ) → byte < 128 → position_or_len (λ b. b == byte) s < length s → get_or s (position_or_len (λ b. b == byte) s) 0 < 128
 ascii_there byte s small here =
@@ -47,7 +47,7 @@ apart_at false a b n s w apart =
     ap (λ k. pointwise nat_eq (take k (a ∷ s)) (b ∷ w)) one ∙ ap (λ (t : Bool). t && pointwise nat_eq (take n s) w) apart
 
 pub apart : (s w : List ℕ) → (length s == 0) ≡ false → (length w == 0) ≡ false → nat_eq (get_or s 0 0) (get_or w 0 0) ≡ false → is_word 0 w s ≡ false
-unfolding behind
+unfolding behind_words
 apart [] w some also differ = absurd (true≢false some)
 apart (a ∷ s) [] some also differ = absurd (true≢false also)
 apart (a ∷ s) (b ∷ w) some also differ = apart_at (is_blank a) a b (position_or_len is_blank s) s w differ

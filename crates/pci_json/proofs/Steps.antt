@@ -4,14 +4,14 @@ use Rattle.std.proofs.lemmas.Bool.{eqb-true}
 use Rattle.json.specs.Json.{Json}
 use Rattle.json.specs.Token.{Token}
 use Rattle.json.specs.Tree.{json_tokens}
-use Rattle.pci_json.specs.Lines.{parts_of, content_of, is_inner}
+use Rattle.pci_json.specs.Lines.{parts_of_text, content_of, is_inner}
 use Rattle.pci_json.specs.Members.{with_members, with_items}
 use Rattle.pci_json.specs.Groups.{inner_of}
 use Rattle.pci_json.proofs.Tokens.{more_members, more_items}
 
 -- nothing is left
-pub no_parts : (end : ℕ) (text : List ℕ) (empty : Bool) → empty ≡ (length text == 0) → empty ≡ true → parts_of end text ≡ []
-unfolding parts_of
+pub no_parts : (end : ℕ) (text : List ℕ) (empty : Bool) → empty ≡ (length text == 0) → empty ≡ true → parts_of_text end text ≡ []
+unfolding parts_of_text
 no_parts end [] empty is none = refl
 no_parts end (b ∷ text) empty is none = absurd (let long = eqb-true (length (b ∷ text)) 0 (sym is ∙ none) in let no : ⊥ = omega (arith, long) in no)
 

@@ -4,7 +4,7 @@ use Rattle.std.proofs.lemmas.Grind.{fold-append}
 use Rattle.json.specs.Json.{Json}
 use Rattle.json.specs.Token.{Token}
 use Rattle.json.specs.Tree.{json_tokens, members_tokens, items_tokens}
-use Rattle.pci_json.specs.Members.{with_members, with_items, add_member, add_item, member_tokens, members_of, items_of, object_of, array_of, hex}
+use Rattle.pci_json.specs.Members.{with_members, with_items, add_member, add_item, member_tokens, members_of, array_items, object_of, array_of, hex}
 
 members_written : (a : List Token) (ms : List (List ℕ × Json)) → with_members a ms ++ Token.end_object ∷ [] ≡ a ++ members_tokens (members_of ms)
 members_written a [] = refl
@@ -14,13 +14,13 @@ pub object_written : (a : List Token) (ms : List (List ℕ × Json))
     → with_members (a ++ Token.begin_object ∷ []) ms ++ Token.end_object ∷ [] ≡ a ++ json_tokens (object_of ms)
 object_written a ms = members_written (a ++ Token.begin_object ∷ []) ms ∙ append_assoc a (Token.begin_object ∷ []) (members_tokens (members_of ms))
 
-items_written : (a : List Token) (js : List Json) → with_items a js ++ Token.end_array ∷ [] ≡ a ++ items_tokens (items_of js)
+items_written : (a : List Token) (js : List Json) → with_items a js ++ Token.end_array ∷ [] ≡ a ++ items_tokens (array_items js)
 items_written a [] = refl
-items_written a (j ∷ js) = items_written (a ++ json_tokens j) js ∙ append_assoc a (json_tokens j) (items_tokens (items_of js))
+items_written a (j ∷ js) = items_written (a ++ json_tokens j) js ∙ append_assoc a (json_tokens j) (items_tokens (array_items js))
 
 pub array_written : (a : List Token) (js : List Json)
     → with_items (a ++ Token.begin_array ∷ []) js ++ Token.end_array ∷ [] ≡ a ++ json_tokens (array_of js)
-array_written a js = items_written (a ++ Token.begin_array ∷ []) js ∙ append_assoc a (Token.begin_array ∷ []) (items_tokens (items_of js))
+array_written a js = items_written (a ++ Token.begin_array ∷ []) js ∙ append_assoc a (Token.begin_array ∷ []) (items_tokens (array_items js))
 
 pub member_written : (a : List Token) (name : List ℕ) (j : Json) → (a ++ Token.key name ∷ []) ++ json_tokens j ≡ a ++ member_tokens (name, j)
 member_written a name j = append_assoc a (Token.key name ∷ []) (json_tokens j)

@@ -10,7 +10,7 @@ use Rattle.pci_spec.specs.Fault.{Fault, NoVendor, HeaderKind, BarType, BarMask, 
 use Rattle.judge_spec.specs.Fault as given
 use Rattle.judge_spec.specs.ToldFault as told
 use Rattle.judge_spec.specs.ToldLine.{register_text, region_text, fault_text, fault_line}
-use Rattle.pci_json.specs.Lines.{parts_of, lines_of, content_of, behind}
+use Rattle.pci_json.specs.Lines.{parts_of_text, lines_of_text, content_of, behind_words}
 use Rattle.pci_json.specs.Members.{object_of}
 use Rattle.pci_json.specs.Faults.{fault_members}
 use Rattle.pci_json.specs.Groups.{inner_of, why_member, fault_object}
@@ -81,7 +81,7 @@ one_each (told.NotListed s) names = slot s
 -- ---- it is a fault's line, and is not indented
 
 of_plain : (f : Fault) → IsOfFault (fault_text (told.Known (given.Known f)))
-unfolding behind
+unfolding behind_words
 of_plain (NoVendor s) = of_known (NoVendor s)
 of_plain (HeaderKind s) = of_known (HeaderKind s)
 of_plain (SlotsDiffer s) = of_known (SlotsDiffer s)
@@ -103,7 +103,7 @@ of_plain (Clash bus space a s r t q) = record { is = refl; content = refl; outer
 of_plain (Split space a s r t q) = record { is = refl; content = refl; outer = refl }
 
 of_told : (f : told.Fault) → IsOfFault (fault_text f)
-unfolding behind
+unfolding behind_words
 of_told (told.Known (given.Known fault)) = of_plain fault
 of_told (told.Known (given.Outside s r space a)) = record { is = refl; content = refl; outer = refl }
 of_told (told.NotListed s) = record { is = refl; content = refl; outer = refl }
@@ -113,11 +113,11 @@ of_told (told.NotListed s) = record { is = refl; content = refl; outer = refl }
 behind_first : (f : told.Fault) (fs : List told.Fault) → All NamesRegisters (f ∷ fs) → All NamesRegisters fs
 behind_first f fs all = λ k d less. all (suc k) d (omega (arith, less))
 
-texts : (faults : List told.Fault) → All NamesRegisters faults → lines_of (flat_map fault_line faults) ≡ map fault_text faults
-unfolding parts_of
+texts : (faults : List told.Fault) → All NamesRegisters faults → lines_of_text (flat_map fault_line faults) ≡ map fault_text faults
+unfolding parts_of_text
 texts [] all = refl
 texts (f ∷ fs) all =
-    ap lines_of (append_assoc (fault_text f) (10 ∷ []) (flat_map fault_line fs))
+    ap lines_of_text (append_assoc (fault_text f) (10 ∷ []) (flat_map fault_line fs))
     ∙ one_line (fault_text f) (flat_map fault_line fs) (one_each f (all 0 f (omega arith)))
     ∙ ap (λ (ls : List (List ℕ)). fault_text f ∷ ls) (texts fs (behind_first f fs all))
 
@@ -126,8 +126,8 @@ none_inner [] = refl
 none_inner (f ∷ fs) =
     ap (λ (b : Bool). if b then content_of (fault_text f) ∷ inner_of (map fault_text fs) else []) (of_told f).outer
 
-object : (f : told.Fault) (behind : List (List ℕ)) → NamesRegisters f → inner_of behind ≡ [] → fault_object (fault_text f) behind ≡ object_of (all_told_values f)
-object f behind names none =
+object : (f : told.Fault) (behind_words : List (List ℕ)) → NamesRegisters f → inner_of behind_words ≡ [] → fault_object (fault_text f) behind_words ≡ object_of (all_told_values f)
+object f behind_words names none =
     ap (λ (ls : List (List ℕ)). object_of (fault_members (fault_text f) ++ why_member ls)) none
     ∙ ap object_of (append-nil (fault_members (fault_text f)) ∙ has_told_fault_members f names)
 
@@ -140,6 +140,6 @@ each (f ∷ fs) all =
     (each fs (behind_first f fs all))
 
 pub has_each_told_fault : HasEachToldFault
-unfolding parts_of behind
+unfolding parts_of_text behind_words
 has_each_told_fault [] all = refl
 has_each_told_fault (f ∷ fs) all = ap faults_of (texts (f ∷ fs) all) ∙ each (f ∷ fs) all

@@ -10,8 +10,8 @@ use Rattle.pci_spec.specs.Fault.{Fault, NoVendor, HeaderKind, BarType, BarMask, 
 use Rattle.judge_spec.specs.Fault as given
 use Rattle.judge_spec.specs.ToldFault as told
 use Rattle.judge_spec.specs.ToldLine.{register_text, fault_text}
-use Rattle.pci_json.specs.Lines.{behind}
-use Rattle.pci_json.specs.Members.{hex, count, object_of, array_of, line_number, register_or_line}
+use Rattle.pci_json.specs.Lines.{behind_words}
+use Rattle.pci_json.specs.Members.{hex, json_count, object_of, array_of, also_line_number, register_or_line}
 use Rattle.pci_json.specs.Faults.{fault_members, unreached_members, clash_members, split_members, outside_members}
 use Rattle.pci_json.specs.FaultValues.{slot_value, address_values, told_region_values, two_told_region_values, all_told_values}
 use Rattle.pci_json.specs.FaultLaws.{IsRegister, NamesPlain, HasToldFaultMembers}
@@ -25,10 +25,10 @@ register_ok r ok = register_lacks 32 r (omega arith) ok
 
 value_if : (small : Bool) (r : ℕ) → IsRegister r
     → register_or_line (if small then hex_byte r else 43 ∷ decimal (r - 255))
-    ≡ (if small then (codes "register", hex (hex_byte r)) ∷ [] else (codes "line", count (r - 255)) ∷ [])
+    ≡ (if small then (codes "register", hex (hex_byte r)) ∷ [] else (codes "line", json_count (r - 255)) ∷ [])
 value_if true r ok =
-    ap (λ (b : Bool). if b then (codes "line", count (line_number (hex_byte r))) ∷ [] else (codes "register", hex (hex_byte r)) ∷ []) (no_plus r)
-value_if false r ok = ap (λ (n : ℕ). (codes "line", count n) ∷ []) (decimal_value (r - 255) (omega (arith, ok)))
+    ap (λ (b : Bool). if b then (codes "line", json_count (also_line_number (hex_byte r))) ∷ [] else (codes "register", hex (hex_byte r)) ∷ []) (no_plus r)
+value_if false r ok = ap (λ (n : ℕ). (codes "line", json_count n) ∷ []) (decimal_value (r - 255) (omega (arith, ok)))
 
 of_region : (s : Slot) (r : ℕ) → IsRegister r → region_named s (register_text r) ≡ told_region_values s r
 of_region s r ok = ap (λ (v : List (List ℕ × Json)). (codes "slot", string (slot_text s)) ∷ v) (value_if (nat_lt r 256) r ok)
@@ -41,7 +41,7 @@ of_regions s r t q ok also =
 -- ---- the forms of lines
 
 unreached : (line : List ℕ) (s : Slot) (r : ℕ) (space : Space) (a : ℕ) (b : Slot) → IsRegister r
-    → behind 2 line ≡ slot_text s ++ tail_of (register_text r ∷ space_text space ∷ address_text space a ∷ codes "bridge" ∷ slot_text b ∷ [])
+    → behind_words 2 line ≡ slot_text s ++ tail_of (register_text r ∷ space_text space ∷ address_text space a ∷ codes "bridge" ∷ slot_text b ∷ [])
     → unreached_members line ≡ told_region_values s r ++ (address_values space a ++ slot_value (codes "bridge") b)
 unreached line s r space a b ok at =
     unreached_named line s (register_text r) space a b (register_ok r ok) at
@@ -56,7 +56,7 @@ abbrev two_at_end : Slot → ℕ → Slot → List ℕ → List ℕ
 two_at_end s r t end = field (slot_text s) ++ (field (register_text r) ++ (field (slot_text t) ++ field end))
 
 clash : (line : List ℕ) (bus : ℕ) (space : Space) (a : ℕ) (s : Slot) (r : ℕ) (t : Slot) (q : ℕ) → IsRegister r → IsRegister q
-    → behind 2 line ≡ codes "bus" ++ (field (hex_byte bus) ++ (field (space_text space) ++ (field (address_text space a) ++ two_at_end s r t (register_text q))))
+    → behind_words 2 line ≡ codes "bus" ++ (field (hex_byte bus) ++ (field (space_text space) ++ (field (address_text space a) ++ two_at_end s r t (register_text q))))
     → clash_members line ≡ (codes "bus", string (hex_byte bus)) ∷ (address_values space a ++ two_told_region_values s r t q)
 clash line bus space a s r t q ok also at =
     clash_named line bus space a s (register_text r) t (register_text q) (register_ok r ok) (register_ok q also)
@@ -64,7 +64,7 @@ clash line bus space a s r t q ok also at =
     ∙ ap (λ (v : List (List ℕ × Json)). (codes "bus", string (hex_byte bus)) ∷ (address_values space a ++ v)) (of_regions s r t q ok also)
 
 split : (line : List ℕ) (space : Space) (a : ℕ) (s : Slot) (r : ℕ) (t : Slot) (q : ℕ) → IsRegister r → IsRegister q
-    → behind 2 line ≡ space_text space ++ (field (address_text space a) ++ two_at_end s r t (register_text q))
+    → behind_words 2 line ≡ space_text space ++ (field (address_text space a) ++ two_at_end s r t (register_text q))
     → split_members line ≡ address_values space a ++ two_told_region_values s r t q
 split line space a s r t q ok also at =
     split_named line space a s (register_text r) t (register_text q) (register_ok r ok) (register_ok q also)
@@ -72,7 +72,7 @@ split line space a s r t q ok also at =
     ∙ ap (λ (v : List (List ℕ × Json)). address_values space a ++ v) (of_regions s r t q ok also)
 
 outside : (line : List ℕ) (s : Slot) (r : ℕ) (space : Space) (a : ℕ) → IsRegister r
-    → behind 2 line ≡ slot_text s ++ tail_of (register_text r ∷ space_text space ∷ address_text space a ∷ [])
+    → behind_words 2 line ≡ slot_text s ++ tail_of (register_text r ∷ space_text space ∷ address_text space a ∷ [])
     → outside_members line ≡ told_region_values s r ++ address_values space a
 outside line s r space a ok at =
     outside_named line s (register_text r) space a (register_ok r ok) at
@@ -81,7 +81,7 @@ outside line s r space a ok at =
 -- ---- each fault
 
 plain : (f : Fault) → NamesPlain f → fault_members (fault_text (told.Known (given.Known f))) ≡ all_told_values (told.Known (given.Known f))
-unfolding behind
+unfolding behind_words
 plain (NoVendor slot) names = has_fault_members (NoVendor slot)
 plain (HeaderKind slot) names = has_fault_members (HeaderKind slot)
 plain (SlotsDiffer slot) names = has_fault_members (SlotsDiffer slot)
@@ -120,7 +120,7 @@ plain (Split Memory address first first_register second second_register) names =
     (split (fault_text (told.Known (given.Known (Split Memory address first first_register second second_register)))) Memory address first first_register second second_register names.0 names.1 refl)
 
 pub has_told_fault_members : HasToldFaultMembers
-unfolding behind
+unfolding behind_words
 has_told_fault_members (told.Known (given.Known fault)) names = plain fault names
 has_told_fault_members (told.Known (given.Outside slot register Io address)) names =
     ap (head 63 (codes "Outside") (fault_text (told.Known (given.Outside slot register Io address))))

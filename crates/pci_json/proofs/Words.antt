@@ -13,7 +13,7 @@ use Rattle.pci_spec.specs.Text.{hex_digit, hex_byte, slot_text}
 use Rattle.pci_spec.specs.System.{Space, Io, Memory}
 use Rattle.pci_spec.specs.Line.{field, hex_number, space_text, address_text}
 use Rattle.judge_spec.specs.ToldLine.{register_text}
-use Rattle.pci_json.specs.Lines.{is_blank, behind, word, digit_value, next_value, value_of}
+use Rattle.pci_json.specs.Lines.{is_blank, behind_words, word, digit_value, next_value, value_in_base}
 use Rattle.pci_json.specs.Members.{is_line}
 
 -- the text doesn't have this byte
@@ -75,12 +75,12 @@ first_word w [] ok = ap (before_first is_blank) (append-nil w) ∙ word_alone w 
 first_word w (v ∷ vs) ok = word_before w (v ++ tail_of vs) ok
 
 no_word : (k : ℕ) → word k [] ≡ []
-unfolding behind
+unfolding behind_words
 no_word zero = refl
 no_word (suc k) = no_word k
 
 pub words_of : (w : List ℕ) (ws : List (List ℕ)) → AreWords (w ∷ ws) → (k : ℕ) → word k (w ++ tail_of ws) ≡ get_or (w ∷ ws) k []
-unfolding behind
+unfolding behind_words
 words_of w ws ok zero = first_word w ws ok.0
 words_of w [] ok (suc k) = ap (word k) (ap (after_first is_blank) (append-nil w) ∙ none_behind w ok.0) ∙ no_word k
 words_of w (v ∷ vs) ok (suc k) = ap (word k) (rest_behind w (v ++ tail_of vs) ok.0) ∙ words_of v vs ok.1 k
@@ -160,13 +160,13 @@ next_there : (n v d : ℕ) → n < 2 ^ 64 → v ≡ n / 10 → d ≡ n % 10 → 
 next_there n v d small front end = omega (arith, small, front, end)
 
 -- the number of the digits of a number
-pub decimal_value : (n : ℕ) → n < 2 ^ 64 → value_of 10 (decimal n) ≡ n
+pub decimal_value : (n : ℕ) → n < 2 ^ 64 → value_in_base 10 (decimal n) ≡ n
 decimal_value n small =
-    decimal_by_steps (λ m ds. m < 2 ^ 64 → value_of 10 ds ≡ m)
+    decimal_by_steps (λ m ds. m < 2 ^ 64 → value_in_base 10 ds ≡ m)
     (λ m digit below. next_there m 0 (digit_value (48 + m)) below (omega (arith, digit)) (digit_there m digit ∙ (let alone : m ≡ m % 10 = omega (arith, digit) in alone)))
     (λ m ds more front below.
     fold-append (next_value 10) 0 ds ((48 + m % 10) ∷ [])
-    ∙ next_there m (value_of 10 ds) (digit_value (48 + m % 10)) below (front (omega (arith, below))) (digit_there (m % 10) (omega arith)))
+    ∙ next_there m (value_in_base 10 ds) (digit_value (48 + m % 10)) below (front (omega (arith, below))) (digit_there (m % 10) (omega arith)))
     n small small
 
 decimal_lacks : (c n : ℕ) → c < 40 → n < 2 ^ 64 → lacks c (decimal n) ≡ true

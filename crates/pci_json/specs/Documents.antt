@@ -4,8 +4,8 @@ use Rattle.std.specs.List.{before_first, after_first, list_any}
 use Rattle.json.specs.Json.{Json, string}
 use Rattle.pci_json.specs.declared.document.Command.{Command}
 use Rattle.pci_json.specs.declared.document.Command.TheVariants.{Check, Faults, Map, Show, Plan, Settle}
-use Rattle.pci_json.specs.Lines.{lines_of, content_of, depth_of, is_inner, is_word, behind}
-use Rattle.pci_json.specs.Members.{object_of, array_of, count}
+use Rattle.pci_json.specs.Lines.{lines_of_text, content_of, depth_of, is_inner, is_word, behind_words}
+use Rattle.pci_json.specs.Members.{object_of, array_of, json_count}
 use Rattle.pci_json.specs.Faults.{fault_members}
 use Rattle.pci_json.specs.Reasons.{region_members}
 use Rattle.pci_json.specs.Listings.{place_members, root_members, write_members}
@@ -17,28 +17,28 @@ is_heading name line = not (is_inner line) && is_word 0 name (content_of line)
 
 -- ---- a list of faults, and what is off behind it
 
-abbrev pub is_off : List ℕ → Bool
-is_off line = is_heading (codes "off") line
+abbrev pub is_off_heading : List ℕ → Bool
+is_off_heading line = is_heading (codes "off") line
 
 abbrev pub is_fault : List ℕ → Bool
 is_fault line = not (is_inner line) && (not (is_word 0 (codes "off") (content_of line)) && not (is_word 0 (codes "yes") (content_of line)))
 
 -- the fault of a line, if it is one, with the lines behind it
-abbrev pub fault_of : List ℕ → List (List ℕ) → List Json
-fault_of line behind = if is_fault line then fault_object (content_of line) behind ∷ [] else []
+abbrev pub fault_on_line : List ℕ → List (List ℕ) → List Json
+fault_on_line line behind_words = if is_fault line then fault_object (content_of line) behind_words ∷ [] else []
 
 abbrev pub faults_of : List (List ℕ) → List Json
 faults_of [] = []
-faults_of (line ∷ lines) = fault_of line lines ++ faults_of lines
+faults_of (line ∷ lines) = fault_on_line line lines ++ faults_of lines
 
 abbrev pub off_of : List ℕ → List Json
-off_of line = if is_off line then object_of (region_members 1 (content_of line)) ∷ [] else []
+off_of line = if is_off_heading line then object_of (region_members 1 (content_of line)) ∷ [] else []
 
 abbrev pub offs_of : List (List ℕ) → List Json
 offs_of lines = flat_map off_of lines
 
 abbrev pub has_off : List (List ℕ) → Bool
-has_off lines = list_any is_off lines
+has_off lines = list_any is_off_heading lines
 
 abbrev pub off_member : List (List ℕ) → List (List ℕ × Json)
 off_member lines = if has_off lines then (codes "off", array_of (offs_of lines)) ∷ [] else []
@@ -46,26 +46,26 @@ off_member lines = if has_off lines then (codes "off", array_of (offs_of lines))
 -- ---- a map
 
 -- the region of a line, if it stands at this depth, with what is inside
-abbrev pub place_of : ℕ → List ℕ → List Json → List Json
-place_of depth line inside =
+abbrev pub place_on_line : ℕ → List ℕ → List Json → List Json
+place_on_line depth line inside =
     if depth_of line == depth then object_of (place_members (content_of line) inside) ∷ [] else []
 
 -- the regions of the lines at this depth, up to the first line above it; what is deeper is inside a window, or below the
 -- bridge that takes it
-abbrev pub places_of : ℕ → List (List ℕ) → List Json
-places_of depth [] = []
-places_of depth (line ∷ lines) =
+abbrev pub place_objects : ℕ → List (List ℕ) → List Json
+place_objects depth [] = []
+place_objects depth (line ∷ lines) =
     if nat_lt (depth_of line) depth then []
-    else place_of depth line (places_of (depth + 1) lines) ++ places_of depth lines
+    else place_on_line depth line (place_objects (depth + 1) lines) ++ place_objects depth lines
 
 -- a root bus and a space, of its heading and the lines behind it
 abbrev pub root_of : List ℕ → List (List ℕ) → List Json
-root_of line behind =
-    if is_heading (codes "bus") line then object_of (root_members (content_of line) (places_of 1 behind)) ∷ [] else []
+root_of line behind_words =
+    if is_heading (codes "bus") line then object_of (root_members (content_of line) (place_objects 1 behind_words)) ∷ [] else []
 
-abbrev pub buses_of : List (List ℕ) → List Json
-buses_of [] = []
-buses_of (line ∷ lines) = root_of line lines ++ buses_of lines
+abbrev pub bus_objects : List (List ℕ) → List Json
+bus_objects [] = []
+bus_objects (line ∷ lines) = root_of line lines ++ bus_objects lines
 
 -- the lines behind the first heading that begins with this word
 abbrev pub behind_heading : List ℕ → List (List ℕ) → List (List ℕ)
@@ -74,17 +74,17 @@ behind_heading name (line ∷ lines) = if is_heading name line then lines else b
 
 -- the regions below it
 abbrev pub aside_of : List ℕ → List (List ℕ) → List Json
-aside_of name lines = places_of 1 (behind_heading name lines)
+aside_of name lines = place_objects 1 (behind_heading name lines)
 
 -- ---- a listing
 
 -- the function of a line, if the line isn't indented, with the lines behind it
-abbrev pub function_of : List ℕ → List (List ℕ) → List Json
-function_of line behind = if is_inner line then [] else function_object (content_of line) behind ∷ []
+abbrev pub function_on_line : List ℕ → List (List ℕ) → List Json
+function_on_line line behind_words = if is_inner line then [] else function_object (content_of line) behind_words ∷ []
 
 abbrev pub functions_of : List (List ℕ) → List Json
 functions_of [] = []
-functions_of (line ∷ lines) = function_of line lines ++ functions_of lines
+functions_of (line ∷ lines) = function_on_line line lines ++ functions_of lines
 
 -- ---- writes
 
@@ -108,7 +108,7 @@ abbrev pub body_members : Command → List (List ℕ) → List (List ℕ × Json
 body_members Check lines = []
 body_members Faults lines = (codes "faults", array_of (faults_of lines)) ∷ off_member lines
 body_members Map lines =
-    (codes "buses", array_of (buses_of lines)) ∷ (codes "outside", array_of (aside_of (codes "outside") lines))
+    (codes "buses", array_of (bus_objects lines)) ∷ (codes "outside", array_of (aside_of (codes "outside") lines))
     ∷ (codes "unreached", array_of (aside_of (codes "unreached") lines))
     ∷ (codes "off", array_of (aside_of (codes "off") lines)) ∷ []
 body_members Show lines = (codes "functions", array_of (functions_of lines)) ∷ []
@@ -128,16 +128,16 @@ room_member (line ∷ lines) = (codes "why", object_of ((codes "text", string li
 
 abbrev pub refusal_members : List ℕ → List (List ℕ × Json)
 refusal_members text =
-    (codes "fault", object_of (fault_members (behind 1 (first_line text)) ++ room_member (inner_of (lines_of (behind_line text))))) ∷ []
+    (codes "fault", object_of (fault_members (behind_words 1 (first_line text)) ++ room_member (inner_of (lines_of_text (behind_line text))))) ∷ []
 
 -- `no` and a fault, or the command's own answer
 abbrev pub answer_members : Command → List ℕ → List (List ℕ × Json)
 answer_members command text =
     if is_word 0 (codes "no") (first_line text)
     then refusal_members text
-    else body_members command (lines_of text)
+    else body_members command (lines_of_text text)
 
 abbrev pub document_of : Command → ℕ → List ℕ → Json
 document_of command status text =
-    object_of ((codes "form", count 1) ∷ (codes "command", string (command_name command)) ∷ (codes "status", count status)
+    object_of ((codes "form", json_count 1) ∷ (codes "command", string (command_name command)) ∷ (codes "status", json_count status)
     ∷ answer_members command text)

@@ -7,7 +7,7 @@ use Rattle.judge_spec.specs.Fault as given
 use Rattle.judge_spec.specs.Line as given_line
 use Rattle.judge_spec.specs.ToldFault as told
 use Rattle.judge_spec.specs.ToldLine as told_line
-use Rattle.pci_json.specs.Lines.{lines_of}
+use Rattle.pci_json.specs.Lines.{lines_of_text}
 use Rattle.pci_json.specs.Members.{object_of}
 use Rattle.pci_json.specs.Faults.{fault_members}
 use Rattle.pci_json.specs.Documents.{faults_of}
@@ -24,7 +24,7 @@ HasGivenFaultMembers = (fault : given.Fault) → fault_members (given_line.fault
 -- are those of the fault. Where there is no fault, the text is `yes`, and there is no object.
 abbrev pub HasEachFault : Type 0
 HasEachFault =
-    (faults : List given.Fault) → faults_of (lines_of (given_line.list_text faults)) ≡ map (λ fault. object_of (all_given_values fault)) faults
+    (faults : List given.Fault) → faults_of (lines_of_text (given_line.list_text faults)) ≡ map (λ fault. object_of (all_given_values fault)) faults
 
 -- ---- with what is told
 
@@ -53,4 +53,4 @@ HasToldFaultMembers = (fault : told.Fault) → NamesRegisters fault → fault_me
 abbrev pub HasEachToldFault : Type 0
 HasEachToldFault =
     (faults : List told.Fault) → All NamesRegisters faults
-    → faults_of (lines_of (told_line.list_text faults)) ≡ map (λ fault. object_of (all_told_values fault)) faults
+    → faults_of (lines_of_text (told_line.list_text faults)) ≡ map (λ fault. object_of (all_told_values fault)) faults

@@ -10,7 +10,7 @@ use Rattle.judge_spec.specs.Fault as given
 use Rattle.judge_spec.specs.Line as given_line
 use Rattle.judge_spec.specs.ToldFault as told
 use Rattle.judge_spec.specs.ToldLine as told_line
-use Rattle.pci_json.specs.Members.{hex, count, object_of, array_of}
+use Rattle.pci_json.specs.Members.{hex, json_count, object_of, array_of}
 
 abbrev pub slot_value : List ℕ → Slot → List (List ℕ × Json)
 slot_value name slot = (name, string (slot_text slot)) ∷ []
@@ -53,7 +53,7 @@ fault_values (Split space address first first_register second second_register) =
 -- all members of its object: its number, its name, its line, and what it names
 abbrev pub all_values : Fault → List (List ℕ × Json)
 all_values fault =
-    (codes "number", count (fault_number fault)) ∷ (codes "name", string (fault_name fault)) ∷ (codes "text", string (fault_text fault)) ∷ fault_values fault
+    (codes "number", json_count (fault_number fault)) ∷ (codes "name", string (fault_name fault)) ∷ (codes "text", string (fault_text fault)) ∷ fault_values fault
 
 -- the same with what is given
 abbrev pub given_values : given.Fault → List (List ℕ × Json)
@@ -62,14 +62,14 @@ given_values (given.Outside slot register space address) = region_values slot re
 
 abbrev pub all_given_values : given.Fault → List (List ℕ × Json)
 all_given_values fault =
-    (codes "number", count (given.fault_number fault)) ∷ (codes "name", string (given_line.fault_name fault)) ∷ (codes "text", string (given_line.fault_text fault))
+    (codes "number", json_count (given.fault_number fault)) ∷ (codes "name", string (given_line.fault_name fault)) ∷ (codes "text", string (given_line.fault_text fault))
     ∷ given_values fault
 
 -- ---- with what is told: the line of a told range stands in the place of a register
 
 abbrev pub register_or_line_value : ℕ → List (List ℕ × Json)
 register_or_line_value register =
-    if nat_lt register 256 then (codes "register", hex (hex_byte register)) ∷ [] else (codes "line", count (register - 255)) ∷ []
+    if nat_lt register 256 then (codes "register", hex (hex_byte register)) ∷ [] else (codes "line", json_count (register - 255)) ∷ []
 
 abbrev pub told_region_values : Slot → ℕ → List (List ℕ × Json)
 told_region_values slot register = (codes "slot", string (slot_text slot)) ∷ register_or_line_value register
@@ -97,5 +97,5 @@ told_values (told.NotListed slot) = slot_value (codes "slot") slot
 
 abbrev pub all_told_values : told.Fault → List (List ℕ × Json)
 all_told_values fault =
-    (codes "number", count (told.fault_number fault)) ∷ (codes "name", string (told_line.fault_name fault)) ∷ (codes "text", string (told_line.fault_text fault))
+    (codes "number", json_count (told.fault_number fault)) ∷ (codes "name", string (told_line.fault_name fault)) ∷ (codes "text", string (told_line.fault_text fault))
     ∷ told_values fault

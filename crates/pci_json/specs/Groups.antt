@@ -45,17 +45,17 @@ item_members Window line = window_members line
 item_members Capability line = capability_members line
 
 -- the item of a line, if it is of that kind
-abbrev pub item_of : Kind → List ℕ → List Json
-item_of kind line = if is_word 0 (kind_word kind) line then object_of (item_members kind line) ∷ [] else []
+abbrev pub item_on_line : Kind → List ℕ → List Json
+item_on_line kind line = if is_word 0 (kind_word kind) line then object_of (item_members kind line) ∷ [] else []
 
-abbrev pub listed : Kind → List (List ℕ) → List Json
-listed kind lines = flat_map (item_of kind) lines
+abbrev pub items_of_kind : Kind → List (List ℕ) → List Json
+items_of_kind kind lines = flat_map (item_on_line kind) lines
 
 abbrev pub has_listed : Kind → List (List ℕ) → Bool
 has_listed kind lines = list_any (is_word 0 (kind_word kind)) lines
 
 abbrev pub list_member : Kind → List (List ℕ) → List (List ℕ × Json)
-list_member kind lines = (list_name kind, array_of (listed kind lines)) ∷ []
+list_member kind lines = (list_name kind, array_of (items_of_kind kind lines)) ∷ []
 
 -- the list, where it has an item
 abbrev pub optional_list : Kind → List (List ℕ) → List (List ℕ × Json)

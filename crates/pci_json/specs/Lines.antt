@@ -12,12 +12,12 @@ put_front b [] = (b ∷ []) ∷ []
 put_front b (part ∷ parts) = (b ∷ part) ∷ parts
 
 -- the parts of a text, each of which ends with this byte, the last one without it too
-unfoldable pub parts_of : ℕ → List ℕ → List (List ℕ)
-parts_of end [] = []
-parts_of end (b ∷ text) = if b == end then [] ∷ parts_of end text else put_front b (parts_of end text)
+unfoldable pub parts_of_text : ℕ → List ℕ → List (List ℕ)
+parts_of_text end [] = []
+parts_of_text end (b ∷ text) = if b == end then [] ∷ parts_of_text end text else put_front b (parts_of_text end text)
 
-abbrev pub lines_of : List ℕ → List (List ℕ)
-lines_of = parts_of 10
+abbrev pub lines_of_text : List ℕ → List (List ℕ)
+lines_of_text = parts_of_text 10
 
 -- ---- a line: how deep it stands, and what stands there
 
@@ -39,13 +39,13 @@ is_inner line = nat_lt 0 (depth_of line)
 -- ---- the words of a content
 
 -- what stands behind so many words
-unfoldable pub behind : ℕ → List ℕ → List ℕ
-behind zero content = content
-behind (suc words) content = behind words (after_first is_blank content)
+unfoldable pub behind_words : ℕ → List ℕ → List ℕ
+behind_words zero content = content
+behind_words (suc words) content = behind_words words (after_first is_blank content)
 
 -- the word behind so many words
 abbrev pub word : ℕ → List ℕ → List ℕ
-word n content = before_first is_blank (behind n content)
+word n content = before_first is_blank (behind_words n content)
 
 -- whether this is the word behind so many words
 abbrev pub is_word : ℕ → List ℕ → List ℕ → Bool
@@ -62,5 +62,5 @@ abbrev pub next_value : ℕ → ℕ → ℕ → ℕ
 next_value base n b = (n * base + digit_value b) % 2 ^ 64
 
 -- the number of a word of digits, of its 64 lowest bits
-abbrev pub value_of : ℕ → List ℕ → ℕ
-value_of base digits = fold (next_value base) 0 digits
+abbrev pub value_in_base : ℕ → List ℕ → ℕ
+value_in_base base digits = fold (next_value base) 0 digits

@@ -4,7 +4,7 @@ use Rattle.std.specs.List.{before_first, after_first}
 use Rattle.json.specs.Json.{Json, string, number, boolean, array, object, Items, no_items, item, Members, no_members, member}
 use Rattle.json.specs.Token.{Token}
 use Rattle.json.specs.Tree.{json_tokens}
-use Rattle.pci_json.specs.Lines.{word, is_word, value_of, parts_of}
+use Rattle.pci_json.specs.Lines.{word, is_word, value_in_base, parts_of_text}
 
 -- a member: its name and its value
 abbrev pub Member : Type 0
@@ -17,12 +17,12 @@ members_of (m ∷ ms) = member m.0 m.1 (members_of ms)
 abbrev pub object_of : List (List ℕ × Json) → Json
 object_of ms = object (members_of ms)
 
-abbrev pub items_of : List Json → Items
-items_of [] = no_items
-items_of (j ∷ js) = item j (items_of js)
+abbrev pub array_items : List Json → Items
+array_items [] = no_items
+array_items (j ∷ js) = item j (array_items js)
 
 abbrev pub array_of : List Json → Json
-array_of js = array (items_of js)
+array_of js = array (array_items js)
 
 -- ---- their tokens, without the brackets
 
@@ -48,8 +48,8 @@ with_items tokens items = fold add_item tokens items
 abbrev pub hex : List ℕ → Json
 hex digits = string (48 ∷ 120 ∷ digits)
 
-abbrev pub count : ℕ → Json
-count n = number (decimal n)
+abbrev pub json_count : ℕ → Json
+json_count n = number (decimal n)
 
 abbrev pub is_plus : ℕ → Bool
 is_plus b = b == 43
@@ -58,15 +58,15 @@ is_plus b = b == 43
 abbrev pub is_line : List ℕ → Bool
 is_line name = is_plus (get_or name 0 0)
 
-abbrev pub line_number : List ℕ → ℕ
-line_number name = value_of 10 (after_first is_plus name)
+abbrev pub also_line_number : List ℕ → ℕ
+also_line_number name = value_in_base 10 (after_first is_plus name)
 
 abbrev pub register_or_line : List ℕ → List (List ℕ × Json)
 register_or_line name =
-    if is_line name then (codes "line", count (line_number name)) ∷ [] else (codes "register", hex name) ∷ []
+    if is_line name then (codes "line", json_count (also_line_number name)) ∷ [] else (codes "register", hex name) ∷ []
 
-abbrev pub slot_and_register : ℕ → List ℕ → List (List ℕ × Json)
-slot_and_register n content = (codes "slot", string (word n content)) ∷ register_or_line (word (n + 1) content)
+abbrev pub slot_register_members : ℕ → List ℕ → List (List ℕ × Json)
+slot_register_members n content = (codes "slot", string (word n content)) ∷ register_or_line (word (n + 1) content)
 
 -- ---- what stands at the end of a region's line
 
@@ -91,34 +91,34 @@ end_member part n line = if is_told part line then name_member n line else flag_
 abbrev pub is_dash : ℕ → Bool
 is_dash b = b == 45
 
-abbrev pub first_of : List ℕ → List ℕ
-first_of = before_first is_dash
+abbrev pub digits_before_dash : List ℕ → List ℕ
+digits_before_dash = before_first is_dash
 
-abbrev pub last_of : List ℕ → List ℕ
-last_of = after_first is_dash
+abbrev pub digits_behind_dash : List ℕ → List ℕ
+digits_behind_dash = after_first is_dash
 
 -- the last address, of what stands before and behind the dash: the first one, where no dash follows
 abbrev pub last_address : List ℕ → List ℕ → List ℕ
 last_address first behind = if length behind == 0 then first else behind
 
-abbrev pub end_of : List ℕ → List ℕ
-end_of range = last_address (first_of range) (last_of range)
+abbrev pub last_address_digits : List ℕ → List ℕ
+last_address_digits range = last_address (digits_before_dash range) (digits_behind_dash range)
 
-abbrev pub size_of : List ℕ → ℕ
-size_of range = value_of 16 (end_of range) - value_of 16 (first_of range) + 1
+abbrev pub size_of_range : List ℕ → ℕ
+size_of_range range = value_in_base 16 (last_address_digits range) - value_in_base 16 (digits_before_dash range) + 1
 
 abbrev pub range_members : List ℕ → List (List ℕ × Json)
 range_members range =
-    (codes "first", hex (first_of range)) ∷ (codes "last", hex (end_of range))
-    ∷ (codes "size", count (size_of range)) ∷ []
+    (codes "first", hex (digits_before_dash range)) ∷ (codes "last", hex (last_address_digits range))
+    ∷ (codes "size", json_count (size_of_range range)) ∷ []
 
 abbrev pub range_object : List ℕ → Json
 range_object range = object_of (range_members range)
 
 -- a range, or the word that stands in its place
 abbrev pub opening : List ℕ → Json
-opening range = if length (last_of range) == 0 then string range else range_object range
+opening range = if length (digits_behind_dash range) == 0 then string range else range_object range
 
 -- the ranges that stand in a text with this byte between them
-abbrev pub ranges_of : ℕ → List ℕ → List Json
-ranges_of end text = map range_object (parts_of end text)
+abbrev pub range_objects : ℕ → List ℕ → List Json
+range_objects end text = map range_object (parts_of_text end text)

@@ -5,11 +5,11 @@ ghost use Rattle.json.specs.Lex.{tokens};
 ghost use Rattle.json.specs.Json.{value};
 ghost use Rattle.json.specs.Print.{print};
 ghost use Rattle.json.specs.Tree.{json_tokens, depth};
-ghost use Rattle.pci_json.specs.Lines.{lines_of};
-ghost use Rattle.pci_json.specs.Members.{with_members, with_items, array_of, count};
+ghost use Rattle.pci_json.specs.Lines.{lines_of_text};
+ghost use Rattle.pci_json.specs.Members.{with_members, with_items, array_of, json_count};
 ghost use Rattle.pci_json.specs.Groups.{inner_of};
 ghost use Rattle.pci_json.specs.declared.document.Command.TheVariants.{Faults, Map, Show, Plan};
-ghost use Rattle.pci_json.specs.Documents.{is_fault, fault_of, faults_of, off_of, offs_of, has_off, off_member, aside_of, function_of, functions_of, write_object, writes_of, command_name, body_members, first_line, behind_line, room_member, refusal_members, answer_members, document_of};
+ghost use Rattle.pci_json.specs.Documents.{is_fault, fault_on_line, faults_of, off_of, offs_of, has_off, off_member, aside_of, function_on_line, functions_of, write_object, writes_of, command_name, body_members, first_line, behind_line, room_member, refusal_members, answer_members, document_of};
 
 use crate::faults::push_fault;
 use crate::group::{begins_inner, push_fault_object, push_function};
@@ -62,7 +62,7 @@ fn push_fault_of<A: Allocator>(
     text: &str,
 ) -> Result<(), AllocError>
     ensures { OnOk result
-        (out.new ≡ with_items out.old (fault_of line.now (lines_of text.now))) }
+        (out.new ≡ with_items out.old (fault_on_line line.now (lines_of_text text.now))) }
 {
     if !is_fault(line) {
         return Ok(());
@@ -72,7 +72,7 @@ fn push_fault_of<A: Allocator>(
 
 /// The faults of a list.
 fn push_faults<A: Allocator>(out: &mut Output<A>, text: &str) -> Result<(), AllocError>
-    ensures { OnOk result (out.new ≡ with_items out.old (faults_of (lines_of text.now))) }
+    ensures { OnOk result (out.new ≡ with_items out.old (faults_of (lines_of_text text.now))) }
 {
     let mut rest = text;
     while !rest.is_empty() {
@@ -85,7 +85,7 @@ fn push_faults<A: Allocator>(out: &mut Output<A>, text: &str) -> Result<(), Allo
 
 /// Whether a list tells of what is off.
 fn has_off(text: &str) -> bool
-    ensures { result ≡ has_off (lines_of text.now) }
+    ensures { result ≡ has_off (lines_of_text text.now) }
 {
     let mut rest = text;
     while !rest.is_empty() {
@@ -112,7 +112,7 @@ fn push_off<A: Allocator>(out: &mut Output<A>, line: &str) -> Result<(), AllocEr
 
 /// The BARs that are off.
 fn push_offs<A: Allocator>(out: &mut Output<A>, text: &str) -> Result<(), AllocError>
-    ensures { OnOk result (out.new ≡ with_items out.old (offs_of (lines_of text.now))) }
+    ensures { OnOk result (out.new ≡ with_items out.old (offs_of (lines_of_text text.now))) }
 {
     let mut rest = text;
     while !rest.is_empty() {
@@ -125,7 +125,7 @@ fn push_offs<A: Allocator>(out: &mut Output<A>, text: &str) -> Result<(), AllocE
 
 /// The BARs that are off, where the list tells of one.
 fn push_off_member<A: Allocator>(out: &mut Output<A>, text: &str) -> Result<(), AllocError>
-    ensures { OnOk result (out.new ≡ with_members out.old (off_member (lines_of text.now))) }
+    ensures { OnOk result (out.new ≡ with_members out.old (off_member (lines_of_text text.now))) }
 {
     if !has_off(text) {
         return Ok(());
@@ -143,7 +143,7 @@ fn push_function_of<A: Allocator>(
     text: &str,
 ) -> Result<(), AllocError>
     ensures { OnOk result
-        (out.new ≡ with_items out.old (function_of line.now (lines_of text.now))) }
+        (out.new ≡ with_items out.old (function_on_line line.now (lines_of_text text.now))) }
 {
     if is_inner(line) {
         return Ok(());
@@ -153,7 +153,7 @@ fn push_function_of<A: Allocator>(
 
 /// The functions of a listing.
 fn push_functions<A: Allocator>(out: &mut Output<A>, text: &str) -> Result<(), AllocError>
-    ensures { OnOk result (out.new ≡ with_items out.old (functions_of (lines_of text.now))) }
+    ensures { OnOk result (out.new ≡ with_items out.old (functions_of (lines_of_text text.now))) }
 {
     let mut rest = text;
     while !rest.is_empty() {
@@ -175,7 +175,7 @@ fn push_write_object<A: Allocator>(out: &mut Output<A>, line: &str) -> Result<()
 
 /// The writes of a plan.
 fn push_writes<A: Allocator>(out: &mut Output<A>, text: &str) -> Result<(), AllocError>
-    ensures { OnOk result (out.new ≡ with_items out.old (writes_of (lines_of text.now))) }
+    ensures { OnOk result (out.new ≡ with_items out.old (writes_of (lines_of_text text.now))) }
 {
     let mut rest = text;
     while !rest.is_empty() {
@@ -188,7 +188,7 @@ fn push_writes<A: Allocator>(out: &mut Output<A>, text: &str) -> Result<(), Allo
 
 /// The members of a list of faults.
 fn push_fault_list<A: Allocator>(out: &mut Output<A>, text: &str) -> Result<(), AllocError>
-    ensures { OnOk result (out.new ≡ with_members out.old (body_members Faults (lines_of text.now))) }
+    ensures { OnOk result (out.new ≡ with_members out.old (body_members Faults (lines_of_text text.now))) }
 {
     out.key("faults")?;
     out.begin_array()?;
@@ -203,7 +203,7 @@ fn push_aside_member<A: Allocator>(
     text: &str,
     name: &str,
 ) -> Result<(), AllocError>
-    ensures { OnOk result (out.new ≡ with_members out.old ((name.now, array_of (aside_of name.now (lines_of text.now))) ∷ [])) }
+    ensures { OnOk result (out.new ≡ with_members out.old ((name.now, array_of (aside_of name.now (lines_of_text text.now))) ∷ [])) }
 {
     out.key(name)?;
     out.begin_array()?;
@@ -213,7 +213,7 @@ fn push_aside_member<A: Allocator>(
 
 /// The members of a map.
 fn push_map<A: Allocator>(out: &mut Output<A>, text: &str) -> Result<(), AllocError>
-    ensures { OnOk result (out.new ≡ with_members out.old (body_members Map (lines_of text.now))) }
+    ensures { OnOk result (out.new ≡ with_members out.old (body_members Map (lines_of_text text.now))) }
 {
     out.key("buses")?;
     out.begin_array()?;
@@ -226,7 +226,7 @@ fn push_map<A: Allocator>(out: &mut Output<A>, text: &str) -> Result<(), AllocEr
 
 /// The members of a listing.
 fn push_listing<A: Allocator>(out: &mut Output<A>, text: &str) -> Result<(), AllocError>
-    ensures { OnOk result (out.new ≡ with_members out.old (body_members Show (lines_of text.now))) }
+    ensures { OnOk result (out.new ≡ with_members out.old (body_members Show (lines_of_text text.now))) }
 {
     out.key("functions")?;
     out.begin_array()?;
@@ -236,7 +236,7 @@ fn push_listing<A: Allocator>(out: &mut Output<A>, text: &str) -> Result<(), All
 
 /// The members of writes.
 fn push_write_list<A: Allocator>(out: &mut Output<A>, text: &str) -> Result<(), AllocError>
-    ensures { OnOk result (out.new ≡ with_members out.old (body_members Plan (lines_of text.now))) }
+    ensures { OnOk result (out.new ≡ with_members out.old (body_members Plan (lines_of_text text.now))) }
 {
     out.key("writes")?;
     out.begin_array()?;
@@ -251,7 +251,7 @@ fn push_body<A: Allocator>(
     text: &str,
 ) -> Result<(), AllocError>
     ensures { OnOk result (out.new
-        ≡ with_members out.old (body_members command (lines_of text.now))) }
+        ≡ with_members out.old (body_members command (lines_of_text text.now))) }
 {
     match command {
         Command::Check => Ok(()),
@@ -273,7 +273,7 @@ fn cut_first(text: &str) -> (&str, &str)
 /// The line behind a 72, where `plan --why` has one.
 fn push_room<A: Allocator>(out: &mut Output<A>, text: &str) -> Result<(), AllocError>
     ensures { OnOk result (out.new
-        ≡ with_members out.old (room_member (inner_of (lines_of text.now)))) }
+        ≡ with_members out.old (room_member (inner_of (lines_of_text text.now)))) }
 {
     if !begins_inner(text) {
         return Ok(());
@@ -314,7 +314,7 @@ fn push_answer<A: Allocator>(
 /// The status of the command.
 fn push_status<A: Allocator>(out: &mut Output<A>, status: u8) -> Result<(), AllocError>
     ensures { OnOk result
-        (out.new ≡ with_members out.old ((codes "status", count status) ∷ [])) }
+        (out.new ≡ with_members out.old ((codes "status", json_count status) ∷ [])) }
 {
     out.number("status", u64::from(status))
 }

@@ -1,7 +1,7 @@
 //! The members of a fault.
 ghost use Rattle.std.specs.Prelude.{◌≡◌, ◌<◌, ◌++◌, OnOk};
 ghost use Rattle.json.specs.Tree.{json_tokens};
-ghost use Rattle.pci_json.specs.Members.{with_members, object_of, slot_and_register};
+ghost use Rattle.pci_json.specs.Members.{with_members, object_of, slot_register_members};
 ghost use Rattle.pci_json.specs.Faults.{space_and_address, two_regions, unreached_members, clash_members, split_members, outside_members, amount_members, part_members, no_room_members, slot_members, named_members, fault_members};
 
 use crate::lines::{is_word, value, word};
@@ -29,7 +29,7 @@ fn push_named_region<A: Allocator>(
     n: usize,
 ) -> Result<(), AllocError>
     requires { n < 1000 }
-    ensures { OnOk result (out.new ≡ out.old ++ json_tokens (object_of (slot_and_register n line.now))) }
+    ensures { OnOk result (out.new ≡ out.old ++ json_tokens (object_of (slot_register_members n line.now))) }
 {
     out.begin_object()?;
     push_slot_and_register(out, line, n)?;

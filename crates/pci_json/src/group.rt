@@ -1,11 +1,11 @@
 //! The lines behind a line, and the object that they make with it.
 ghost use Rattle.std.specs.Prelude.{◌≡◌, ◌++◌, [], ◌∷◌, codes, OnOk};
 ghost use Rattle.json.specs.Tree.{json_tokens};
-ghost use Rattle.pci_json.specs.Lines.{lines_of, word};
+ghost use Rattle.pci_json.specs.Lines.{lines_of_text, word};
 ghost use Rattle.pci_json.specs.Reasons.{claim_members, bridge_members};
 ghost use Rattle.pci_json.specs.Listings.{rom_members, bus_members};
 ghost use Rattle.pci_json.specs.Members.{with_members, with_items, object_of};
-ghost use Rattle.pci_json.specs.Groups.{inner_of, has_any, kind_word, list_name, item_members, item_of, listed, has_listed, list_member, optional_list, single_members, singles, why_members, why_member, fault_object, function_members, function_object};
+ghost use Rattle.pci_json.specs.Groups.{inner_of, has_any, kind_word, list_name, item_members, item_on_line, items_of_kind, has_listed, list_member, optional_list, single_members, singles, why_members, why_member, fault_object, function_members, function_object};
 
 use crate::faults::push_fault;
 use crate::lines::{content, cut, is_inner, is_word, word};
@@ -74,7 +74,7 @@ fn push_item_members<A: Allocator>(
 
 /// The item of a line, if it is of that kind.
 fn push_item<A: Allocator>(out: &mut Output<A>, kind: Kind, line: &str) -> Result<(), AllocError>
-    ensures { OnOk result (out.new ≡ with_items out.old (item_of kind line.now)) }
+    ensures { OnOk result (out.new ≡ with_items out.old (item_on_line kind line.now)) }
 {
     if !is_word(line, 0, kind_word(kind)) {
         return Ok(());
@@ -87,7 +87,7 @@ fn push_item<A: Allocator>(out: &mut Output<A>, kind: Kind, line: &str) -> Resul
 /// The items that the indented lines at the start of a text have.
 fn push_listed<A: Allocator>(out: &mut Output<A>, kind: Kind, text: &str) -> Result<(), AllocError>
     ensures { OnOk result (out.new
-        ≡ with_items out.old (listed kind (inner_of (lines_of text.now)))) }
+        ≡ with_items out.old (items_of_kind kind (inner_of (lines_of_text text.now)))) }
 {
     let mut rest = text;
     while !rest.is_empty() {
@@ -103,7 +103,7 @@ fn push_listed<A: Allocator>(out: &mut Output<A>, kind: Kind, text: &str) -> Res
 
 /// Whether the indented lines at the start of a text have an item.
 fn has_listed(kind: Kind, text: &str) -> bool
-    ensures { result ≡ has_listed kind (inner_of (lines_of text.now)) }
+    ensures { result ≡ has_listed kind (inner_of (lines_of_text text.now)) }
 {
     let mut rest = text;
     while !rest.is_empty() {
@@ -122,7 +122,7 @@ fn has_listed(kind: Kind, text: &str) -> bool
 /// The list, also without an item.
 fn push_list<A: Allocator>(out: &mut Output<A>, kind: Kind, text: &str) -> Result<(), AllocError>
     ensures { OnOk result (out.new
-        ≡ with_members out.old (list_member kind (inner_of (lines_of text.now)))) }
+        ≡ with_members out.old (list_member kind (inner_of (lines_of_text text.now)))) }
 {
     out.key(list_name(kind))?;
     out.begin_array()?;
@@ -137,7 +137,7 @@ fn push_optional_list<A: Allocator>(
     text: &str,
 ) -> Result<(), AllocError>
     ensures { OnOk result (out.new
-        ≡ with_members out.old (optional_list kind (inner_of (lines_of text.now)))) }
+        ≡ with_members out.old (optional_list kind (inner_of (lines_of_text text.now)))) }
 {
     if has_listed(kind, text) {
         push_list(out, kind, text)
@@ -221,7 +221,7 @@ fn push_single<A: Allocator>(out: &mut Output<A>, line: &str) -> Result<(), Allo
 /// The members that the indented lines at the start of a text are.
 fn push_singles<A: Allocator>(out: &mut Output<A>, text: &str) -> Result<(), AllocError>
     ensures { OnOk result (out.new
-        ≡ with_members out.old (singles (inner_of (lines_of text.now)))) }
+        ≡ with_members out.old (singles (inner_of (lines_of_text text.now)))) }
 {
     let mut rest = text;
     while !rest.is_empty() {
@@ -238,7 +238,7 @@ fn push_singles<A: Allocator>(out: &mut Output<A>, text: &str) -> Result<(), All
 /// What is told of a fault.
 fn push_why_members<A: Allocator>(out: &mut Output<A>, text: &str) -> Result<(), AllocError>
     ensures { OnOk result (out.new
-        ≡ with_members out.old (why_members (inner_of (lines_of text.now)))) }
+        ≡ with_members out.old (why_members (inner_of (lines_of_text text.now)))) }
 {
     push_singles(out, text)?;
     push_optional_list(out, Kind::Missed, text)?;
@@ -247,7 +247,7 @@ fn push_why_members<A: Allocator>(out: &mut Output<A>, text: &str) -> Result<(),
 
 /// Whether the first line of a text is indented.
 pub fn begins_inner(text: &str) -> bool
-    ensures { result ≡ has_any (inner_of (lines_of text.now)) }
+    ensures { result ≡ has_any (inner_of (lines_of_text text.now)) }
 {
     if text.is_empty() {
         return false;
@@ -258,7 +258,7 @@ pub fn begins_inner(text: &str) -> bool
 /// What is told of a fault, where lines stand behind it.
 fn push_why<A: Allocator>(out: &mut Output<A>, text: &str) -> Result<(), AllocError>
     ensures { OnOk result (out.new
-        ≡ with_members out.old (why_member (inner_of (lines_of text.now)))) }
+        ≡ with_members out.old (why_member (inner_of (lines_of_text text.now)))) }
 {
     if !begins_inner(text) {
         return Ok(());
@@ -276,7 +276,7 @@ pub fn push_fault_object<A: Allocator>(
     text: &str,
 ) -> Result<(), AllocError>
     ensures { OnOk result (out.new
-        ≡ out.old ++ json_tokens (fault_object line.now (lines_of text.now))) }
+        ≡ out.old ++ json_tokens (fault_object line.now (lines_of_text text.now))) }
 {
     out.begin_object()?;
     push_fault(out, line)?;
@@ -291,7 +291,7 @@ fn push_function_members<A: Allocator>(
     text: &str,
 ) -> Result<(), AllocError>
     ensures { OnOk result (out.new
-        ≡ with_members out.old (function_members line.now (inner_of (lines_of text.now)))) }
+        ≡ with_members out.old (function_members line.now (inner_of (lines_of_text text.now)))) }
 {
     push_header(out, line)?;
     push_list(out, Kind::Bar, text)?;
@@ -307,7 +307,7 @@ pub fn push_function<A: Allocator>(
     text: &str,
 ) -> Result<(), AllocError>
     ensures { OnOk result (out.new
-        ≡ out.old ++ json_tokens (function_object line.now (lines_of text.now))) }
+        ≡ out.old ++ json_tokens (function_object line.now (lines_of_text text.now))) }
 {
     out.begin_object()?;
     push_function_members(out, line, text)?;

@@ -2,7 +2,7 @@
 ghost use Rattle.std.specs.Prelude.{◌≡◌, ◌<◌, ◌≤◌, ◌+◌, ◌==◌, ◌^◌, ◌∷◌, false, length, take, drop, IsTrue};
 ghost use Rattle.std.specs.Str.{IsCharBoundary};
 ghost use Rattle.std.specs.List.{before_first, after_first, position_or_len};
-ghost use Rattle.pci_json.specs.Lines.{parts_of, indent_of, content_of, depth_of, is_inner, is_blank, behind, word, is_word, digit_value, value_of};
+ghost use Rattle.pci_json.specs.Lines.{parts_of_text, indent_of, content_of, depth_of, is_inner, is_blank, behind_words, word, is_word, digit_value, value_in_base};
 
 use memchr::memchr;
 
@@ -65,7 +65,7 @@ pub fn cut(text: &str, end: u8) -> (&str, &str)
     requires some { 0 < length text.now }
     ensures before { result.0.now ≡ before_first (λ b. b == end) text.now }
     ensures after { result.1.now ≡ after_first (λ b. b == end) text.now }
-    ensures parts { parts_of end text.now ≡ result.0.now ∷ parts_of end result.1.now }
+    ensures parts { parts_of_text end text.now ≡ result.0.now ∷ parts_of_text end result.1.now }
     ensures shorter { length result.1.now < length text.now }
 {
     around(text, far_place_of(text, end))
@@ -111,7 +111,7 @@ pub fn is_inner(line: &str) -> bool
 /// The first word, and what stands behind it.
 pub fn split_word(content: &str) -> (&str, &str)
     ensures first { result.0.now ≡ word 0 content.now }
-    ensures rest { result.1.now ≡ behind 1 content.now }
+    ensures rest { result.1.now ≡ behind_words 1 content.now }
 {
     split_at_first(content, b' ')
 }
@@ -126,14 +126,14 @@ fn behind_first(content: &str) -> &str
 /// The second word, and what stands behind it.
 pub fn split_second(content: &str) -> (&str, &str)
     ensures first { result.0.now ≡ word 1 content.now }
-    ensures rest { result.1.now ≡ behind 2 content.now }
+    ensures rest { result.1.now ≡ behind_words 2 content.now }
 {
     split_word(behind_first(content))
 }
 
 /// What stands behind so many words.
 pub fn behind(content: &str, words: usize) -> &str
-    ensures { result.now ≡ behind words content.now }
+    ensures { result.now ≡ behind_words words content.now }
 {
     let mut rest = content;
     for _ in 0..words {
@@ -187,7 +187,7 @@ fn digit_value(byte: u8) -> u8
 /// The number of a word of digits, of its 64 lowest bits.
 pub fn value(digits: &str, base: u64) -> u64
     requires { base ≤ 16 }
-    ensures { result ≡ value_of base digits.now }
+    ensures { result ≡ value_in_base base digits.now }
 {
     let mut value: u64 = 0;
     for byte in digits.as_bytes() {

@@ -1,9 +1,9 @@
 //! The regions of a map.
 ghost use Rattle.std.specs.Prelude.{◌≡◌, ◌<◌, ◌≤◌, ◌+◌, ◌^◌, ℕ, length, OnOk, IfOk};
-ghost use Rattle.pci_json.specs.Lines.{lines_of};
+ghost use Rattle.pci_json.specs.Lines.{lines_of_text};
 ghost use Rattle.pci_json.specs.Members.{with_members, with_items};
-ghost use Rattle.pci_json.specs.Listings.{free_members, end_place, sits_members, is_taking, taking_members, outer_members, has_inside, inside_members, root_members};
-ghost use Rattle.pci_json.specs.Documents.{place_of, places_of, root_of, buses_of, behind_heading, aside_of, is_heading};
+ghost use Rattle.pci_json.specs.Listings.{free_members, end_place, sits_members, is_unclaimed_line, taking_members, outer_members, has_inside, inside_members, root_members};
+ghost use Rattle.pci_json.specs.Documents.{place_on_line, place_objects, root_of, bus_objects, behind_heading, aside_of, is_heading};
 
 use crate::lines::{behind, content, cut, depth_of, is_inner, is_word, split_word, word};
 use crate::listing::push_kind;
@@ -40,7 +40,7 @@ fn push_sits<A: Allocator>(out: &mut Output<A>, line: &str, part: &str) -> Resul
 
 /// Whether a line is of a bridge that takes what no region of its bus claims.
 fn is_taking(line: &str) -> bool
-    ensures { result ≡ is_taking line.now }
+    ensures { result ≡ is_unclaimed_line line.now }
 {
     is_word(line, 0, "unclaimed")
 }
@@ -76,10 +76,10 @@ pub fn push_places<'a, A: Allocator>(
     depth: usize,
 ) -> Result<&'a str, AllocError>
     ensures written { OnOk result (out.new
-        ≡ with_items out.old (places_of depth (lines_of text.now))) }
+        ≡ with_items out.old (place_objects depth (lines_of_text text.now))) }
     // what was passed over stands at this depth or deeper
     ensures rest { IfOk result (λ rest. (above : ℕ) → above < depth
-        → places_of above (lines_of rest.now) ≡ places_of above (lines_of text.now)) }
+        → place_objects above (lines_of_text rest.now) ≡ place_objects above (lines_of_text text.now)) }
     ensures shorter { IfOk result (λ rest. length rest.now ≤ length text.now) }
 {
     let mut rest = text;
@@ -101,9 +101,9 @@ fn push_here<'a, A: Allocator>(
     text: &'a str,
     depth: usize,
 ) -> Result<&'a str, AllocError>
-    ensures written { OnOk result (out.new ≡ with_items out.old (place_of depth line.now (places_of (depth + 1) (lines_of text.now)))) }
+    ensures written { OnOk result (out.new ≡ with_items out.old (place_on_line depth line.now (place_objects (depth + 1) (lines_of_text text.now)))) }
     ensures rest { IfOk result (λ rest. (above : ℕ) → above ≤ depth
-        → places_of above (lines_of rest.now) ≡ places_of above (lines_of text.now)) }
+        → place_objects above (lines_of_text rest.now) ≡ place_objects above (lines_of_text text.now)) }
     ensures shorter { IfOk result (λ rest. length rest.now ≤ length text.now) }
 {
     if depth_of(line) != depth {
@@ -133,9 +133,9 @@ fn push_inside<'a, A: Allocator>(
     depth: usize,
 ) -> Result<&'a str, AllocError>
     requires { depth < 2 ^ 63 }
-    ensures written { OnOk result (out.new ≡ with_members out.old (inside_members line.now (places_of (depth + 1) (lines_of text.now)))) }
+    ensures written { OnOk result (out.new ≡ with_members out.old (inside_members line.now (place_objects (depth + 1) (lines_of_text text.now)))) }
     ensures rest { IfOk result (λ rest. (above : ℕ) → above ≤ depth
-        → places_of above (lines_of rest.now) ≡ places_of above (lines_of text.now)) }
+        → place_objects above (lines_of_text rest.now) ≡ place_objects above (lines_of_text text.now)) }
     ensures shorter { IfOk result (λ rest. length rest.now ≤ length text.now) }
 {
     if !has_inside(line) {
@@ -162,7 +162,7 @@ fn push_root_members<A: Allocator>(
     text: &str,
 ) -> Result<(), AllocError>
     ensures { OnOk result (out.new
-        ≡ with_members out.old (root_members line.now (places_of 1 (lines_of text.now)))) }
+        ≡ with_members out.old (root_members line.now (place_objects 1 (lines_of_text text.now)))) }
 {
     out.text("bus", word(line, 1))?;
     out.text("space", word(line, 2))?;
@@ -175,7 +175,7 @@ fn push_root_members<A: Allocator>(
 /// The root bus and the space of a line, if it is such a heading, with the regions of the text behind it.
 fn push_root<A: Allocator>(out: &mut Output<A>, line: &str, text: &str) -> Result<(), AllocError>
     ensures { OnOk result
-        (out.new ≡ with_items out.old (root_of line.now (lines_of text.now))) }
+        (out.new ≡ with_items out.old (root_of line.now (lines_of_text text.now))) }
 {
     if !is_heading(line, "bus") {
         return Ok(());
@@ -187,7 +187,7 @@ fn push_root<A: Allocator>(out: &mut Output<A>, line: &str, text: &str) -> Resul
 
 /// The root buses of a map.
 pub fn push_roots<A: Allocator>(out: &mut Output<A>, text: &str) -> Result<(), AllocError>
-    ensures { OnOk result (out.new ≡ with_items out.old (buses_of (lines_of text.now))) }
+    ensures { OnOk result (out.new ≡ with_items out.old (bus_objects (lines_of_text text.now))) }
 {
     let mut rest = text;
     while !rest.is_empty() {
@@ -200,7 +200,7 @@ pub fn push_roots<A: Allocator>(out: &mut Output<A>, text: &str) -> Result<(), A
 
 /// The text behind the first heading that begins with this word, or no text.
 fn behind_heading<'a>(text: &'a str, name: &str) -> &'a str
-    ensures { lines_of result.now ≡ behind_heading name.now (lines_of text.now) }
+    ensures { lines_of_text result.now ≡ behind_heading name.now (lines_of_text text.now) }
 {
     let mut rest = text;
     while !rest.is_empty() {
@@ -220,7 +220,7 @@ pub fn push_aside<A: Allocator>(
     name: &str,
 ) -> Result<(), AllocError>
     ensures { OnOk result (out.new
-        ≡ with_items out.old (aside_of name.now (lines_of text.now))) }
+        ≡ with_items out.old (aside_of name.now (lines_of_text text.now))) }
 {
     push_places(out, behind_heading(text, name), 1)?;
     Ok(())

@@ -1,7 +1,7 @@
 //! Members that several kinds of lines have.
 ghost use Rattle.std.specs.Prelude.{◌≡◌, ◌<◌, ◌++◌, OnOk};
 ghost use Rattle.json.specs.Tree.{json_tokens};
-ghost use Rattle.pci_json.specs.Members.{with_members, with_items, first_of, last_of, is_line, line_number, register_or_line, slot_and_register, flag_member, name_member, is_told, end_member, last_address, range_members, range_object, opening, ranges_of};
+ghost use Rattle.pci_json.specs.Members.{with_members, with_items, digits_before_dash, digits_behind_dash, is_line, also_line_number, register_or_line, slot_register_members, flag_member, name_member, is_told, end_member, last_address, range_members, range_object, opening, range_objects};
 
 use crate::lines::{behind, cut, is_word, split_at_first, split_word, value, word};
 use crate::output::Output;
@@ -16,7 +16,7 @@ fn is_line(name: &str) -> bool
 
 /// The number of a line that stands behind a plus.
 fn line_number(name: &str) -> u64
-    ensures { result ≡ line_number name.now }
+    ensures { result ≡ also_line_number name.now }
 {
     value(split_at_first(name, b'+').1, 10)
 }
@@ -38,7 +38,7 @@ pub fn push_slot_and_register<A: Allocator>(
     n: usize,
 ) -> Result<(), AllocError>
     requires { n < 1000 }
-    ensures { OnOk result (out.new ≡ with_members out.old (slot_and_register n line.now)) }
+    ensures { OnOk result (out.new ≡ with_members out.old (slot_register_members n line.now)) }
 {
     let (slot, rest) = split_word(behind(line, n));
     out.text("slot", slot)?;
@@ -98,8 +98,8 @@ pub fn push_end<A: Allocator>(
 
 /// What stands before and behind the dash of a range.
 pub fn ends_of(range: &str) -> (&str, &str)
-    ensures first { result.0.now ≡ first_of range.now }
-    ensures last { result.1.now ≡ last_of range.now }
+    ensures first { result.0.now ≡ digits_before_dash range.now }
+    ensures last { result.1.now ≡ digits_behind_dash range.now }
 {
     split_at_first(range, b'-')
 }
@@ -146,7 +146,7 @@ pub fn push_opening<A: Allocator>(out: &mut Output<A>, range: &str) -> Result<()
 /// The ranges that stand in a text with this byte between them.
 pub fn push_ranges<A: Allocator>(out: &mut Output<A>, text: &str, end: u8) -> Result<(), AllocError>
     requires { end < 128 }
-    ensures { OnOk result (out.new ≡ with_items out.old (ranges_of end text.now)) }
+    ensures { OnOk result (out.new ≡ with_items out.old (range_objects end text.now)) }
 {
     let mut rest = text;
     while !rest.is_empty() {

@@ -2,8 +2,8 @@
 ghost use Rattle.std.specs.Prelude.{◌≡◌, ◌<◌, ◌++◌, OnOk};
 ghost use Rattle.json.specs.Tree.{json_tokens};
 ghost use Rattle.pci_json.specs.Lines.{word};
-ghost use Rattle.pci_json.specs.Members.{with_members, with_items, object_of, array_of, ranges_of};
-ghost use Rattle.pci_json.specs.Reasons.{range_place, part_members, region_members, each_members, fixed_members, is_fixed, claim_members, prefetchable_window, unclaimed_place, legacy_place, legacy_word, way_members, bridge_members, bridge_words, host_ranges, fits_value};
+ghost use Rattle.pci_json.specs.Members.{with_members, with_items, object_of, array_of, range_objects};
+ghost use Rattle.pci_json.specs.Reasons.{range_place, region_part_members, region_members, each_members, fixed_members, has_fixed_addresses, claim_members, prefetchable_window, unclaimed_place, legacy_place, legacy_word, way_members, bridge_members, bridge_words, host_ranges, fits_value};
 
 use crate::lines::{behind, is_word, word};
 use crate::members::{
@@ -28,7 +28,7 @@ fn range_place(line: &str, n: usize) -> usize
 /// The slot that is this word, and the register, the part and the space behind it.
 fn push_part<A: Allocator>(out: &mut Output<A>, line: &str, n: usize) -> Result<(), AllocError>
     requires { n < 100 }
-    ensures { OnOk result (out.new ≡ with_members out.old (part_members n line.now)) }
+    ensures { OnOk result (out.new ≡ with_members out.old (region_part_members n line.now)) }
 {
     push_slot_and_register(out, line, n)?;
     out.text("part", word(line, n + 2))?;
@@ -64,7 +64,7 @@ fn push_each<A: Allocator>(out: &mut Output<A>, line: &str) -> Result<(), AllocE
 /// The ranges of a legacy part or a palette part.
 fn push_fixed_ranges<A: Allocator>(out: &mut Output<A>, line: &str) -> Result<(), AllocError>
     ensures { OnOk result
-        (out.new ≡ out.old ++ json_tokens (array_of (ranges_of 44 (word 5 line.now)))) }
+        (out.new ≡ out.old ++ json_tokens (array_of (range_objects 44 (word 5 line.now)))) }
 {
     out.begin_array()?;
     push_ranges(out, word(line, 5), b',')?;
@@ -83,7 +83,7 @@ fn push_fixed<A: Allocator>(out: &mut Output<A>, line: &str) -> Result<(), Alloc
 
 /// Whether the part of a line is a legacy part or a palette part.
 fn is_fixed(line: &str) -> bool
-    ensures { result ≡ is_fixed line.now }
+    ensures { result ≡ has_fixed_addresses line.now }
 {
     is_word(line, 3, "vga")
         || is_word(line, 3, "vga16")

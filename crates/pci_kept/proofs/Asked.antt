@@ -31,7 +31,7 @@ use Rattle.pci_first_fit.specs.Own.{AreTerms}
 use Rattle.pci_first_fit.specs.Buses.{AreWindows, Classing, classing_of, TellsClasses}
 use Rattle.pci_kept.specs.declared.rules.Rules.{Rules}
 use Rattle.pci_kept.specs.Boards.{IsTree}
-use Rattle.pci_kept.specs.Known.{asked_by}
+use Rattle.pci_kept.specs.Known.{asked_by_rules}
 use Rattle.pci_kept.proofs.Opened.{tree_of}
 use Rattle.pci_kept.specs.declared.windows.TooLarge.{TooLarge}
 use Rattle.pci_kept.specs.Windows.{HasWindowsOf, IsTooLargeOf, AreAllLawful}
@@ -40,11 +40,11 @@ use Rattle.pci_kept.specs.Staying.{AreStaying, IsTooLargeInIo, asked_in_io}
 
 -- what is asked for, by the open windows over each bus
 pub left_of : (a : Admission) (l : Demand) (rules : Rules) → IsAdmitted a → (records : List Record) {values : List decoded.Record} → map record_value records ≡ values → HasRecords (system_in a) values
-    → (terms : Terms) → AreTerms l terms → (over : List OpenWindows) → ((q : Request) (s : System) → IsTree q s records → q.anew ≡ rules.anew → AreOpenOver q s over) → TellsClasses (classing_of a terms over) (asked_by a.roots l rules)
+    → (terms : Terms) → AreTerms l terms → (over : List OpenWindows) → ((q : Request) (s : System) → IsTree q s records → q.anew ≡ rules.anew → AreOpenOver q s over) → TellsClasses (classing_of a terms over) (asked_by_rules a.roots l rules)
 left_of a l rules admitted records same has terms are over opened = record {
   rooted = refl;
   terms = are;
-  overs_are = opened (asked_by a.roots l rules) (system_in a) (tree_of a l rules admitted records same has) refl;
+  overs_are = opened (asked_by_rules a.roots l rules) (system_in a) (tree_of a l rules admitted records same has) refl;
 }
 
 pub too_large_in_io : (p : Classing) (q : Request) → TellsClasses p q → (x : Refused TooLarge) → IsTooLargeOf p IoWindow x → IsTooLargeInIo q p.system x
@@ -67,13 +67,13 @@ new_in_io p windows roots d rules left has Prefetchable f listed is = absurd (bo
 
 -- ---- lists that are those of I/O alone
 
-module _ (p : Classing) (roots : List ℕ) (d x : Demand) (rules : Rules) (same : x ≡ demand_in_io d) (left : TellsClasses p (asked_by roots x rules)) where
+module _ (p : Classing) (roots : List ℕ) (d x : Demand) (rules : Rules) (same : x ≡ demand_in_io d) (left : TellsClasses p (asked_by_rules roots x rules)) where
   pub fault_in_io : (e : Refused TooLarge) → IsTooLargeOf p IoWindow e → IsTooLargeInIo (asked_in_io roots d rules) p.system e
-  fault_in_io e told = subst (λ y. IsTooLargeInIo (asked_by roots y rules) p.system e) same (too_large_in_io p (asked_by roots x rules) left e told)
+  fault_in_io e told = subst (λ y. IsTooLargeInIo (asked_by_rules roots y rules) p.system e) same (too_large_in_io p (asked_by_rules roots x rules) left e told)
 
-  pub stays_in_io : (windows : ByKind (List (Option Extent))) (table : List Kept) → HasWindowsOf p IoWindow windows.io → (IsKnowing p windows (asked_by roots x rules) → AreStaying (asked_by roots x rules) p.system table) → AreStaying (asked_in_io roots d rules) p.system table
-  stays_in_io windows table has stay = subst (λ y. AreStaying (asked_by roots y rules) p.system table) same (stay record {
+  pub stays_in_io : (windows : ByKind (List (Option Extent))) (table : List Kept) → HasWindowsOf p IoWindow windows.io → (IsKnowing p windows (asked_by_rules roots x rules) → AreStaying (asked_by_rules roots x rules) p.system table) → AreStaying (asked_in_io roots d rules) p.system table
+  stays_in_io windows table has stay = subst (λ y. AreStaying (asked_by_rules roots y rules) p.system table) same (stay record {
     left = left;
-    new = subst (λ y. (class : WindowKind) → HasNewWhereStands (asked_by roots y rules) p class (by_kind windows class)) (sym same)
-        (new_in_io p windows roots d rules (subst (λ y. TellsClasses p (asked_by roots y rules)) same left) has);
+    new = subst (λ y. (class : WindowKind) → HasNewWhereStands (asked_by_rules roots y rules) p class (by_kind windows class)) (sym same)
+        (new_in_io p windows roots d rules (subst (λ y. TellsClasses p (asked_by_rules roots y rules)) same left) has);
   })

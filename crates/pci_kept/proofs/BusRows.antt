@@ -18,7 +18,7 @@ use Rattle.pci_first_fit.specs.Lines.{level_of, AreForwardRanges, AreLines, AreA
 use Rattle.pci_first_fit.specs.Spots.{FirstsRise, AreRisingRanges}
 use Rattle.pci_kept.specs.declared.region.Region.{Region}
 use Rattle.pci_kept.specs.Passing.{CanBeNoted}
-use Rattle.pci_kept.specs.Rooms.{region_range, is_taken, is_taken_on, AreTakenOn}
+use Rattle.pci_kept.specs.Rooms.{region_range, is_taken, is_taken_on, AreTakenBehindBridge}
 
 module _ {X : Type 0} (test : X → Bool) where
   next_off : (xs : List X) (d : X) (n : ℕ) → n < length xs → test (get_or xs n d) ≡ false → filter test (take (n + 1) xs) ≡ filter test (take n xs)
@@ -114,7 +114,7 @@ row_forward rs bus space table functions ready n taken are k d low =
 -- ---- with what lines hold there
 
 pub taken_with : (rs : List Region) (lines : List Line) (bus n : ℕ) → n ≡ bus + 1 → (space : Space) (table : List Kept) (parts added taken : List Range) → parts ≡ map region_range (filter (is_taken_on bus space table) rs)
-    → ((q : Request) (b : ℕ) → AreLines q.roots q.told.ranges lines → n ≡ level_of q.roots b → AreAdded parts added (lines_on q space b)) → IsPermutation added taken → AreTakenOn rs lines bus space table taken
+    → ((q : Request) (b : ℕ) → AreLines q.roots q.told.ranges lines → n ≡ level_of q.roots b → AreAdded parts added (lines_on q space b)) → IsPermutation added taken → AreTakenBehindBridge rs lines bus space table taken
 taken_with rs lines bus n next space table parts added taken parts_are more sorted q are no_root =
     let put = more q bus are (next ∙ sym (ap (λ b. cond b 0 (bus + 1)) no_root)) in
     let held = lines_on q space bus in

@@ -32,7 +32,7 @@ use Rattle.pci_tree.proofs.Lifting.{same_slot_of}
 use Rattle.pci_place.specs.declared.above.Above.{Above}
 use Rattle.pci_place.specs.Above.{IsAbove, AreAboves}
 use Rattle.pci_place.specs.Items.{no_function, function_in}
-use Rattle.pci_place.specs.Records.{IsRecordOf}
+use Rattle.pci_place.specs.Records.{IsRecordInSystem}
 use Rattle.pci_place.proofs.Records.{FunctionAt, same_count, function_at}
 use Rattle.pci_first_fit.specs.declared.over.OpenWindows.{OpenWindows}
 use Rattle.pci_first_fit.specs.declared.over.Over.{Over}
@@ -128,7 +128,7 @@ module _ (q : Request) (s : System) (records : List Record) (has : HasRecords s 
     pub found : FunctionAt s r k
     found = function_at s records has k r (slice_get-get_or records k r inside ∙ ap Some (sym is_at))
 
-    pub record_is : IsRecordOf s found.f r
+    pub record_is : IsRecordInSystem s found.f r
     record_is = found.is
 
     pub parts_more : (o : Owner) (aboves : List Above) (d : Above) (overs : List OpenWindows) (windows : OpenWindows) (t : Terms) (lawful : All IsLawful records) → AreAboves s aboves → AreOpenOver q s overs → windows ≡ get_or overs o.bus no_windows → AreTerms (demand_of q) t → o.function ≡ k → o.bus ≡ r.slot.bus

@@ -18,7 +18,7 @@ use Rattle.settle_laws.proofs.Standing.{stands_by_itself}
 use Rattle.settle_laws.proofs.Holding.{both_same, holds_alone}
 use Rattle.pci_function.specs.declared.record.Record.{Record}
 use Rattle.pci_function.specs.Values.{record_value}
-use Rattle.pci_place.specs.Records.{IsRecordOf}
+use Rattle.pci_place.specs.Records.{IsRecordInSystem}
 use Rattle.pci_place.proofs.Records.{same_count, function_at}
 use Rattle.pci_first_fit.specs.declared.kept.Kept.{Kept}
 use Rattle.pci_first_fit.specs.Kept.{kept_of, nothing_kept, AreKeptParts}
@@ -49,14 +49,14 @@ pub record IsWithWindows (entry old : Kept) (io memory prefetch : Bool) : Type 0
   pub prefetch_is : kept_of entry (Window PrefetchWindow) ≡ prefetch
 
 -- the record of a function
-pub record_at : (s : System) (records : List Record) → HasRecords s (map record_value records) → (k : ℕ) (f : Function) → slice_get s k ≡ Some f → (r : Record) → r ≡ get_or records k r → IsRecordOf s f r
+pub record_at : (s : System) (records : List Record) → HasRecords s (map record_value records) → (k : ℕ) (f : Function) → slice_get s k ≡ Some f → (r : Record) → r ≡ get_or records k r → IsRecordInSystem s f r
 record_at s records has k f at r r_is =
     let count = same_count s records has in
     let within = slice_get_within s k f at in
     let found = function_at s records has k r (slice_get-get_or records k r (omega (arith, count, within)) ∙ ap Some (sym r_is)) in
     let both : Some found.f ≡ Some f = sym found.at ∙ at in
     let one : found.f ≡ f = cc in
-    subst (λ x. IsRecordOf s x r) one found.is
+    subst (λ x. IsRecordInSystem s x r) one found.is
 
 -- a window that has no range isn't open, and one that has is
 pub none_closed : (f : Function) (c : WindowKind) (o : Option Range) → o ≡ cond (is_open f c) (Some (range_of f (Window c))) None → o ≡ None → is_open f c ≡ false

@@ -42,7 +42,7 @@ use Rattle.pci_kept.specs.declared.region.Region.{Region as CodeRegion}
 use Rattle.pci_kept.specs.Known.{Known, asked, known, known_of, region_value, AreParts}
 use Rattle.pci_kept.proofs.Passing.{levels_one, spaces_one, one_space}
 use Rattle.pci_kept.specs.declared.held.Held.{Held}
-use Rattle.pci_kept.specs.Held.{is_kept, told_part, told_or, kept_range, held_of, held_range, is_level_on, IsForward, IsHeldBy, AreHeld, AreHeldIn}
+use Rattle.pci_kept.specs.Held.{is_region_kept, told_part, told_or, kept_range, held_of, held_range, is_level_on, IsForward, IsHeldBy, AreHeld, AreHeldIn}
 
 -- ---- filters of a slice
 
@@ -164,26 +164,26 @@ module _ (roots : List ℕ) (d : Demand) (s : System) (rs : List CodeRegion) (pa
   q0 = asked roots d [] false
 
   abbrev chosen : List Held
-  chosen = map (held_of grown) (filter (is_kept kept) rs)
+  chosen = map (held_of grown) (filter (is_region_kept kept) rs)
 
   -- of which part of the code something is
   record IsChosen (h : Held) : Type 0 where
     pub from : CodeRegion
     pub listed : Contains rs from
-    pub keeps : is_kept kept from ≡ true
+    pub keeps : is_region_kept kept from ≡ true
     pub is : held_of grown from ≡ h
 
   chosen_from : (held : List Held) → IsPermutation chosen held → (h : Held) → Contains held h → IsChosen h
   chosen_from held same h listed =
-      let made : IsMade (held_of grown) (filter (is_kept kept) rs) h = in_map_to (held_of grown) (filter (is_kept kept) rs) h (Contains-permutation held chosen h (IsPermutation-sym chosen held same) listed) in
-      let passed = in_filter_to (is_kept kept) rs made.from made.has in
+      let made : IsMade (held_of grown) (filter (is_region_kept kept) rs) h = in_map_to (held_of grown) (filter (is_region_kept kept) rs) h (Contains-permutation held chosen h (IsPermutation-sym chosen held same) listed) in
+      let passed = in_filter_to (is_region_kept kept) rs made.from made.has in
       record { from = made.from; listed = passed.0; keeps = passed.1; is = made.is }
 
   -- what is added of all parts and then sorted
-  pub chosen_sorted : (old added new : List Held) (slice : List CodeRegion) → old ≡ [] → slice ≡ rs → added ≡ old ++ map (held_of grown) (filter (is_kept kept) slice) → IsPermutation added new → IsPermutation chosen new
+  pub chosen_sorted : (old added new : List Held) (slice : List CodeRegion) → old ≡ [] → slice ≡ rs → added ≡ old ++ map (held_of grown) (filter (is_region_kept kept) slice) → IsPermutation added new → IsPermutation chosen new
   chosen_sorted old added new slice none all put sorted =
       subst (λ xs. IsPermutation xs new)
-      (put ∙ ap (λ xs. xs ++ map (held_of grown) (filter (is_kept kept) slice)) none ∙ ap (λ xs. map (held_of grown) (filter (is_kept kept) xs)) all) sorted
+      (put ∙ ap (λ xs. xs ++ map (held_of grown) (filter (is_region_kept kept) slice)) none ∙ ap (λ xs. map (held_of grown) (filter (is_region_kept kept) xs)) all) sorted
 
   pub held_forward : AreForward grown → (held : List Held) → IsPermutation chosen held → All IsForward held
   held_forward forward held same = λ k d low. (
@@ -201,7 +201,7 @@ module _ (roots : List ℕ) (d : Demand) (s : System) (rs : List CodeRegion) (pa
       its_part : has_part (function_in s x.function) (spec_part x.part) ≡ true
       its_part = (subst (IsThere s) region_is (there_of q0 s r in_system)).there
 
-      kept_is : is_kept kept x ≡ keep.stays r
+      kept_is : is_region_kept kept x ≡ keep.stays r
       kept_is = keeps x.function (function_in s x.function) (spec_part x.part) has_it its_part ∙ ap keep.stays (sym region_is)
 
       range_kept : keep.stays r ≡ true → decoded_range_of (kept_range grown x) ≡ keep.range r
@@ -211,7 +211,7 @@ module _ (roots : List ℕ) (d : Demand) (s : System) (rs : List CodeRegion) (pa
           ∙ sym (ranges x.function (function_in s x.function) (spec_part x.part) has_it its_part (subst (λ t. keep.stays t ≡ true) region_is is))
           ∙ ap keep.range (sym region_is)
 
-      held_by : is_kept kept x ≡ true → IsHeldBy q s keep (held_of grown x) r
+      held_by : is_region_kept kept x ≡ true → IsHeldBy q s keep (held_of grown x) r
       held_by is = record {
         listed = subst (λ ts. Contains ts r) (sym (regions_by q q0 s lists)) in_system;
         stays_is = sym kept_is ∙ is;
@@ -231,7 +231,7 @@ module _ (roots : List ℕ) (d : Demand) (s : System) (rs : List CodeRegion) (pa
           let made : IsMade (known s) rs (known_of q0 s r) = in_map_to (known s) rs (known_of q0 s r) (subst (λ ks. Contains ks (known_of q0 s r)) (sym parts.same) (in_map_from (known_of q0 s) (system_parts q0 s) r in_system)) in
           let on = kept_is made.from r made.has in_system (sym made.is) ∙ is in (
             held_of grown made.from,
-            Contains-permutation chosen held (held_of grown made.from) same (in_map_from (held_of grown) (filter (is_kept kept) rs) made.from (in_filter_from (is_kept kept) rs made.from made.has on)),
+            Contains-permutation chosen held (held_of grown made.from) same (in_map_from (held_of grown) (filter (is_region_kept kept) rs) made.from (in_filter_from (is_region_kept kept) rs made.from made.has on)),
             held_by made.from r made.has in_system (sym made.is) on,
           );
     }

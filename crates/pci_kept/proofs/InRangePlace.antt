@@ -30,7 +30,7 @@ use Rattle.pci_first_fit.specs.Over.{range_holds}
 use Rattle.pci_kept.specs.declared.told_line.ToldLine.{ToldLine}
 use Rattle.pci_kept.specs.Boards.{IsTree}
 use Rattle.pci_kept.specs.Passing.{AreStanding}
-use Rattle.pci_kept.specs.ToldLines.{unnamed, IsToldLine}
+use Rattle.pci_kept.specs.ToldLines.{unnamed, IsToldLineOf}
 use Rattle.pci_kept.proofs.OfRecord.{window_is}
 use Rattle.pci_kept.proofs.OverBus.{none_over, found, one_over, bridging}
 
@@ -39,7 +39,7 @@ and_false true = refl
 and_false false = refl
 
 module _ (q : Request) (s : System) (records : List Record) (tree : IsTree q s records) (over : List (Option ℕ)) (are : IsBridgeToBus records over) (table : List Kept) (standing : AreStanding q s table)
-    (t : ToldRange) (line : ToldLine) (is : IsToldLine q s t line) where
+    (t : ToldRange) (line : ToldLine) (is : IsToldLineOf q s t line) where
   abbrev bus : ℕ
   bus = t.slot.bus
 

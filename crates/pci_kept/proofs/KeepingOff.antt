@@ -12,7 +12,7 @@ use Rattle.pci_base.specs.Ranges.{decoded_range_of}
 use Rattle.pci_base.specs.declared.range.Range.{Range}
 use Rattle.pci_kept.specs.declared.rows.Row.{Row}
 use Rattle.pci_kept.specs.declared.rows.Reach.{Reach}
-use Rattle.pci_kept.specs.Rows.{AreRows, row_keeps_off, rows_keep_off, IsUpTo, EndsLast, IsCovered, IsReach, AreReaches, later, later_of, reach_of, reach_with, ends_at, reaches_to}
+use Rattle.pci_kept.specs.Rows.{AreRows, row_keeps_others_off, rows_keep_off, IsRowUpTo, EndsLast, IsCovered, IsRowReach, AreReaches, later, later_of, row_reach, reach_with, ends_at, reaches_to}
 
 abbrev pub no_row : Row
 no_row = record { key = 0; owner = 0; range = record { first = 0; last = 0 } }
@@ -54,7 +54,7 @@ pub record KeepsOff (key owner : ℕ) (range : Range) (r : Row) : Type 0 where
   pub ends : range.first ≤ r.range.last
   pub begins : r.range.first ≤ range.last
 
-keeping : (key owner : ℕ) (range : Range) (r : Row) → row_keeps_off key owner range r ≡ true → KeepsOff key owner range r
+keeping : (key owner : ℕ) (range : Range) (r : Row) → row_keeps_others_off key owner range r ≡ true → KeepsOff key owner range r
 keeping key owner range r is =
     let two = and_parts (r.key == key && not (r.owner == owner)) (not (ranges_are_apart (decoded_range_of r.range) (decoded_range_of range))) is in
     let one = and_parts (r.key == key) (not (r.owner == owner)) two.0 in
@@ -66,7 +66,7 @@ keeping key owner range r is =
       begins = both.1;
     }
 
-kept : (key owner : ℕ) (range : Range) (r : Row) → KeepsOff key owner range r → row_keeps_off key owner range r ≡ true
+kept : (key owner : ℕ) (range : Range) (r : Row) → KeepsOff key owner range r → row_keeps_others_off key owner range r ≡ true
 kept key owner range r is =
     let a = is.ends in
     let b = is.begins in
@@ -125,14 +125,14 @@ module _ (rows : List Row) (order : AreRows rows) (key owner : ℕ) (range : Ran
 
   pub none : (count ≡ 0 ⊎ ((d : Row) → (get_or rows (count - 1) d).key ≢ key)) → rows_keep_off rows key owner range ≡ false
   none h = false_from_ne_true (rows_keep_off rows key owner range) (λ is.
-      let of = any_gives (row_keeps_off key owner range) rows is in
+      let of = any_gives (row_keeps_others_off key owner range) rows is in
       let it = found of.1.0 of.0 (keeping key owner range of.0 of.2) of.1.1 of.1.2 in
       elim h [
         | inl nobody ↦ (let low = it.first in let no : ⊥ = omega (arith, low, nobody) in no)
         | inr differs ↦ differs of.0 (it.last of.0)
       ])
 
-  module _ (some : 0 < count) (last_key : (d : Row) → (get_or rows (count - 1) d).key ≡ key) (x : Reach) (reach : IsReach rows (count - 1) x) where
+  module _ (some : 0 < count) (last_key : (d : Row) → (get_or rows (count - 1) d).key ≡ key) (x : Reach) (reach : IsRowReach rows (count - 1) x) where
     -- a row up to the last one keeps it off where it ends behind its beginning
     so : (last : ℕ) (of : Row → Type 0) → EndsLast rows (count - 1) last of → ((r : Row) → of r → r.owner ≢ owner) → range.first ≤ last → rows_keep_off rows key owner range ≡ true
     so last of ends other up =
@@ -141,7 +141,7 @@ module _ (rows : List Row) (order : AreRows rows) (key owner : ℕ) (range : Ran
         let le = up_to.le in
         let within : ends.j < length rows = omega (arith, le, some, bound) in
         let same_key : r.key ≡ key = up_to.key ∙ last_key r in
-        any_from (row_keeps_off key owner range) rows r (ends.j, within, up_to.at)
+        any_from (row_keeps_others_off key owner range) rows r (ends.j, within, up_to.at)
         (kept key owner range r record {
           here = same_key;
           other = other r ends.is;
@@ -152,7 +152,7 @@ module _ (rows : List Row) (order : AreRows rows) (key owner : ℕ) (range : Ran
           ];
         })
 
-    up_to_it : (j : ℕ) (r : Row) → KeepsOff key owner range r → j < length rows → get_or rows j r ≡ r → IsUpTo rows (count - 1) j r
+    up_to_it : (j : ℕ) (r : Row) → KeepsOff key owner range r → j < length rows → get_or rows j r ≡ r → IsRowUpTo rows (count - 1) j r
     up_to_it j r is within at =
         let it = found j r is within at in
         let low = it.first in
@@ -164,14 +164,14 @@ module _ (rows : List Row) (order : AreRows rows) (key owner : ℕ) (range : Ran
 
     by_others : x.owner ≡ owner → (others : Option ℕ) → x.others ≡ others → ends_at others range.first ≡ rows_keep_off rows key owner range
     by_others own None e = sym (false_from_ne_true (rows_keep_off rows key owner range) (λ is.
-        let of = any_gives (row_keeps_off key owner range) rows is in
+        let of = any_gives (row_keeps_others_off key owner range) rows is in
         let keeps = keeping key owner range of.0 of.2 in
         let covered = subst (λ o. IsCovered o of.0.range.last) e (reach.rest of.1.0 of.0 (up_to_it of.1.0 of.0 keeps of.1.1 of.1.2) (λ same. keeps.other (same ∙ own))) in
         let no : ⊥ = omega (arith, covered) in no))
     by_others own (Some n) e = elim (cases_Bool (nat_le range.first n)) [
       | inl up ↦ up ∙ sym (so n (λ r. r.owner ≢ x.owner) (reach.other n e) (λ r differs same. differs (same ∙ sym own)) (leb-true range.first n up))
       | inr down ↦ down ∙ sym (false_from_ne_true (rows_keep_off rows key owner range) (λ is.
-          let of = any_gives (row_keeps_off key owner range) rows is in
+          let of = any_gives (row_keeps_others_off key owner range) rows is in
           let keeps = keeping key owner range of.0 of.2 in
           let ends = keeps.ends in
           let covered = subst (λ o. IsCovered o of.0.range.last) e (reach.rest of.1.0 of.0 (up_to_it of.1.0 of.0 keeps of.1.1 of.1.2) (λ same. keeps.other (same ∙ own))) in
@@ -182,7 +182,7 @@ module _ (rows : List Row) (order : AreRows rows) (key owner : ℕ) (range : Ran
     by_last other = elim (cases_Bool (nat_le range.first x.last)) [
       | inl up ↦ up ∙ sym (so x.last (λ r. r.owner ≡ x.owner) reach.at (λ r same own. other (sym same ∙ own)) (leb-true range.first x.last up))
       | inr down ↦ down ∙ sym (false_from_ne_true (rows_keep_off rows key owner range) (λ is.
-          let of = any_gives (row_keeps_off key owner range) rows is in
+          let of = any_gives (row_keeps_others_off key owner range) rows is in
           let keeps = keeping key owner range of.0 of.2 in
           let ends = keeps.ends in
           let covered = reach.all of.1.0 of.0 (up_to_it of.1.0 of.0 keeps of.1.1 of.1.2) in
@@ -210,11 +210,11 @@ module _ (rows : List Row) (order : AreRows rows) (k : ℕ) (within : k < length
   here : (r : Row) → get_or rows k r ≡ row
   here r = get_or_default rows k r row within ∙ row_is
 
-  it : IsUpTo rows k k row
+  it : IsRowUpTo rows k k row
   it = record { le = omega arith; at = row_is; key = ap (λ (x : Row). x.key) (sym row_is) }
 
   -- the first of its key
-  pub first_of_key : (k ≡ 0 ⊎ ((d : Row) → (get_or rows (k - 1) d).key ≢ row.key)) → IsReach rows k (reach_of row)
+  pub first_of_key : (k ≡ 0 ⊎ ((d : Row) → (get_or rows (k - 1) d).key ≢ row.key)) → IsRowReach rows k (row_reach row)
   first_of_key first = record {
     all = λ j r up_to. (let e : r.range.last ≡ row.range.last = ap (λ (x : Row). x.range.last) (alone j r up_to) in omega (arith, e));
     at = record { j = k; row = row; there = it; is = refl; ends = refl };
@@ -225,7 +225,7 @@ module _ (rows : List Row) (order : AreRows rows) (k : ℕ) (within : k < length
       no_some : (n : ℕ) → None ≡ Some n → ⊥
       no_some n e = cc
 
-      alone : (j : ℕ) (r : Row) → IsUpTo rows k j r → r ≡ row
+      alone : (j : ℕ) (r : Row) → IsRowUpTo rows k j r → r ≡ row
       alone j r up_to = elim (cases_eq j k) [
         | inl same ↦ sym up_to.at ∙ ap (λ n. get_or rows n r) same ∙ here r
         | inr differ ↦
@@ -251,8 +251,8 @@ module _ (rows : List Row) (order : AreRows rows) (k : ℕ) (within : k < length
             ])
       ]
 
-  module _ (some : 0 < k) (same_key : (d : Row) → (get_or rows (k - 1) d).key ≡ row.key) (x : Reach) (reach : IsReach rows (k - 1) x) where
-    old : (j : ℕ) (r : Row) → IsUpTo rows k j r → (r ≡ row) ⊎ IsUpTo rows (k - 1) j r
+  module _ (some : 0 < k) (same_key : (d : Row) → (get_or rows (k - 1) d).key ≡ row.key) (x : Reach) (reach : IsRowReach rows (k - 1) x) where
+    old : (j : ℕ) (r : Row) → IsRowUpTo rows k j r → (r ≡ row) ⊎ IsRowUpTo rows (k - 1) j r
     old j r up_to = elim (cases_eq j k) [
       | inl same ↦ inl (sym up_to.at ∙ ap (λ n. get_or rows n r) same ∙ here r)
       | inr differ ↦ inr (let le = up_to.le in record {
@@ -262,7 +262,7 @@ module _ (rows : List Row) (order : AreRows rows) (k : ℕ) (within : k < length
       })
     ]
 
-    new : (j : ℕ) (r : Row) → IsUpTo rows (k - 1) j r → IsUpTo rows k j r
+    new : (j : ℕ) (r : Row) → IsRowUpTo rows (k - 1) j r → IsRowUpTo rows k j r
     new j r up_to = (let le = up_to.le in record {
       le = omega (arith, le);
       at = up_to.at;
@@ -284,7 +284,7 @@ module _ (rows : List Row) (order : AreRows rows) (k : ℕ) (within : k < length
     last_of : (r : Row) → r ≡ row → r.range.last ≡ last
     last_of r same = ap (λ (y : Row). y.range.last) same
 
-    own_row : row.owner ≡ x.owner → IsReach rows k (record { owner = x.owner; last = later x.last last; others = x.others })
+    own_row : row.owner ≡ x.owner → IsRowReach rows k (record { owner = x.owner; last = later x.last last; others = x.others })
     own_row own =
         let facts = later_is x.last last in
         let a = facts.0 in
@@ -305,7 +305,7 @@ module _ (rows : List Row) (order : AreRows rows) (k : ℕ) (within : k < length
           other = λ n e. still n (λ r. r.owner ≢ x.owner) (λ r. r.owner ≢ x.owner) (λ r is. is) (reach.other n e);
         }
 
-    last_row : row.owner ≢ x.owner → x.last < last → IsReach rows k (record { owner = row.owner; last = last; others = Some x.last })
+    last_row : row.owner ≢ x.owner → x.last < last → IsRowReach rows k (record { owner = row.owner; last = last; others = Some x.last })
     last_row other up = record {
       all = λ j r up_to. elim (old j r up_to) [
         | inl same ↦ (let e = last_of r same in omega (arith, e))
@@ -321,7 +321,7 @@ module _ (rows : List Row) (order : AreRows rows) (k : ℕ) (within : k < length
           (still x.last (λ r. r.owner ≡ x.owner) (λ r. r.owner ≢ row.owner) (λ r is own. other (sym own ∙ is)) reach.at));
     }
 
-    other_row : row.owner ≢ x.owner → last ≤ x.last → IsReach rows k (record { owner = x.owner; last = x.last; others = Some (later_of x.others last) })
+    other_row : row.owner ≢ x.owner → last ≤ x.last → IsRowReach rows k (record { owner = x.owner; last = x.last; others = Some (later_of x.others last) })
     other_row other down = record {
       all = λ j r up_to. elim (old j r up_to) [
         | inl same ↦ (let e = last_of r same in omega (arith, e, down))
@@ -362,21 +362,21 @@ module _ (rows : List Row) (order : AreRows rows) (k : ℕ) (within : k < length
     abbrev ends_before : Reach
     ends_before = record { owner = x.owner; last = x.last; others = Some (later_of x.others last) }
 
-    pub with_row : IsReach rows k (reach_with x row)
+    pub with_row : IsRowReach rows k (reach_with x row)
     with_row = elim (cases_eq row.owner x.owner) [
-      | inl own ↦ subst (IsReach rows k) (sym (ap (λ b. cond b owned (cond (nat_lt x.last last) ends_last ends_before)) (eq-eqb row.owner x.owner own))) (own_row own)
+      | inl own ↦ subst (IsRowReach rows k) (sym (ap (λ b. cond b owned (cond (nat_lt x.last last) ends_last ends_before)) (eq-eqb row.owner x.owner own))) (own_row own)
       | inr other ↦ elim (cases_Bool (nat_lt x.last last)) [
-        | inl up ↦ subst (IsReach rows k) (sym (ap (λ b. cond b owned (cond (nat_lt x.last last) ends_last ends_before)) (ne_eqb row.owner x.owner other) ∙ ap (λ b. cond b ends_last ends_before) up)) (last_row other (ltb-true x.last last up))
-        | inr down ↦ subst (IsReach rows k) (sym (ap (λ b. cond b owned (cond (nat_lt x.last last) ends_last ends_before)) (ne_eqb row.owner x.owner other) ∙ ap (λ b. cond b ends_last ends_before) down)) (other_row other (not_less x.last last down))
+        | inl up ↦ subst (IsRowReach rows k) (sym (ap (λ b. cond b owned (cond (nat_lt x.last last) ends_last ends_before)) (ne_eqb row.owner x.owner other) ∙ ap (λ b. cond b ends_last ends_before) up)) (last_row other (ltb-true x.last last up))
+        | inr down ↦ subst (IsRowReach rows k) (sym (ap (λ b. cond b owned (cond (nat_lt x.last last) ends_last ends_before)) (ne_eqb row.owner x.owner other) ∙ ap (λ b. cond b ends_last ends_before) down)) (other_row other (not_less x.last last down))
       ]
     ]
 
 -- one reach more
-pub reaches_more : (rows : List Row) (old : List Reach) (k : ℕ) (x : Reach) → length old ≡ k → ((j : ℕ) (d : Reach) → j < k → IsReach rows j (get_or old j d)) → IsReach rows k x
-    → (new : List Reach) → new ≡ old ++ (x ∷ []) → (j : ℕ) (d : Reach) → j < k + 1 → IsReach rows j (get_or new j d)
-reaches_more rows old k x size each is new put j d low = subst (λ xs. IsReach rows j (get_or xs j d)) (sym put) (elim (cases_eq j k) [
-  | inl same ↦ subst (IsReach rows j) (sym (ap (λ n. get_or (old ++ (x ∷ [])) n d) (let at : j ≡ length old + 0 = omega (arith, same, size) in at) ∙ get_or-append-add old (x ∷ []) 0 d)) (subst (λ n. IsReach rows n x) (sym same) is)
-  | inr differ ↦ subst (IsReach rows j) (sym (get_or_append_left old (x ∷ []) d j (omega (arith, low, differ, size)))) (each j d (omega (arith, low, differ)))
+pub reaches_more : (rows : List Row) (old : List Reach) (k : ℕ) (x : Reach) → length old ≡ k → ((j : ℕ) (d : Reach) → j < k → IsRowReach rows j (get_or old j d)) → IsRowReach rows k x
+    → (new : List Reach) → new ≡ old ++ (x ∷ []) → (j : ℕ) (d : Reach) → j < k + 1 → IsRowReach rows j (get_or new j d)
+reaches_more rows old k x size each is new put j d low = subst (λ xs. IsRowReach rows j (get_or xs j d)) (sym put) (elim (cases_eq j k) [
+  | inl same ↦ subst (IsRowReach rows j) (sym (ap (λ n. get_or (old ++ (x ∷ [])) n d) (let at : j ≡ length old + 0 = omega (arith, same, size) in at) ∙ get_or-append-add old (x ∷ []) 0 d)) (subst (λ n. IsRowReach rows n x) (sym same) is)
+  | inr differ ↦ subst (IsRowReach rows j) (sym (get_or_append_left old (x ∷ []) d j (omega (arith, low, differ, size)))) (each j d (omega (arith, low, differ)))
 ])
 
 -- how far rows reach, by slices of them

@@ -31,8 +31,8 @@ use Rattle.pci_kept.specs.declared.region.Region.{Region}
 use Rattle.pci_kept.specs.declared.rows.Row.{Row}
 use Rattle.pci_kept.specs.Known.{Known, region_value}
 use Rattle.pci_kept.specs.Boards.{IsKnownPart}
-use Rattle.pci_kept.specs.Rows.{row_keeps_off, rows_keep_off}
-use Rattle.pci_kept.specs.LineRows.{row_key, nobody, IsRowOf, AreLineRows}
+use Rattle.pci_kept.specs.Rows.{row_keeps_others_off, rows_keep_off}
+use Rattle.pci_kept.specs.LineRows.{row_key, nobody, IsRowOf, AreRowsOfKeptLines}
 use Rattle.pci_kept.proofs.Indexes.{one_number}
 use Rattle.pci_kept.proofs.Passing.{levels_one, one_space, spaces_one}
 use Rattle.pci_kept.proofs.ToldIndexes.{told_at}
@@ -106,17 +106,17 @@ module _ (q : Request) (told : IsTold q.told.ranges) where
           ∙ sym (ap (λ b. b && same_slot x.told.slot slot) free)
     ]
 
-    row_keeps : (x : ToldRegion) → Contains (told_regions q.told) x → (r : Row) → IsRowOf q x r → row_keeps_off key (slot_number slot) range r ≡ keeps_off q x slot space (decoded_range_of range)
+    row_keeps : (x : ToldRegion) → Contains (told_regions q.told) x → (r : Row) → IsRowOf q x r → row_keeps_others_off key (slot_number slot) range r ≡ keeps_off q x slot space (decoded_range_of range)
     row_keeps x has r is =
         ap (λ b. b && not (r.owner == slot_number slot) && not (ranges_are_apart (decoded_range_of r.range) (decoded_range_of range))) (key_is x r is)
         ∙ ap (λ b. is_line_of q space slot.bus x && not b && not (ranges_are_apart (decoded_range_of r.range) (decoded_range_of range))) (owner_is x has r is)
         ∙ ap (λ y. can_keep_off q x slot space && not (ranges_are_apart y (decoded_range_of range))) is.range
 
-    pub rows_keep : (kept : ToldRegion → Bool) (rows : List Row) → AreLineRows q kept rows
+    pub rows_keep : (kept : ToldRegion → Bool) (rows : List Row) → AreRowsOfKeptLines q kept rows
         → rows_keep_off rows key (slot_number slot) range ≡ list_any (λ x. kept x && keeps_off q x slot space (decoded_range_of range)) (told_regions q.told)
     rows_keep kept rows are = same_bool (rows_keep_off rows key (slot_number slot) range) (list_any (λ x. kept x && keeps_off q x slot space (decoded_range_of range)) (told_regions q.told))
         (λ is.
-        let of = any_gives (row_keeps_off key (slot_number slot) range) rows is in
+        let of = any_gives (row_keeps_others_off key (slot_number slot) range) rows is in
         let line = are.each of.0 of.1 in
         any_from (λ x. kept x && keeps_off q x slot space (decoded_range_of range)) (told_regions q.told) line.0 line.1
         (and_from (kept line.0) (keeps_off q line.0 slot space (decoded_range_of range)) line.2 (sym (row_keeps line.0 line.1 of.0 line.3) ∙ of.2)))
@@ -124,7 +124,7 @@ module _ (q : Request) (told : IsTold q.told.ranges) where
         let of = any_gives (λ x. kept x && keeps_off q x slot space (decoded_range_of range)) (told_regions q.told) is in
         let both = and_parts (kept of.0) (keeps_off q of.0 slot space (decoded_range_of range)) of.2 in
         let row = are.all of.0 of.1 both.0 in
-        any_from (row_keeps_off key (slot_number slot) range) rows row.0 row.1 (row_keeps of.0 of.1 row.0 row.2 ∙ both.1))
+        any_from (row_keeps_others_off key (slot_number slot) range) rows row.0 row.1 (row_keeps of.0 of.1 row.0 row.2 ∙ both.1))
 
 -- ---- parts
 
@@ -139,7 +139,7 @@ module _ (q : Request) (s : System) (told : IsTold q.told.ranges) (r : Region) (
   row_there = row_key r.level (code.space_of r.space)
 
   -- rows of lines that a test keeps
-  pub kept_by : (kept : ToldRegion → Bool) (rows : List Row) → AreLineRows q kept rows → rows_keep_off rows row_there (slot_number slot) r.range ≡ list_any (λ x. kept x && keeps_off_part q x v) (told_regions q.told)
+  pub kept_by : (kept : ToldRegion → Bool) (rows : List Row) → AreRowsOfKeptLines q kept rows → rows_keep_off rows row_there (slot_number slot) r.range ≡ list_any (λ x. kept x && keeps_off_part q x v) (told_regions q.told)
   kept_by kept rows are =
       let level_is : r.level ≡ level q slot.bus = ap (λ (k : Known). k.level) is.is.all ∙ ap (λ (x : Slot). level q x.bus) slot_is in
       let space_is : code.space_of r.space ≡ part_space v = ap (λ (k : Known). k.space) is.is.all in
@@ -166,21 +166,21 @@ module _ (q : Request) (s : System) (told : IsTold q.told.ranges) (r : Region) (
   always false false = refl
 
   -- one that comes before lines that are off is kept off by those that are on
-  pub kept_off_on : (r.leads || r.fixed || r.on) ≡ true → (rows : List Row) → AreLineRows q (is_line_on q s) rows → rows_keep_off rows row_there (slot_number slot) r.range ≡ is_kept_off q s v
+  pub kept_off_on : (r.leads || r.fixed || r.on) ≡ true → (rows : List Row) → AreRowsOfKeptLines q (is_line_on q s) rows → rows_keep_off rows row_there (slot_number slot) r.range ≡ is_kept_off q s v
   kept_off_on first rows are =
       kept_by (is_line_on q s) rows are
       ∙ same_any (λ x. is_line_on q s x && keeps_off_part q x v) (λ x. keeps_off_part q x v && (is_line_on q s x || false)) (told_regions q.told) (λ x has. either (is_line_on q s x) (keeps_off_part q x v))
       ∙ sym (off_by true (sym before_off ∙ first))
 
   -- and any other one by all
-  pub kept_off_all : (r.leads || r.fixed || r.on) ≡ false → (rows : List Row) → AreLineRows q (λ x. true) rows → rows_keep_off rows row_there (slot_number slot) r.range ≡ is_kept_off q s v
+  pub kept_off_all : (r.leads || r.fixed || r.on) ≡ false → (rows : List Row) → AreRowsOfKeptLines q (λ x. true) rows → rows_keep_off rows row_there (slot_number slot) r.range ≡ is_kept_off q s v
   kept_off_all first rows are =
       kept_by (λ x. true) rows are
       ∙ same_any (λ x. true && keeps_off_part q x v) (λ x. keeps_off_part q x v && (is_line_on q s x || true)) (told_regions q.told) (λ x has. always (is_line_on q s x) (keeps_off_part q x v))
       ∙ sym (off_by false (sym before_off ∙ first))
 
 -- where no line has a row, nothing keeps it off
-pub no_row_keeps : (q : Request) (s : System) (v : FunctionPart) (rows : List Row) → AreLineRows q (λ x. true) rows → rows ≡ [] → false ≡ is_kept_off q s v
+pub no_row_keeps : (q : Request) (s : System) (v : FunctionPart) (rows : List Row) → AreRowsOfKeptLines q (λ x. true) rows → rows ≡ [] → false ≡ is_kept_off q s v
 no_row_keeps q s v rows are none = sym (false_from_ne_true (is_kept_off q s v) (λ is.
     let of = any_gives (λ x. keeps_off_part q x v && (is_line_on q s x || not (precedes_off q s v))) (told_regions q.told) is in
     let row = are.all of.0 of.1 refl in

@@ -36,9 +36,9 @@ use Rattle.pci_kept.specs.declared.region.Region.{Region}
 use Rattle.pci_kept.specs.declared.told_line.ToldLine.{ToldLine}
 use Rattle.pci_kept.specs.Known.{Known, region_value}
 use Rattle.pci_kept.specs.Boards.{IsTree, IsKnown}
-use Rattle.pci_kept.specs.ToldLines.{IsToldLine, AreToldLines, part_leads_to, leads_to_line}
+use Rattle.pci_kept.specs.ToldLines.{IsToldLineOf, AreToldLines, part_leads_to, leads_to_line}
 use Rattle.pci_kept.specs.Leads.{leads_to_lines, AreReachable}
-use Rattle.pci_kept.specs.RangePass.{no_range, no_line}
+use Rattle.pci_kept.specs.RangePass.{no_range, no_told_line}
 use Rattle.pci_kept.proofs.ToldIndexes.{told_at, told_by}
 
 -- the first one up to a bus, and the first one above another
@@ -85,7 +85,7 @@ module _ (any : Bool) (q : Request) (s : System) (r : Region) (is : IsKnown q s 
   by_part x line class parts.Rom e = ap (λ z. is_always_line x && are_same_space z x.told.space) (space_is ∙ ap (λ p. space_of f (spec_part p)) e)
 
   -- of a line behind its bridge
-  pub line_is : (x : ToldRegion) (line : ToldLine) → IsToldLine q s x.told line → leads_to_line any r x.told line ≡ ((any || is_line_on q s x) && (not (is_held_line x) && leads_by q s f v.part x))
+  pub line_is : (x : ToldRegion) (line : ToldLine) → IsToldLineOf q s x.told line → leads_to_line any r x.told line ≡ ((any || is_line_on q s x) && (not (is_held_line x) && leads_by q s f v.part x))
   line_is x line known =
       ap (λ b. (any || b) && not (is_marked_held x.told.mark) && part_leads_to r.part (code.space_of r.space) (decoded_range_of r.range) x.told line) known.on
       ∙ ap (λ b. (any || is_line_on q s x) && not (is_held_line x) && b) (by_part x line known.class r.part refl)
@@ -147,7 +147,7 @@ module _ (any : Bool) (q : Request) (s : System) (r : Region) (is : IsKnown q s 
       line_at : (k : ℕ) (d : ToldLine) (t : ToldRange) → k < length q.told.ranges → (y : ToldRegion) → get_or q.told.ranges k t ≡ y.told → leads_to_line any r (get_or q.told.ranges k t) (get_or lines k d) ≡ ((any || is_line_on q s y) && (not (is_held_line y) && leads_by q s f v.part y))
       line_at k d t low y e =
           ap (λ (z : ToldRange). leads_to_line any r z (get_or lines k d)) e
-          ∙ line_is y (get_or lines k d) (subst (λ (z : ToldRange). IsToldLine q s z (get_or lines k d)) e (are.each k d t low))
+          ∙ line_is y (get_or lines k d) (subst (λ (z : ToldRange). IsToldLineOf q s z (get_or lines k d)) e (are.each k d t low))
 
       pub leads_where : (k : ℕ) → first ≤ k → k < end → ((t : ToldRange) (d : ToldLine) → leads_to_line any r (get_or q.told.ranges k t) (get_or lines k d) ≡ true) → (t : ToldRange) (d : ToldLine) → leads_to_lines any q s v ≡ true
       leads_where k from up leads t d =
@@ -203,12 +203,12 @@ module _ (any : Bool) (q : Request) (s : System) (r : Region) (is : IsKnown q s 
           (subst (λ xs. AllWithin (λ (t : ToldRange). b.secondary ≤ t.slot.bus) xs first (length xs)) (sym same_ranges) after)
           (subst (λ xs. AllWithin (λ (t : ToldRange). t.slot.bus < b.subordinate + 1) xs 0 end) (sym same_ranges) end_before)
           (subst (λ xs. AllWithin (λ (t : ToldRange). b.subordinate + 1 ≤ t.slot.bus) xs end (length xs)) (sym same_ranges) end_after)
-          there.0 there.1 there.2 (λ t l. subst (λ (xs : List ToldRange). leads_to_line any r (get_or xs there.0 t) (get_or lines there.0 l) ≡ true) (sym same_ranges) (there.3 t l)) no_range no_line)
+          there.0 there.1 there.2 (λ t l. subst (λ (xs : List ToldRange). leads_to_line any r (get_or xs there.0 t) (get_or lines there.0 l) ≡ true) (sym same_ranges) (there.3 t l)) no_range no_told_line)
       | inr off ↦
           off ∙ sym (leads_nowhere b b_is first end (subst (λ xs. end ≤ length xs) (sym same_ranges) bound)
           (subst (λ xs. AllWithin (λ (t : ToldRange). t.slot.bus < b.secondary) xs 0 first) (sym same_ranges) before)
           (subst (λ xs. AllWithin (λ (t : ToldRange). b.secondary ≤ t.slot.bus) xs first (length xs)) (sym same_ranges) after)
           (subst (λ xs. AllWithin (λ (t : ToldRange). t.slot.bus < b.subordinate + 1) xs 0 end) (sym same_ranges) end_before)
           (subst (λ xs. AllWithin (λ (t : ToldRange). b.subordinate + 1 ≤ t.slot.bus) xs end (length xs)) (sym same_ranges) end_after)
-          (λ k t l from up. subst (λ (xs : List ToldRange). leads_to_line any r (get_or xs k t) (get_or lines k l) ≡ false) (sym same_ranges) (none off k t l from up)) no_line)
+          (λ k t l from up. subst (λ (xs : List ToldRange). leads_to_line any r (get_or xs k t) (get_or lines k l) ≡ false) (sym same_ranges) (none off k t l from up)) no_told_line)
     ]

@@ -15,8 +15,8 @@ use Rattle.settle_laws.specs.Order.{level}
 use Rattle.pci_base.specs.Ranges.{decoded_range_of}
 use Rattle.pci_kept.specs.declared.rows.Row.{Row}
 use Rattle.pci_kept.specs.declared.told_line.ToldLine.{ToldLine}
-use Rattle.pci_kept.specs.ToldLines.{unnamed, IsToldLine, AreToldLines}
-use Rattle.pci_kept.specs.LineRows.{row_key, line_owner, IsRowOf, AreLineRows, is_kept_line}
+use Rattle.pci_kept.specs.ToldLines.{unnamed, IsToldLineOf, AreToldLines}
+use Rattle.pci_kept.specs.LineRows.{row_key, line_owner, IsRowOf, AreRowsOfKeptLines, is_kept_line}
 use Rattle.pci_kept.proofs.ToldIndexes.{told_at, told_by}
 
 -- the row that is made of a line
@@ -38,8 +38,8 @@ module _ (q : Request) (s : System) (all : Bool) where
   }
 
   module _ (lines : List ToldLine) (are : AreToldLines q s lines) (count : ℕ) (within : count < length q.told.ranges) (rows : List Row) (before : AreRowsBelow count rows) (t : ToldRange) (t_is : t ≡ get_or q.told.ranges count t) (line : ToldLine) (line_is : line ≡ get_or lines count line) where
-    known : IsToldLine q s t line
-    known = subst (λ y. IsToldLine q s y line) (sym t_is) (subst (IsToldLine q s (get_or q.told.ranges count t)) (sym line_is) (are.each count line t within))
+    known : IsToldLineOf q s t line
+    known = subst (λ y. IsToldLineOf q s y line) (sym t_is) (subst (IsToldLineOf q s (get_or q.told.ranges count t)) (sym line_is) (are.each count line t within))
 
     kept_is : (x : ToldRegion) → x.told ≡ t → is_kept_line q s all x ≡ (all || line.on)
     kept_is x e = ap (λ (y : ToldRange). is_kept_line q s all (unnamed y)) e ∙ ap (λ b. all || b) (sym known.on)
@@ -85,7 +85,7 @@ module _ (q : Request) (s : System) (all : Bool) where
         ];
       }
 
-  pub rows_all : (count : ℕ) (rows : List Row) → length q.told.ranges ≤ count → AreRowsBelow count rows → AreLineRows q (is_kept_line q s all) rows
+  pub rows_all : (count : ℕ) (rows : List Row) → length q.told.ranges ≤ count → AreRowsBelow count rows → AreRowsOfKeptLines q (is_kept_line q s all) rows
   rows_all count rows end below = record {
     each = below.each;
     all = λ x has kept. (
@@ -95,7 +95,7 @@ module _ (q : Request) (s : System) (all : Bool) where
   }
 
 -- sorted rows are of the same lines
-pub rows_moved : (q : Request) (kept : ToldRegion → Bool) (old new : List Row) → IsPermutation old new → AreLineRows q kept old → AreLineRows q kept new
+pub rows_moved : (q : Request) (kept : ToldRegion → Bool) (old new : List Row) → IsPermutation old new → AreRowsOfKeptLines q kept old → AreRowsOfKeptLines q kept new
 rows_moved q kept old new moved are = record {
   each = λ r has. are.each r (Contains-permutation new old r (IsPermutation-sym old new moved) has);
   all = λ x has is. (let row = are.all x has is in (row.0, Contains-permutation old new row.0 moved row.1, row.2));

@@ -23,7 +23,7 @@ use Rattle.pci_function.specs.Values.{record_value}
 use Rattle.pci_image.specs.Windows.{window_of}
 use Rattle.pci_tree.specs.Passes.{range_in}
 use Rattle.pci_tree.proofs.Lifting.{same_bridge}
-use Rattle.pci_place.specs.Records.{IsRecordOf}
+use Rattle.pci_place.specs.Records.{IsRecordInSystem}
 use Rattle.pci_place.proofs.Records.{FunctionAt, function_at, same_count}
 use Rattle.pci_kept.proofs.OfRecord.{window_is}
 use Rattle.settle_spec.specs.FirstPlace.{Extent as ExtentValue, ends_by, first_spot, first_place, else_at}
@@ -31,16 +31,16 @@ use Rattle.settle_spec.specs.Lines.{taken_for}
 use Rattle.settle_spec.specs.Lists.{Request}
 use Rattle.settle_spec.specs.Parts.{FunctionPart}
 use Rattle.settle_spec.specs.Stands.{window_part}
-use Rattle.settle_spec.specs.Items.{Item as ItemValue, Placing, AllPlaced, Lacks, and_placed, place_next, place_each, taken_by, has_of, bus_items, new_window, are_placed}
+use Rattle.settle_spec.specs.Items.{PlacingItem as ItemValue, Placing, AllPlaced, Lacks, and_placed, place_next, place_each, taken_by, has_of, bus_items, new_window, are_placed}
 use Rattle.settle_spec.proofs.FirstSpot.{least_spot, spot_gives}
 use Rattle.settle_spec.proofs.NewWindows.{window_is_around}
 use Rattle.pci_first_fit.specs.declared.extent.Extent.{Extent}
 use Rattle.pci_first_fit.specs.Spots.{extent_value}
 use Rattle.pci_first_fit.specs.Buses.{AreBehind, Classing, TellsClasses}
-use Rattle.pci_first_fit.specs.NewWindows.{nowhere, IsTooLarge, AreNewWindows, AreMarkedWindows, HasMarkedWindows, told_extent}
+use Rattle.pci_first_fit.specs.NewWindows.{nowhere, IsTooLarge, AreNewWindows, AreMarkedWindows, HasMarkedWindows, new_window_extent}
 use Rattle.pci_first_fit.proofs.Marked.{told_is, told_fits, same_or_large, some_page}
 use Rattle.pci_kept.specs.declared.windows.TooLarge.{TooLarge}
-use Rattle.pci_kept.specs.Windows.{HasAllWindows, HasAllMarked, AreAllNew, first_of, is_whole_range, opens_whole, whole_by, has_whole, HasWhole, IsWhole, HasWholeWindow}
+use Rattle.pci_kept.specs.Windows.{HasAllWindows, HasAllMarked, AreAllNew, first_class_too_large, is_whole_range, opens_whole, whole_by, has_whole, HasWhole, IsWholeRange, HasWholeWindow}
 use Rattle.pci_kept.specs.Rooms.{place_off, HasSameRoom}
 use Rattle.pci_kept.specs.Holding.{HasNewBeside, HasNewWhereStands}
 use Rattle.pci_kept.proofs.HeldTables.{some_range, some_open, record_at}
@@ -78,7 +78,7 @@ mark_none r now =
     let no : ⊥ = omega (arith, below) in no))
 
 -- nor has what it marks, but in a range of all addresses
-large_none : (r : Range) (now : List Range) (e : ExtentValue) → 0 < e.alignment → 2 ^ 64 ≤ e.size → r.last < 2 ^ 64 → (IsWhole r → ⊥) → first_place (r ∷ []) now e ≡ None
+large_none : (r : Range) (now : List Range) (e : ExtentValue) → 0 < e.alignment → 2 ^ 64 ≤ e.size → r.last < 2 ^ 64 → (IsWholeRange r → ⊥) → first_place (r ∷ []) now e ≡ None
 large_none r now e pos large small narrow =
     let a = first_spot r.first now e in
     no_place r now e (false_from_ne_true (ends_by r e a) (λ is.
@@ -93,13 +93,13 @@ module _ (q : Request) (s : System) (system : IsSystem s) (nested : IsNested q.r
   new_aligned : (f : Function) → Contains s f → is_bridge f ≡ true → 0 < (new_window q s c f).alignment
   new_aligned f listed bridge = subst (λ (e : ExtentValue). 0 < e.alignment) (sym (window_is_around q s c system nested f listed bridge)) (some_max (page_size c) _ (some_page c))
 
-  pub same_room : (keeps : FunctionPart → Bool) (windows : List (Option Extent)) (r : Range) (bus : ℕ) → HasMarkedWindows q s c windows → r.last < 2 ^ 64 → (IsWhole r → ⊥) → HasSameRoom q s c keeps (told_extent windows) r bus
+  pub same_room : (keeps : FunctionPart → Bool) (windows : List (Option Extent)) (r : Range) (bus : ℕ) → HasMarkedWindows q s c windows → r.last < 2 ^ 64 → (IsWholeRange r → ⊥) → HasSameRoom q s c keeps (new_window_extent windows) r bus
   same_room keeps windows r bus marked small narrow taken =
-      elim (same_or_large q s c keeps (told_extent windows) (new_window q s c) bus
+      elim (same_or_large q s c keeps (new_window_extent windows) (new_window q s c) bus
       (λ f listed beside bridge has. told_fits (has_of q s c f) (new_window q s c f) (get_or windows (secondary f) None) (marked f listed bridge) has)) [
         | inl same ↦ ap (λ xs. are_placed (place_each (place_off q r) taken xs)) same
         | inr has ↦
-            none_found (place_off q r) taken (bus_items q s c keeps (told_extent windows) bus) _ has.in_low
+            none_found (place_off q r) taken (bus_items q s c keeps (new_window_extent windows) bus) _ has.in_low
             (λ now. subst (λ (e : ExtentValue). first_place (r ∷ []) (taken_for q (window_part c has.of) now) e ≡ None) (sym has.mark) (mark_none r (taken_for q (window_part c has.of) now)))
             ∙ sym (none_found (place_off q r) taken (bus_items q s c keeps (new_window q s c) bus) _ has.in_high
             (λ now. large_none r (taken_for q (window_part c has.of) now) (new_window q s c has.of) (new_aligned has.of has.listed has.bridge) has.large small narrow))
@@ -119,7 +119,7 @@ room_beside p q system nested c windows f shows small keeps bus (inl new) = reco
   same = λ taken. refl;
 }
 room_beside p q system nested c windows f shows small keeps bus (inr (marked, narrow)) = record {
-  extent = told_extent windows;
+  extent = new_window_extent windows;
   behind = λ g listed beside bridge. told_is (has_of q p.system c g) (new_window q p.system c g) (get_or windows (secondary g) None) (marked g listed bridge);
   same = same_room q p.system system nested c keeps windows (range_of f (Window c)) bus marked small (narrow shows);
 }
@@ -131,17 +131,17 @@ one_at [] k less = absurd (let no : ⊥ = omega (arith, less) in no)
 one_at (r ∷ records) k less = (get_or (r ∷ records) k r, get_or_default (r ∷ records) k (get_or (r ∷ records) k r) r less)
 
 module _ (s : System) (records : List Record) (has : HasRecords s (map record_value records)) where
-  whole_range : (o : Option Range) → is_whole_range o ≡ true → (r : Range) × ((o ≡ Some r) × IsWhole r)
+  whole_range : (o : Option Range) → is_whole_range o ≡ true → (r : Range) × ((o ≡ Some r) × IsWholeRange r)
   whole_range None is = (let no : ⊥ = cc in absurd no)
   whole_range (Some r) is =
       let parts = and_parts (r.first == 0) (r.last == 0xffff_ffff_ffff_ffff) is in
       let last = eqb-true r.last 0xffff_ffff_ffff_ffff parts.1 in
       (r, (refl, record { first = eqb-true r.first 0 parts.0; last = omega (arith, last) }))
 
-  range_whole : (r : Range) → IsWhole r → is_whole_range (Some r) ≡ true
+  range_whole : (r : Range) → IsWholeRange r → is_whole_range (Some r) ≡ true
   range_whole r is = (let last = is.last in and_from (r.first == 0) (r.last == 0xffff_ffff_ffff_ffff) (eq-eqb r.first 0 is.first) (eq-eqb r.last 0xffff_ffff_ffff_ffff (omega (arith, last))))
 
-  module _ (f : Function) (r : Record) (is : IsRecordOf s f r) (b : Bridge) (there : r.bridge ≡ Some b) where
+  module _ (f : Function) (r : Record) (is : IsRecordInSystem s f r) (b : Bridge) (there : r.bridge ≡ Some b) where
     window_whole : (c : WindowKind) → is_whole_range (range_in (window_of b.windows c)) ≡ true → HasWholeWindow s
     window_whole c whole =
         let found = whole_range (range_in (window_of b.windows c)) whole in
@@ -151,7 +151,7 @@ module _ (s : System) (records : List Record) (has : HasRecords s (map record_va
           listed = is.listed;
           class = c;
           shows = some_open f c (range_in (window_of b.windows c)) found.0 shown found.1.0;
-          whole = subst IsWhole (some_range f c (range_in (window_of b.windows c)) found.0 shown found.1.0) found.1.1;
+          whole = subst IsWholeRange (some_range f c (range_in (window_of b.windows c)) found.0 shown found.1.0) found.1.1;
         }
 
     bridge_whole : opens_whole b ≡ true → HasWholeWindow s
@@ -170,13 +170,13 @@ module _ (s : System) (records : List Record) (has : HasRecords s (map record_va
         (or_right (is_whole_range (range_in (window_of b.windows IoWindow))) _ whole)
     whole_bridge PrefetchWindow whole = or_right (is_whole_range (range_in (window_of b.windows IoWindow)) || is_whole_range (range_in (window_of b.windows MemoryWindow))) _ whole
 
-    open_whole : (c : WindowKind) → is_open f c ≡ true → IsWhole (range_of f (Window c)) → opens_whole b ≡ true
+    open_whole : (c : WindowKind) → is_open f c ≡ true → IsWholeRange (range_of f (Window c)) → opens_whole b ≡ true
     open_whole c shows whole =
         let shown : range_in (window_of b.windows c) ≡ Some (range_of f (Window c)) = window_is s f r b is there c ∙ ap (λ x. cond x (Some (range_of f (Window c))) None) shows in
         whole_bridge c (ap is_whole_range shown ∙ range_whole (range_of f (Window c)) whole)
 
   -- a record tells such a window
-  record_whole : (f : Function) (r : Record) → IsRecordOf s f r → (o : Option Bridge) → r.bridge ≡ o → whole_by o ≡ true → HasWholeWindow s
+  record_whole : (f : Function) (r : Record) → IsRecordInSystem s f r → (o : Option Bridge) → r.bridge ≡ o → whole_by o ≡ true → HasWholeWindow s
   record_whole f r is None none whole = (let no : ⊥ = cc in absurd no)
   record_whole f r is (Some b) there whole = bridge_whole f r is b there whole
 
@@ -188,7 +188,7 @@ module _ (s : System) (records : List Record) (has : HasRecords s (map record_va
       record_whole here.f r here.is r.bridge refl whole
 
   -- where no record tells one, there is none
-  pub none_whole : All (λ (r : Record). has_whole r ≡ false) records → (f : Function) (c : WindowKind) → Contains s f → is_open f c ≡ true → IsWhole (range_of f (Window c)) → ⊥
+  pub none_whole : All (λ (r : Record). has_whole r ≡ false) records → (f : Function) (c : WindowKind) → Contains s f → is_open f c ≡ true → IsWholeRange (range_of f (Window c)) → ⊥
   none_whole none f c listed shows whole =
       let k = listed.0 in
       let within : k < length records = (let count = same_count s records has in let less = listed.1 in omega (arith, count, less)) in
@@ -202,7 +202,7 @@ module _ (s : System) (records : List Record) (has : HasRecords s (map record_va
       bridge : is_bridge f ≡ true
       bridge = (and_parts (is_bridge f) _ (and_parts _ _ shows).0).0
 
-      by : (r : Record) → IsRecordOf s f r → (o : Option Bridge) → r.bridge ≡ o → whole_by o ≡ false → ⊥
+      by : (r : Record) → IsRecordInSystem s f r → (o : Option Bridge) → r.bridge ≡ o → whole_by o ≡ false → ⊥
       by r is None none off = both_ways (is_bridge f) (sym (same_bridge r f is.value) ∙ ap is_some none) bridge
       by r is (Some b) there off = both_ways (opens_whole b) off (open_whole f r is b there c shows whole)
 
@@ -218,7 +218,7 @@ pub all_new : (p : Classing) (io memory prefetchable : List (Option Extent)) (in
     → AreNewWindows p IoWindow io in_io → AreMarkedWindows p IoWindow io
     → AreNewWindows p MemoryWindow memory in_memory → AreMarkedWindows p MemoryWindow memory
     → AreNewWindows p PrefetchWindow prefetchable in_wide → AreMarkedWindows p PrefetchWindow prefetchable
-    → AreAllNew p record { io = io; memory = memory; prefetchable = prefetchable } (first_of in_io in_memory in_wide)
+    → AreAllNew p record { io = io; memory = memory; prefetchable = prefetchable } (first_class_too_large in_io in_memory in_wide)
 all_new p io memory prefetchable (Some k) in_memory in_wide a a_marks b b_marks d d_marks = (all_marked p io memory prefetchable a_marks b_marks d_marks, λ q left. (a q left).too_large)
 all_new p io memory prefetchable None (Some k) in_wide a a_marks b b_marks d d_marks = (all_marked p io memory prefetchable a_marks b_marks d_marks, λ q left. (b q left).too_large)
 all_new p io memory prefetchable None None (Some k) a a_marks b b_marks d d_marks = (all_marked p io memory prefetchable a_marks b_marks d_marks, λ q left. (d q left).too_large)
@@ -230,7 +230,7 @@ all_new p io memory prefetchable None None None a a_marks b b_marks d d_marks = 
     each kinds.Prefetchable = d
 
 pub new_beside : (p : Classing) (q : Request) → TellsClasses p q → (windows : ByKind (List (Option Extent))) (large : Option TooLarge) → AreAllNew p windows large
-    → (large ≡ None) ⊎ ((f : Function) (c : WindowKind) → Contains p.system f → is_open f c ≡ true → IsWhole (range_of f (Window c)) → ⊥)
+    → (large ≡ None) ⊎ ((f : Function) (c : WindowKind) → Contains p.system f → is_open f c ≡ true → IsWholeRange (range_of f (Window c)) → ⊥)
     → (class : CodeKind) → HasNewWhereStands q p class (by_kind windows class)
 new_beside p q left windows None all known class f listed stand = inl (all class q left)
 new_beside p q left windows (Some x) all (inl none) class f listed stand = (let no : ⊥ = cc in absurd no)
@@ -239,7 +239,7 @@ new_beside p q left windows (Some x) all (inr narrow) class f listed stand = inr
 module _ (s : System) (records : List Record) (has : HasRecords s (map record_value records)) where
   -- where no bridge is named, none is too large, or no open window has all addresses
   pub known_beside : (large : Option TooLarge) → (large ≡ None) ⊎ All (λ (r : Record). has_whole r ≡ false) records
-      → (large ≡ None) ⊎ ((f : Function) (c : WindowKind) → Contains s f → is_open f c ≡ true → IsWhole (range_of f (Window c)) → ⊥)
+      → (large ≡ None) ⊎ ((f : Function) (c : WindowKind) → Contains s f → is_open f c ≡ true → IsWholeRange (range_of f (Window c)) → ⊥)
   known_beside large (inl none) = inl none
   known_beside large (inr narrow) = inr (none_whole s records has narrow)
 

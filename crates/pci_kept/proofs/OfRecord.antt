@@ -39,7 +39,7 @@ use Rattle.pci_tree.proofs.Lifting.{same_bridge}
 use Rattle.pci_tree.proofs.RegionParts.{same_bridge_of}
 use Rattle.pci_place.specs.Classes.{is_io_kind}
 use Rattle.pci_place.specs.Items.{function_in}
-use Rattle.pci_place.specs.Records.{IsRecordOf}
+use Rattle.pci_place.specs.Records.{IsRecordInSystem}
 use Rattle.pci_image.specs.Windows.{window_of}
 use Rattle.pci_place.proofs.Mapped.{filter-map, kept_same}
 use Rattle.pci_place.proofs.Parts.{bars_in, bars_of, rom_of, rom_there}
@@ -137,7 +137,7 @@ optional_there f c bridge = elim (cases_Bool (has_window c f.probe)) [
 ]
 
 -- the range of a window in a record, where it is open
-pub window_is : (s : System) (f : Function) (r : Record) (b : Bridge) → IsRecordOf s f r → r.bridge ≡ Some b → (c : WindowKind) → range_in (window_of b.windows c) ≡ cond (is_open f c) (Some (range_of f (Window c))) None
+pub window_is : (s : System) (f : Function) (r : Record) (b : Bridge) → IsRecordInSystem s f r → r.bridge ≡ Some b → (c : WindowKind) → range_in (window_of b.windows c) ≡ cond (is_open f c) (Some (range_of f (Window c))) None
 window_is s f r b is e IoWindow =
     let bridge : is_bridge f ≡ true = sym (same_bridge r f is.value) ∙ ap is_some e in
     ap (λ (x : decoded.Bridge). range_in x.windows.io) (same_bridge_of r f b is.value e) ∙ optional_there f IoWindow bridge
@@ -151,7 +151,7 @@ window_is s f r b is e PrefetchWindow =
 
 -- what the parts of a function share
 pub record IsOwner (q : Request) (s : System) (f : Function) (o : Owner) (r : Record) : Type 0 where
-  pub is : IsRecordOf s f r
+  pub is : IsRecordInSystem s f r
   pub here : function_in s o.function ≡ f
   pub bus : o.bus ≡ f.slot.bus
   pub level : o.level ≡ level q f.slot.bus

@@ -25,7 +25,7 @@ use Rattle.pci_tree.specs.Passes.{range_in}
 use Rattle.pci_tree.proofs.Lifting.{same_bridge}
 use Rattle.pci_tree.proofs.RegionParts.{same_bridge_of}
 use Rattle.pci_place.specs.Above.{system_in}
-use Rattle.pci_place.specs.Records.{IsRecordOf}
+use Rattle.pci_place.specs.Records.{IsRecordInSystem}
 use Rattle.pci_place.proofs.Records.{lent, same_count}
 use Rattle.pci_first_fit.specs.declared.over.OpenWindows.{OpenWindows}
 use Rattle.pci_first_fit.specs.Slots.{Demand}
@@ -33,7 +33,7 @@ use Rattle.pci_first_fit.specs.Over.{open_range, class_window, no_windows, AreCl
 use Rattle.pci_first_fit.proofs.Anew.{over_anew}
 use Rattle.pci_kept.specs.declared.rules.Rules.{Rules}
 use Rattle.pci_kept.specs.Boards.{IsTree}
-use Rattle.pci_kept.specs.Known.{asked_by}
+use Rattle.pci_kept.specs.Known.{asked_by_rules}
 use Rattle.pci_kept.proofs.OfRecord.{window_is}
 
 -- those of a bridge
@@ -61,7 +61,7 @@ opened_none s = record {
 }
 
 module _ (roots : List ℕ) (s : System) (system : IsSystem s) (nested : IsNested roots s) where
-  module _ (k : ℕ) (f : Function) (r : Record) (at : slice_get s k ≡ Some f) (is : IsRecordOf s f r) (old : List OpenWindows) (was : AreOpenTo s k old) where
+  module _ (k : ℕ) (f : Function) (r : Record) (at : slice_get s k ≡ Some f) (is : IsRecordInSystem s f r) (old : List OpenWindows) (was : AreOpenTo s k old) where
     earlier : (j : ℕ) (g : Function) → j < k + 1 → slice_get s j ≡ Some g → (g ≡ f → ⊥) → j < k
     earlier j g less at_j other = elim (cases_eq j k) [
       | inl same ↦ absurd (let one : Some g ≡ Some f = sym at_j ∙ ap (slice_get s) same ∙ at in let function : g ≡ f = cc in other function)
@@ -161,5 +161,5 @@ none_opened q s anew f listed = subst (AreClassWindows q s f.slot.bus) (sym (emp
 
 -- the tree of an admission
 pub tree_of : (a : Admission) (d : Demand) (rules : Rules) → IsAdmitted a → (records : List Record) {values : List decoded.Record} → map record_value records ≡ values → HasRecords (system_in a) values
-    → IsTree (asked_by a.roots d rules) (system_in a) records
+    → IsTree (asked_by_rules a.roots d rules) (system_in a) records
 tree_of a d rules admitted records same has = record { has = lent (system_in a) records same has; system = admitted.system; nested = admitted.nested }

@@ -13,7 +13,7 @@ use Rattle.pci_spec.proofs.Members.{in_nil, in_map_to, in_map_from, IsMade}
 use Rattle.settle_spec.specs.FirstPlace.{ranges_are_apart}
 use Rattle.settle_spec.specs.Lists.{Request}
 use Rattle.settle_spec.specs.Parts.{FunctionPart, system_parts, addresses, are_same_space}
-use Rattle.settle_spec.specs.Stands.{part_space, is_in_place, takes_from, precedes, is_kept_off, leads_to_told, stands_if}
+use Rattle.settle_spec.specs.Stands.{part_space, is_in_place, takes_from, told_part_precedes, is_kept_off, leads_to_told, stands_if}
 use Rattle.settle_laws.specs.Order.{level, comes_first}
 use Rattle.settle_laws.specs.Passes.{IsAmong, AreTakenBeside}
 use Rattle.settle_laws.proofs.Order.{not_itself}
@@ -131,7 +131,7 @@ module _ (q : Request) (s : System) (nested : IsNested q.roots s) (rs : List Cod
           let first : comes_first q s v (get_or vs k v) ≡ true = subst (λ x. comes_first q s x (get_or vs k v) ≡ true) v_is (ordered.order.order count k v (omega (arith, from, differ)) (let l = long in omega (arith, inside, l))) in
           let other = get_or rs k d in
           let other_is : get_or vs k v ≡ region_value s other = get_or-map (region_value s) rs k d v inside in
-          let up = first_level (level q v.function.slot.bus) (level q (region_value s other).function.slot.bus) (precedes q s v (region_value s other)) (subst (λ x. comes_first q s v x ≡ true) other_is first) in
+          let up = first_level (level q v.function.slot.bus) (level q (region_value s other).function.slot.bus) (told_part_precedes q s v (region_value s other)) (subst (λ x. comes_first q s v x ≡ true) other_is first) in
           let there : other.level ≡ level q (region_value s other).function.slot.bus = ap (λ (k : Known). k.level) (ordered.known k d inside).is.all in
           let here = level_is in
           omega (arith, up, there, here)

@@ -15,14 +15,14 @@ use Rattle.settle_laws.specs.Order.{level}
 use Rattle.pci_base.specs.Ranges.{decoded_range_of}
 use Rattle.pci_base.specs.declared.range.Range.{Range}
 use Rattle.pci_kept.specs.declared.rows.Row.{Row}
-use Rattle.pci_kept.specs.Rows.{IsRowBefore, AreRows, row_keeps_off, rows_keep_off}
-use Rattle.pci_kept.specs.LineRows.{row_key, nobody, IsRowOf, AreLineRows}
+use Rattle.pci_kept.specs.Rows.{IsRowBefore, AreRows, row_keeps_others_off, rows_keep_off}
+use Rattle.pci_kept.specs.LineRows.{row_key, nobody, IsRowOf, AreRowsOfKeptLines}
 use Rattle.pci_kept.specs.StandingRanges.{is_owned, row_shares}
 use Rattle.pci_kept.specs.ToldLines.{unnamed}
 use Rattle.pci_kept.proofs.KeptOff.{rows_keep, same_any, told_slot}
 
 -- rows of all lines that have an owner are those of held lines
-pub held_lines : (q : Request) → IsTold q.told.ranges → (rows : List Row) → AreLineRows q (λ x. true) rows → AreLineRows q is_held_line (filter is_owned rows)
+pub held_lines : (q : Request) → IsTold q.told.ranges → (rows : List Row) → AreRowsOfKeptLines q (λ x. true) rows → AreRowsOfKeptLines q is_held_line (filter is_owned rows)
 held_lines q told rows are = record {
   each = λ r has. (
       let both = in_filter_to is_owned rows r has in
@@ -50,7 +50,7 @@ pub held_order : (rows : List Row) → AreRows rows → AreRows (filter is_owned
 held_order rows order = pairs_filter IsRowBefore is_owned rows order
 
 -- a held line keeps a told range off
-pub kept_off_held : (q : Request) → IsTold q.told.ranges → (t : ToldRange) → IsSlot t.slot → (n : ℕ) → n ≡ level q t.slot.bus → (range : Range) → decoded_range_of range ≡ told_extent t → (rows : List Row) → AreLineRows q is_held_line rows
+pub kept_off_held : (q : Request) → IsTold q.told.ranges → (t : ToldRange) → IsSlot t.slot → (n : ℕ) → n ≡ level q t.slot.bus → (range : Range) → decoded_range_of range ≡ told_extent t → (rows : List Row) → AreRowsOfKeptLines q is_held_line rows
     → rows_keep_off rows (row_key n t.space) (slot_number t.slot) range ≡ is_range_kept_off q (unnamed t)
 kept_off_held q told t slot n n_is range range_is rows are =
     ap (λ m. rows_keep_off rows (row_key m t.space) (slot_number t.slot) range) n_is
@@ -60,7 +60,7 @@ kept_off_held q told t slot n n_is range range_is rows are =
 -- so does a part
 pub shared : (rows : List Row) (anybody : ℕ) → ((r : Row) → Contains rows r → r.owner ≢ anybody) → (key : ℕ) (t : ToldRange) (range : Range) → decoded_range_of range ≡ told_extent t
     → rows_keep_off rows key anybody range ≡ list_any (row_shares key t) rows
-shared rows anybody none key t range range_is = same_any (row_keeps_off key anybody range) (row_shares key t) rows (λ r has.
+shared rows anybody none key t range range_is = same_any (row_keeps_others_off key anybody range) (row_shares key t) rows (λ r has.
     ap (λ b. r.key == key && not b && not (ranges_are_apart (decoded_range_of r.range) (decoded_range_of range))) (ne_eqb r.owner anybody (none r has))
     ∙ ap (λ y. r.key == key && true && not (ranges_are_apart (decoded_range_of r.range) y)) range_is
     ∙ without (r.key == key) (not (ranges_are_apart (decoded_range_of r.range) (told_extent t))))

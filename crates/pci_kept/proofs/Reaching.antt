@@ -9,7 +9,7 @@ use Rattle.judge_spec.specs.Told.{ToldRange}
 use Rattle.judge_spec.specs.ToldClaims.{is_marked_held}
 use Rattle.pci_kept.specs.declared.region.Region.{Region}
 use Rattle.pci_kept.specs.declared.told_line.ToldLine.{ToldLine}
-use Rattle.pci_kept.specs.RangePass.{no_line}
+use Rattle.pci_kept.specs.RangePass.{no_told_line}
 use Rattle.pci_kept.specs.ToldLines.{leads_to_line}
 
 -- those of the first ranges
@@ -33,8 +33,8 @@ parted_indexes indexes end rising = IsPartitionedBy-ltb (λ (k : ℕ). k) indexe
 
 -- what one look at an index tells
 pub leads_by_look : (any : Bool) (r : Region) (ranges : List ToldRange) (lines : List ToldLine) → length lines ≡ length ranges → (index : ℕ) → index < length ranges → (range : ToldRange) → range ≡ get_or ranges index range
-    → (result : Bool) → result ≡ leads_to_line any r range (get_or lines index no_line) → (t : ToldRange) (d : ToldLine) → leads_to_line any r (get_or ranges index t) (get_or lines index d) ≡ result
+    → (result : Bool) → result ≡ leads_to_line any r range (get_or lines index no_told_line) → (t : ToldRange) (d : ToldLine) → leads_to_line any r (get_or ranges index t) (get_or lines index d) ≡ result
 leads_by_look any r ranges lines count index within range range_is result is t d =
     ap (λ (x : ToldRange). leads_to_line any r x (get_or lines index d)) (get_or_default ranges index t range within ∙ sym range_is)
-    ∙ ap (λ (l : ToldLine). leads_to_line any r range l) (get_or_default lines index d no_line (omega (arith, within, count)))
+    ∙ ap (λ (l : ToldLine). leads_to_line any r range l) (get_or_default lines index d no_told_line (omega (arith, within, count)))
     ∙ sym is

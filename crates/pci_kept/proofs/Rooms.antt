@@ -19,7 +19,7 @@ use Rattle.settle_spec.specs.Lists.{Request}
 use Rattle.settle_spec.specs.Parts.{FunctionPart, system_parts, function_parts, parts_of, is_part, header_parts, addresses, are_same_space}
 use Rattle.settle_spec.specs.Stands.{window_part, part_space}
 use Rattle.settle_spec.specs.Lines.{lines_on, lines_behind}
-use Rattle.settle_spec.specs.Items.{Item as ItemValue, bus_items, new_window, taken_on, are_placed, place_each, has_places}
+use Rattle.settle_spec.specs.Items.{PlacingItem as ItemValue, bus_items, new_window, taken_on, are_placed, place_each, has_places}
 use Rattle.settle_spec.specs.FirstPlace.{Extent as ExtentValue, first_place}
 use Rattle.settle_spec.proofs.SameTaken.{HaveSame, same_first_place}
 use Rattle.settle_spec.proofs.ItemsOn.{each_on}
@@ -45,7 +45,7 @@ use Rattle.pci_first_fit.proofs.Headers.{filter_same, header_has}
 use Rattle.pci_kept.specs.declared.region.Region.{Region as CodeRegion}
 use Rattle.pci_kept.specs.Known.{Known, known, known_of, region_value, AreParts}
 use Rattle.pci_kept.proofs.Whole.{known_sorted}
-use Rattle.pci_kept.specs.Rooms.{region_range, is_taken_on, AreTakenOn, wanted_value, place_off, IsRoomOf}
+use Rattle.pci_kept.specs.Rooms.{region_range, is_taken_on, AreTakenBehindBridge, wanted_value, place_off, IsRoomOf}
 use Rattle.pci_kept.specs.Behind.{IsPartIn, AreBehindTo, AreBehindEach}
 
 -- a part of a system is one that its function has
@@ -149,7 +149,7 @@ wanted_lawful items lawful wanted is lists one =
 
 module _ (l : Listing) (rs : List CodeRegion) (lines : List Line) (range : Range)
     (items : List Item) (turn : AreInTurn l items) (lawful : All HasExtent items) (wanted : List Wanted) (wanted_is : wanted ≡ map wanted_value items)
-    (taken : List Range) (taken_are : AreTakenOn rs lines l.bus (window_space l.class) l.kept taken)
+    (taken : List Range) (taken_are : AreTakenBehindBridge rs lines l.bus (window_space l.class) l.kept taken)
     (records : List Record) (has : HasRecords l.classing.system (map record_value records)) (behind : List (List Range)) (behind_are : AreBehindEach records lines l.class items behind)
     (lists : List (List Range)) (lists_are : lists ≡ (range ∷ []) ∷ []) (places : List ℕ) (lack : Option ℕ) (within : IfSome lack (λ k. k < length wanted))
     (placing : (find : ItemValue → List decoded.Range → Option ℕ) (all : List ItemValue) → AreWanted lists behind find all wanted → place_each find (map decoded_range_of taken) all ≡ placing_of all places lack) where

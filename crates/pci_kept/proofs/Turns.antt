@@ -18,7 +18,7 @@ use Rattle.settle_laws.proofs.StandingTold.Passes.{on_then_off, no_range_told, l
 use Rattle.pci_place.proofs.Mapped.{filter-map}
 use Rattle.pci_kept.specs.declared.rows.Row.{Row}
 use Rattle.pci_kept.specs.declared.told_line.ToldLine.{ToldLine}
-use Rattle.pci_kept.specs.RangePass.{no_range, no_line, region_at, range_flag, turns_up_to, turns_of, all_turns, AreRangesPassed, AreStandingRanges}
+use Rattle.pci_kept.specs.RangePass.{no_range, no_told_line, region_at, range_flag, turns_up_to, turns_of, all_turns, AreRangesPassed, AreStandingRanges}
 use Rattle.pci_kept.specs.ToldLines.{AreToldLines}
 
 -- ---- one index more
@@ -34,13 +34,13 @@ filter_more test n =
     ∙ ap (λ xs. filter test xs ++ cond (test n) (n ∷ []) []) (itself (range_with_len 0 n))
 
 -- where the test at it comes to a value
-pub turns_more : (on : Bool) (lines : List ToldLine) (n : ℕ) (value : Bool) → beq (get_or lines n no_line).on on ≡ value → turns_up_to on lines (n + 1) ≡ turns_up_to on lines n ++ cond value (n ∷ []) []
+pub turns_more : (on : Bool) (lines : List ToldLine) (n : ℕ) (value : Bool) → beq (get_or lines n no_told_line).on on ≡ value → turns_up_to on lines (n + 1) ≡ turns_up_to on lines n ++ cond value (n ∷ []) []
 turns_more on lines n value is =
-    filter_more (λ k. beq (get_or lines k no_line).on on) n ∙ ap (λ b. turns_up_to on lines n ++ cond b (n ∷ []) []) is
+    filter_more (λ k. beq (get_or lines k no_told_line).on on) n ∙ ap (λ b. turns_up_to on lines n ++ cond b (n ∷ []) []) is
 
 pub turns_low : (on : Bool) (lines : List ToldLine) (k : ℕ) → Contains (turns_of on lines) k → k < length lines
 turns_low on lines k has =
-    let in_all = (in_filter_to (λ j. beq (get_or lines j no_line).on on) (range_with_len 0 (length lines)) k has).0 in
+    let in_all = (in_filter_to (λ j. beq (get_or lines j no_told_line).on on) (range_with_len 0 (length lines)) k has).0 in
     let low = (in_range_to 0 (length lines) k in_all).1 in
     omega (arith, low)
 
@@ -85,24 +85,24 @@ is_false true = refl
 is_false false = refl
 
 module _ (q : Request) (s : System) (lines : List ToldLine) (are : AreToldLines q s lines) where
-  on_is : (k : ℕ) → k < length q.told.ranges → is_line_on q s (region_at q k) ≡ (get_or lines k no_line).on
-  on_is k low = sym (are.each k no_line no_range low).on
+  on_is : (k : ℕ) → k < length q.told.ranges → is_line_on q s (region_at q k) ≡ (get_or lines k no_told_line).on
+  on_is k low = sym (are.each k no_told_line no_range low).on
 
   -- what a test keeps of them
-  kept : (test : ToldRegion → Bool) (on : Bool) → ((k : ℕ) → k < length q.told.ranges → test (region_at q k) ≡ beq (get_or lines k no_line).on on)
+  kept : (test : ToldRegion → Bool) (on : Bool) → ((k : ℕ) → k < length q.told.ranges → test (region_at q k) ≡ beq (get_or lines k no_told_line).on on)
       → filter test (told_regions q.told) ≡ map (region_at q) (turns_of on lines)
   kept test on agree =
       ap (filter test) (told_by_index q)
       ∙ filter-map test (region_at q) (range_with_len 0 (length q.told.ranges))
       ∙ ap (map (region_at q))
-      (filter_agree (λ k. test (region_at q k)) (λ k. beq (get_or lines k no_line).on on) (range_with_len 0 (length q.told.ranges))
+      (filter_agree (λ k. test (region_at q k)) (λ k. beq (get_or lines k no_told_line).on on) (range_with_len 0 (length q.told.ranges))
       (λ k has. agree k (let low = (in_range_to 0 (length q.told.ranges) k has).1 in omega (arith, low))))
       ∙ ap (λ n. map (region_at q) (turns_up_to on lines n)) (sym are.size)
 
   pub in_turn : AreRangesInOrder q s (map (region_at q) (all_turns lines))
   in_turn = subst (AreRangesInOrder q s)
-      (ap (λ xs. xs ++ filter (λ x. not (is_line_on q s x)) (told_regions q.told)) (kept (is_line_on q s) true (λ k low. on_is k low ∙ is_true (get_or lines k no_line).on))
-      ∙ ap (λ xs. map (region_at q) (turns_of true lines) ++ xs) (kept (λ x. not (is_line_on q s x)) false (λ k low. ap not (on_is k low) ∙ is_false (get_or lines k no_line).on))
+      (ap (λ xs. xs ++ filter (λ x. not (is_line_on q s x)) (told_regions q.told)) (kept (is_line_on q s) true (λ k low. on_is k low ∙ is_true (get_or lines k no_told_line).on))
+      ∙ ap (λ xs. map (region_at q) (turns_of true lines) ++ xs) (kept (λ x. not (is_line_on q s x)) false (λ k low. ap not (on_is k low) ∙ is_false (get_or lines k no_told_line).on))
       ∙ sym (map-append (region_at q) (turns_of true lines) (turns_of false lines)))
       (on_then_off q s)
 

@@ -17,7 +17,7 @@ use Rattle.pci_spec.proofs.Regions.{bar_count-le}
 use Rattle.plan_spec.proofs.Planning.AllItems.{pairs_unmap}
 use Rattle.settle_spec.specs.Lists.{Request}
 use Rattle.settle_spec.specs.Parts.{FunctionPart, system_parts, function_parts, parts_of, header_bars, header_parts, addresses, is_part}
-use Rattle.settle_spec.specs.Stands.{is_fixed_part, is_part_on, count, rank, first_by, precedes, leads_to_one_on, stands}
+use Rattle.settle_spec.specs.Stands.{is_fixed_part, is_part_on, count, rank, first_by, told_part_precedes, leads_to_one_on, stands}
 use Rattle.settle_laws.specs.Order.{level, comes_first}
 use Rattle.settle_laws.specs.Passes.{IsAmong}
 use Rattle.settle_laws.proofs.Ranks.{ranks_rise}
@@ -142,7 +142,7 @@ module _ (q : Request) (s : System) where
     turn_t : turn_of t ≡ turn_number (leads_to_one_on q s w) (is_fixed_part q w) (is_part_on w)
     turn_t = ap (λ b. turn_number b t.fixed t.on) t_known.leads.leads ∙ ap (λ (k : Known). turn_number (leads_to_one_on q s w) k.fixed k.on) t_is.all
 
-    turn_first : (turn_of r < turn_of t) ⊎ ((turn_of r ≡ turn_of t) × ((span_of t < span_of r) ⊎ ((span_of r ≡ span_of t) × (number r < number t)))) → precedes q s v w ≡ true
+    turn_first : (turn_of r < turn_of t) ⊎ ((turn_of r ≡ turn_of t) × ((span_of t < span_of r) ⊎ ((span_of r ≡ span_of t) × (number r < number t)))) → told_part_precedes q s v w ≡ true
     turn_first h =
         let a = turn_r in
         let b = turn_t in
@@ -155,7 +155,7 @@ module _ (q : Request) (s : System) where
     comes h =
         let a : r.level ≡ level q v.function.slot.bus = ap (λ (k : Known). k.level) r_is.all in
         let b : t.level ≡ level q w.function.slot.bus = ap (λ (k : Known). k.level) t_is.all in
-        by_level (level q v.function.slot.bus) (level q w.function.slot.bus) (precedes q s v w) (elim h [
+        by_level (level q v.function.slot.bus) (level q w.function.slot.bus) (told_part_precedes q s v w) (elim h [
           | inl less ↦ inl (subst (λ n. n < level q w.function.slot.bus) a (subst (λ n. r.level < n) b less))
           | inr both ↦ inr (sym a ∙ both.0 ∙ b, turn_first both.1)
         ])

@@ -24,8 +24,8 @@ use Rattle.pci_kept.specs.declared.held.Held.{Held}
 -- ---- addresses of parts
 
 -- whether a table tells of a part that it keeps its place
-abbrev pub is_kept : List Kept → CodeRegion → Bool
-is_kept kept r = kept_of (slice_index_or kept r.function nothing_kept) (spec_part r.part)
+abbrev pub is_region_kept : List Kept → CodeRegion → Bool
+is_region_kept kept r = kept_of (slice_index_or kept r.function nothing_kept) (spec_part r.part)
 
 -- what a part comes to where it grows, as a table tells it
 abbrev pub told_part : List (ByKind (Option Range)) → ℕ → Part → Option Range

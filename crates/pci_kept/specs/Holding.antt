@@ -24,14 +24,14 @@ use Rattle.pci_kept.specs.declared.region.Region.{Region as CodeRegion}
 use Rattle.pci_kept.specs.Boards.{AreOpen}
 use Rattle.pci_kept.specs.Known.{AreParts}
 use Rattle.pci_kept.specs.Tables.{stands_in}
-use Rattle.pci_kept.specs.Windows.{IsWhole}
+use Rattle.pci_kept.specs.Windows.{IsWholeRange}
 
 -- a table has the new windows of a class, or marks those that an open window of a bridge has no room for
 abbrev pub HasNewBeside : Request → Classing → WindowKind → List (Option Extent) → Function → Type 0
 HasNewBeside q p c windows f =
     HasNewWindows q p.system c p.terms windows
     ⊎ (HasMarkedWindows q p.system c windows
-    × (IsTrue (is_open f c) → IsWhole (range_of f (Window c)) → ⊥))
+    × (IsTrue (is_open f c) → IsWholeRange (range_of f (Window c)) → ⊥))
 
 -- so it is of each window of the class that stands
 abbrev pub HasNewWhereStands : Request → Classing → CodeKind → List (Option Extent) → Type 0

@@ -30,8 +30,8 @@ asked roots d fixed anew = record {
   told = d.told;
 }
 
-abbrev pub asked_by : List ℕ → Demand → Rules → Request
-asked_by roots d rules = asked roots d rules.fixed.now rules.anew
+abbrev pub asked_by_rules : List ℕ → Demand → Rules → Request
+asked_by_rules roots d rules = asked roots d rules.fixed.now rules.anew
 
 pub record Known : Type 0 where
   pub region : FunctionPart

@@ -36,7 +36,7 @@ pub record IsRowOf (q : Request) (x : ToldRegion) (r : Row) : Type 0 where
   pub range : decoded_range_of r.range ≡ line_range x
 
 -- the rows of all lines that a test keeps
-pub record AreLineRows (q : Request) (kept : ToldRegion → Bool) (rows : List Row) : Type 0 where
+pub record AreRowsOfKeptLines (q : Request) (kept : ToldRegion → Bool) (rows : List Row) : Type 0 where
   pub each : (r : Row) → Contains rows r
       → (x : ToldRegion) × Contains (told_regions q.told) x × IsTrue (kept x) × IsRowOf q x r
   pub all : (x : ToldRegion) → Contains (told_regions q.told) x → IsTrue (kept x)
@@ -52,5 +52,5 @@ pub record AreSearched (rows : Rows) : Type 0 where
 
 -- those of lines that are on, and of all
 pub record AreOffRows (q : Request) (s : System) (off : Off) : Type 0 where
-  pub on : AreLineRows q (is_line_on q s) off.on.rows.now
-  pub all : AreLineRows q (λ x. true) off.all.rows.now
+  pub on : AreRowsOfKeptLines q (is_line_on q s) off.on.rows.now
+  pub all : AreRowsOfKeptLines q (λ x. true) off.all.rows.now

@@ -3,8 +3,7 @@ use Rattle.std.specs.Prelude.{◌≡◌, ℕ, ◌+◌, ◌-◌, ◌<◌, Bool, t
 use Rattle.std.specs.Bool.{beq}
 use Rattle.std.specs.List.{Contains, filter, range_with_len}
 use Rattle.judge_spec.specs.Told.{ToldRange, Held}
-use Rattle.pci_spec.specs.System.{Io}
-use Rattle.pci_spec.specs.System.{System}
+use Rattle.pci_spec.specs.System.{Io, System}
 use Rattle.judge_spec.specs.ToldClaims.{told_register}
 use Rattle.judge_spec.specs.ToldRegion.{ToldRegion, told_regions}
 use Rattle.settle_spec.specs.Lists.{Request}
@@ -37,13 +36,13 @@ AreStandingRanges q s flags =
 
 -- ---- turns
 
-abbrev pub no_line : ToldLine
-no_line = record { level = 0; class = kinds.Io; on = false }
+abbrev pub no_told_line : ToldLine
+no_told_line = record { level = 0; class = kinds.Io; on = false }
 
 -- the indexes of lines that are on, or of those that are off, up to one
 abbrev pub turns_up_to : Bool → List ToldLine → ℕ → List ℕ
 turns_up_to on lines count =
-    filter (λ k. beq (slice_index_or lines k no_line).on on) (range_with_len 0 count)
+    filter (λ k. beq (slice_index_or lines k no_told_line).on on) (range_with_len 0 count)
 
 abbrev pub turns_of : Bool → List ToldLine → List ℕ
 turns_of on lines = turns_up_to on lines (length lines)

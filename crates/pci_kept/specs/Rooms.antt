@@ -11,7 +11,7 @@ use Rattle.settle_spec.specs.Lists.{Request}
 use Rattle.settle_spec.specs.Parts.{FunctionPart, addresses, are_same_space}
 use Rattle.settle_spec.specs.Stands.{window_part}
 use Rattle.settle_spec.specs.Lines.{lines_on, taken_for}
-use Rattle.settle_spec.specs.Items.{Item as ItemValue, place_each, place_in, are_placed, bus_items, new_window}
+use Rattle.settle_spec.specs.Items.{PlacingItem as ItemValue, place_each, place_in, are_placed, bus_items, new_window}
 use Rattle.pci_base.specs.declared.range.Range.{Range}
 use Rattle.pci_base.specs.Ranges.{decoded_range_of}
 use Rattle.pci_base.specs.Space.{space_of}
@@ -44,8 +44,8 @@ abbrev pub is_taken_on : ℕ → Space → List Kept → CodeRegion → Bool
 is_taken_on bus space table r = bus == r.bus && is_taken space table r
 
 -- on a bus behind a bridge that is taken, and what lines hold there, in some order
-abbrev pub AreTakenOn : List CodeRegion → List Line → ℕ → Space → List Kept → List Range → Type 0
-AreTakenOn regions lines bus space table taken =
+abbrev pub AreTakenBehindBridge : List CodeRegion → List Line → ℕ → Space → List Kept → List Range → Type 0
+AreTakenBehindBridge regions lines bus space table taken =
     (q : Request) → AreLines q.roots q.told.ranges lines → IsFalse (is_root q.roots bus)
     → IsPermutation
     (lines_on q space bus

@@ -15,18 +15,18 @@ abbrev pub AreRows : List Row → Type 0
 AreRows rows = AllPairs IsRowBefore rows
 
 -- a row keeps off a range, but not one of its owner's
-abbrev pub row_keeps_off : ℕ → ℕ → Range → Row → Bool
-row_keeps_off key owner range r =
+abbrev pub row_keeps_others_off : ℕ → ℕ → Range → Row → Bool
+row_keeps_others_off key owner range r =
     r.key == key && not (r.owner == owner)
     && not (ranges_are_apart (decoded_range_of r.range) (decoded_range_of range))
 
 abbrev pub rows_keep_off : List Row → ℕ → ℕ → Range → Bool
-rows_keep_off rows key owner range = list_any (row_keeps_off key owner range) rows
+rows_keep_off rows key owner range = list_any (row_keeps_others_off key owner range) rows
 
 -- ---- how far rows reach
 
 -- a row up to one, of the same key
-pub record IsUpTo (rows : List Row) (k : ℕ) (j : ℕ) (r : Row) : Type 0 where
+pub record IsRowUpTo (rows : List Row) (k : ℕ) (j : ℕ) (r : Row) : Type 0 where
   pub le : j ≤ k
   pub at : slice_index_or rows j r ≡ r
   pub key : r.key ≡ (slice_index_or rows k r).key
@@ -35,7 +35,7 @@ pub record IsUpTo (rows : List Row) (k : ℕ) (j : ℕ) (r : Row) : Type 0 where
 pub record EndsLast (rows : List Row) (k : ℕ) (last : ℕ) (of : Row → Type 0) : Type 0 where
   pub j : ℕ
   pub row : Row
-  pub there : IsUpTo rows k j row
+  pub there : IsRowUpTo rows k j row
   pub is : of row
   pub ends : row.range.last ≡ last
 
@@ -44,15 +44,15 @@ IsCovered None n = n < 0
 IsCovered (Some m) n = n ≤ m
 
 -- of the rows up to one of its key: where the last of all ends, whose it is, and where the last of all others does
-pub record IsReach (rows : List Row) (k : ℕ) (x : Reach) : Type 0 where
-  pub all : (j : ℕ) (r : Row) → IsUpTo rows k j r → r.range.last ≤ x.last
+pub record IsRowReach (rows : List Row) (k : ℕ) (x : Reach) : Type 0 where
+  pub all : (j : ℕ) (r : Row) → IsRowUpTo rows k j r → r.range.last ≤ x.last
   pub at : EndsLast rows k x.last (λ r. r.owner ≡ x.owner)
-  pub rest : (j : ℕ) (r : Row) → IsUpTo rows k j r → r.owner ≢ x.owner → IsCovered x.others r.range.last
+  pub rest : (j : ℕ) (r : Row) → IsRowUpTo rows k j r → r.owner ≢ x.owner → IsCovered x.others r.range.last
   pub other : (n : ℕ) → x.others ≡ Some n → EndsLast rows k n (λ r. r.owner ≢ x.owner)
 
 pub record AreReaches (rows : List Row) (reaches : List Reach) : Type 0 where
   pub size : length reaches ≡ length rows
-  pub each : (k : ℕ) (d : Reach) → k < length rows → IsReach rows k (slice_index_or reaches k d)
+  pub each : (k : ℕ) (d : Reach) → k < length rows → IsRowReach rows k (slice_index_or reaches k d)
 
 -- ---- how far they reach, row by row
 
@@ -63,8 +63,8 @@ abbrev pub later_of : Option ℕ → ℕ → ℕ
 later_of None n = n
 later_of (Some m) n = later m n
 
-abbrev pub reach_of : Row → Reach
-reach_of r = record { owner = r.owner; last = r.range.last; others = None }
+abbrev pub row_reach : Row → Reach
+row_reach r = record { owner = r.owner; last = r.range.last; others = None }
 
 -- with one row more
 abbrev pub reach_with : Reach → Row → Reach

@@ -18,7 +18,7 @@ use Rattle.pci_first_fit.specs.NewWindows.{IsTooLarge}
 use Rattle.pci_kept.specs.declared.region.Region.{Region as CodeRegion}
 use Rattle.pci_kept.specs.declared.rules.Rules.{Rules}
 use Rattle.pci_kept.specs.Boards.{AreOpen}
-use Rattle.pci_kept.specs.Known.{asked_by, region_value}
+use Rattle.pci_kept.specs.Known.{asked_by_rules, region_value}
 use Rattle.pci_kept.specs.Tables.{stands_in}
 use Rattle.pci_kept.specs.declared.windows.TooLarge.{TooLarge}
 use Rattle.pci_kept.specs.Windows.{HasWholeWindow}
@@ -64,7 +64,7 @@ AreStaying q s table = AreStayingBy q s (has_room_behind q s) table
 
 -- what is asked for in lists of I/O alone
 abbrev pub asked_in_io : List ℕ → Demand → Rules → Request
-asked_in_io roots d rules = asked_by roots (demand_in_io d) rules
+asked_in_io roots d rules = asked_by_rules roots (demand_in_io d) rules
 
 -- a new window of I/O is too large, or there was no memory
 abbrev pub IsTooLargeInIo : Request → System → Refused TooLarge → Type 0

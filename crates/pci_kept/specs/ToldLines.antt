@@ -23,7 +23,7 @@ use Rattle.pci_kept.specs.declared.told_line.ToldLine.{ToldLine}
 abbrev pub unnamed : ToldRange → ToldRegion
 unnamed t = record { register = 0; told = t }
 
-pub record IsToldLine (q : Request) (s : System) (t : ToldRange) (line : ToldLine) : Type 0 where
+pub record IsToldLineOf (q : Request) (s : System) (t : ToldRange) (line : ToldLine) : Type 0 where
   pub level : line.level ≡ level q t.slot.bus
   pub class : kind_value line.class ≡ range_class q s (unnamed t)
   pub on : line.on ≡ is_range_on q.told s t
@@ -32,7 +32,7 @@ pub record IsToldLine (q : Request) (s : System) (t : ToldRange) (line : ToldLin
 pub record AreToldLines (q : Request) (s : System) (lines : List ToldLine) : Type 0 where
   pub size : length lines ≡ length q.told.ranges
   pub each : (k : ℕ) (d : ToldLine) (t : ToldRange) → k < length q.told.ranges
-      → IsToldLine q s (slice_index_or q.told.ranges k t) (slice_index_or lines k d)
+      → IsToldLineOf q s (slice_index_or q.told.ranges k t) (slice_index_or lines k d)
 
 -- ---- what leads to them
 

@@ -44,11 +44,11 @@ abbrev pub AreAllLawful : ByKind (List (Option Extent)) → Type 0
 AreAllLawful windows = (class : CodeKind) → AreWindows (by_kind windows class)
 
 -- the first class of which a bridge is named
-abbrev pub first_of : Option ℕ → Option ℕ → Option ℕ → Option TooLarge
-first_of (Some k) memory prefetchable = Some record { class = kinds.Io; function = k }
-first_of None (Some k) prefetchable = Some record { class = kinds.Memory; function = k }
-first_of None None (Some k) = Some record { class = kinds.Prefetchable; function = k }
-first_of None None None = None
+abbrev pub first_class_too_large : Option ℕ → Option ℕ → Option ℕ → Option TooLarge
+first_class_too_large (Some k) memory prefetchable = Some record { class = kinds.Io; function = k }
+first_class_too_large None (Some k) prefetchable = Some record { class = kinds.Memory; function = k }
+first_class_too_large None None (Some k) = Some record { class = kinds.Prefetchable; function = k }
+first_class_too_large None None None = None
 
 -- or marks those of 2^64 addresses or more
 abbrev pub HasAllMarked : Classing → ByKind (List (Option Extent)) → Type 0
@@ -86,7 +86,7 @@ abbrev pub HasWhole : List Record → Type 0
 HasWhole records = (r : Record) × (Contains records r × IsTrue (has_whole r))
 
 -- a range has all addresses of 64 bits
-pub record IsWhole (r : Range) : Type 0 where
+pub record IsWholeRange (r : Range) : Type 0 where
   pub first : r.first ≡ 0
   pub last : r.last + 1 ≡ 2 ^ 64
 
@@ -96,4 +96,4 @@ pub record HasWholeWindow (s : System) : Type 0 where
   pub listed : Contains s function
   pub class : WindowKind
   pub shows : IsTrue (is_open function class)
-  pub whole : IsWhole (range_of function (Window class))
+  pub whole : IsWholeRange (range_of function (Window class))

@@ -6,7 +6,7 @@ ghost use Rattle.pci_tree.specs.Roots.{buses_of};
 ghost use Rattle.pci_place.specs.Above.{system_in};
 ghost use Rattle.pci_first_fit.specs.Slots.{demand_value};
 ghost use Rattle.pci_kept.specs.Flags.{AreFlags};
-ghost use Rattle.pci_kept.specs.Known.{asked, asked_by, AreParts};
+ghost use Rattle.pci_kept.specs.Known.{asked, asked_by_rules, AreParts};
 
 use crate::fixed::flags_of;
 use crate::open_windows::open_windows;
@@ -77,7 +77,7 @@ pub fn regions<A: Allocator + Copy, B: Allocator>(
     rules: &Rules,
 ) -> Result<Vec<Region, A>, OutOfMemory>
     ensures { IfOk result (λ regions. AreParts
-        (asked_by admitted.now.roots (demand_value lists.now) rules.now) (system_in admitted.now)
+        (asked_by_rules admitted.now.roots (demand_value lists.now) rules.now) (system_in admitted.now)
         regions.items) }
 {
     let flags = flags_of(alloc, rules.fixed)?;

@@ -7,7 +7,7 @@ ghost use Rattle.pci_place.specs.Above.{system_in};
 ghost use Rattle.pci_first_fit.specs.Lists.{lists_value};
 ghost use Rattle.pci_first_fit.specs.Spots.{AreRisingRanges};
 ghost use Rattle.pci_first_fit.specs.Tables.{AreForward};
-ghost use Rattle.pci_kept.specs.Held.{is_kept, kept_range, held_of, held_level, held_range, is_level_on, AreByLevel, AreHeldIn};
+ghost use Rattle.pci_kept.specs.Held.{is_region_kept, kept_range, held_of, held_level, held_range, is_level_on, AreByLevel, AreHeldIn};
 
 use crate::collect::regions;
 use crate::region::Region;
@@ -34,7 +34,7 @@ pub struct Held {
 
 /// Whether a part keeps its place.
 pub fn is_kept(kept: &[Kept], region: &Region) -> bool
-    ensures { result ≡ is_kept kept.now region.now }
+    ensures { result ≡ is_region_kept kept.now region.now }
 {
     kept_by(kept, region.function).keeps(region.part)
 }
@@ -61,7 +61,7 @@ fn add_held<A: Allocator>(
     grown: &[WindowRanges],
 ) -> Result<(), OutOfMemory>
     ensures { OnOk result (held.new.items
-        ≡ held.old.items ++ map (held_of grown.now) (filter (is_kept kept.now) regions.now)) }
+        ≡ held.old.items ++ map (held_of grown.now) (filter (is_region_kept kept.now) regions.now)) }
 {
     for region in regions {
         if is_kept(kept, region) {

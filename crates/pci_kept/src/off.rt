@@ -14,7 +14,7 @@ ghost use Rattle.pci_kept.specs.Boards.{IsKnownPart};
 ghost use Rattle.pci_kept.specs.Known.{region_value};
 ghost use Rattle.pci_kept.specs.Rows.{AreRows};
 ghost use Rattle.pci_kept.specs.ToldLines.{AreToldLines, unnamed};
-ghost use Rattle.pci_kept.specs.LineRows.{row_key, line_owner, is_kept_line, AreLineRows, AreSearched, AreOffRows};
+ghost use Rattle.pci_kept.specs.LineRows.{row_key, line_owner, is_kept_line, AreRowsOfKeptLines, AreSearched, AreOffRows};
 
 use crate::leads::Told;
 use crate::region::Region;
@@ -79,7 +79,7 @@ fn add_rows<A: Allocator>(rows: &mut Vec<Row, A>, told: &Told, all: bool) -> Res
     requires count { length told.now.lines.now ≡ length told.now.ranges.now }
     ensures { OnOk result ((q : Request) → (s : System) → q.told.ranges ≡ told.now.ranges.now
         → AreToldLines q s told.now.lines.now → rows.old.items ≡ []
-        → AreLineRows q (is_kept_line q s all) rows.new.items) }
+        → AreRowsOfKeptLines q (is_kept_line q s all) rows.new.items) }
 {
     for index in 0..told.ranges.len() {
         let line = told.lines[index];
@@ -132,7 +132,7 @@ pub fn line_rows<A: Allocator + Copy>(
     ensures order { IfOk result (λ rows. AreRows rows.items) }
     ensures rows { IfOk result (λ rows. (q : Request) → (s : System)
         → q.told.ranges ≡ told.now.ranges.now → AreToldLines q s told.now.lines.now
-        → AreLineRows q (is_kept_line q s all) rows.items) }
+        → AreRowsOfKeptLines q (is_kept_line q s all) rows.items) }
 {
     let mut rows = Vec::new(alloc);
     add_rows(&mut rows, told, all)?;

@@ -9,7 +9,7 @@ ghost use Rattle.pci_place.specs.Above.{system_in};
 ghost use Rattle.pci_first_fit.specs.Lists.{lists_value};
 ghost use Rattle.pci_first_fit.specs.Slots.{demand_value};
 ghost use Rattle.pci_kept.specs.Boards.{IsBoard};
-ghost use Rattle.pci_kept.specs.Known.{asked_by};
+ghost use Rattle.pci_kept.specs.Known.{asked_by_rules};
 ghost use Rattle.pci_kept.specs.Taken.{AreApartInOrder, taken_with};
 ghost use Rattle.pci_kept.specs.ToldLines.{AreToldLines};
 ghost use Rattle.pci_kept.specs.LineRows.{AreSearched, AreOffRows};
@@ -128,13 +128,13 @@ fn ordered_regions<A: Allocator + Copy, B: Allocator>(
     requires told { IsTold told.now.ranges.now }
     requires count { length told.now.lines.now ≡ length told.now.ranges.now }
     ensures ordered { IfOk result (λ regions. told.now.ranges.now ≡ lists.now.told.ranges.now
-        → AreToldLines (asked_by admitted.now.roots (demand_value lists.now) rules.now)
+        → AreToldLines (asked_by_rules admitted.now.roots (demand_value lists.now) rules.now)
         (system_in admitted.now) told.now.lines.now
-        → AreOrdered (asked_by admitted.now.roots (demand_value lists.now) rules.now)
+        → AreOrdered (asked_by_rules admitted.now.roots (demand_value lists.now) rules.now)
         (system_in admitted.now) regions.items) }
     // each part names a function that has an entry
     ensures ready { IfOk result (λ regions. told.now.ranges.now ≡ lists.now.told.ranges.now
-        → AreToldLines (asked_by admitted.now.roots (demand_value lists.now) rules.now)
+        → AreToldLines (asked_by_rules admitted.now.roots (demand_value lists.now) rules.now)
         (system_in admitted.now) told.now.lines.now
         → All (CanBeNoted (length (system_in admitted.now))) regions.items) }
 {
@@ -159,7 +159,7 @@ pub fn standing<A: Allocator + Copy, B: Allocator>(
     rules: &Rules,
 ) -> Result<Vec<Kept, A>, OutOfMemory>
     ensures { IfOk result (λ table. AreStanding
-        (asked_by admitted.now.roots (demand_value lists.now) rules.now) (system_in admitted.now)
+        (asked_by_rules admitted.now.roots (demand_value lists.now) rules.now) (system_in admitted.now)
         table.items) }
 {
     let outline = admitted.outline();

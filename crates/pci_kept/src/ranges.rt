@@ -14,12 +14,12 @@ ghost use Rattle.settle_spec.specs.Lines.{is_marked_always, is_held_line};
 ghost use Rattle.settle_spec.specs.Stands.{stands, is_range_in_place};
 ghost use Rattle.pci_tree.specs.Ways.{IsBridgeToBus};
 ghost use Rattle.pci_kept.specs.Boards.{IsTree};
-ghost use Rattle.pci_kept.specs.Held.{is_kept};
-ghost use Rattle.pci_kept.specs.LineRows.{nobody, AreLineRows, AreSearched};
+ghost use Rattle.pci_kept.specs.Held.{is_region_kept};
+ghost use Rattle.pci_kept.specs.LineRows.{nobody, AreRowsOfKeptLines, AreSearched};
 ghost use Rattle.pci_kept.specs.Passing.{AreStanding};
 ghost use Rattle.pci_kept.specs.Rows.{AreRows};
 ghost use Rattle.pci_kept.specs.StandingRanges.{is_owned, part_row, is_free_of};
-ghost use Rattle.pci_kept.specs.ToldLines.{unnamed, IsToldLine, AreToldLines};
+ghost use Rattle.pci_kept.specs.ToldLines.{unnamed, IsToldLineOf, AreToldLines};
 
 use crate::apart::put_row;
 use crate::bridges::are_on;
@@ -73,7 +73,7 @@ fn is_in_place(
     requires over { IsBridgeToBus records.now over.now }
     requires count { length table.now ≡ length records.now }
     ensures { (q : Request) → (s : System) → IsTree q s records.now → AreStanding q s table.now
-        → IsToldLine q s range.now line → result ≡ is_range_in_place q s (stands q s) (unnamed range.now) }
+        → IsToldLineOf q s range.now line → result ≡ is_range_in_place q s (stands q s) (unnamed range.now) }
 {
     if line.level == 0 {
         return true;
@@ -117,7 +117,7 @@ fn add_parts<A: Allocator>(
     table: &[Kept],
 ) -> Result<(), OutOfMemory>
     ensures { OnOk result (rows.new.items
-        ≡ rows.old.items ++ map part_row (filter (is_kept table.now) regions.now)) }
+        ≡ rows.old.items ++ map part_row (filter (is_region_kept table.now) regions.now)) }
 {
     for region in regions {
         if is_kept(table, region) {
@@ -138,7 +138,7 @@ pub fn part_rows<A: Allocator + Copy>(
     table: &[Kept],
 ) -> Result<Vec<Row, A>, OutOfMemory>
     ensures rows { IfOk result (λ rows. IsPermutation
-        (map part_row (filter (is_kept table.now) regions.now)) rows.items) }
+        (map part_row (filter (is_region_kept table.now) regions.now)) rows.items) }
     ensures order { IfOk result (λ rows. AreRows rows.items) }
 {
     let mut rows = Vec::new(alloc);
@@ -156,8 +156,8 @@ pub fn is_free(ground: &Ground, range: &ToldRange, line: ToldLine) -> bool
     // no part is anybody's
     requires nobody { All (λ r. r.owner ≡ nobody) ground.now.parts.rows.now }
     ensures { (q : Request) → (s : System) → IsTree q s ground.now.records.now → IsTold q.told.ranges
-        → AreStanding q s ground.now.table.now → AreLineRows q is_held_line ground.now.held.rows.now
-        → IsToldLine q s range.now line
+        → AreStanding q s ground.now.table.now → AreRowsOfKeptLines q is_held_line ground.now.held.rows.now
+        → IsToldLineOf q s range.now line
         → result ≡ is_free_of q s ground.now.parts.rows.now line.level range.now }
 {
     if range.is_held() {
@@ -199,7 +199,7 @@ fn note_range<A: Allocator>(
     ensures apart { AreApartRows taken.new.items }
     ensures passed { OnOk result ((q : Request) → (s : System) → (xs : List ToldRegion) → (count : ℕ)
         → IsTree q s ground.now.records.now → q.told.ranges ≡ told.now.ranges.now
-        → AreStanding q s ground.now.table.now → AreLineRows q is_held_line ground.now.held.rows.now
+        → AreStanding q s ground.now.table.now → AreRowsOfKeptLines q is_held_line ground.now.held.rows.now
         → ArePartRows q s ground.now.parts.rows.now → AreToldLines q s told.now.lines.now
         → AreRangesInOrder q s xs → IsTurn q xs count index
         → AreRangesPassed q s xs count taken.old.items flags.old
@@ -236,7 +236,7 @@ pub fn note_ranges<A: Allocator>(
     requires apart { AreApartRows taken.old.items }
     ensures passed { OnOk result ((q : Request) → (s : System)
         → IsTree q s ground.now.records.now → q.told.ranges ≡ told.now.ranges.now
-        → AreStanding q s ground.now.table.now → AreLineRows q is_held_line ground.now.held.rows.now
+        → AreStanding q s ground.now.table.now → AreRowsOfKeptLines q is_held_line ground.now.held.rows.now
         → ArePartRows q s ground.now.parts.rows.now → AreToldLines q s told.now.lines.now
         → AreRangesInOrder q s (map (region_at q) turns.now)
         → AreRangesPassed q s (map (region_at q) turns.now) 0 taken.old.items flags.old

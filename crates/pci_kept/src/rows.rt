@@ -1,7 +1,7 @@
 //! Ranges as rows by bus and space, among which those are found by halving that keep a range off.
 ghost use Rattle.std.specs.Prelude.{◌≡◌, ◌≤◌, ◌<◌, ◌⊎◌, IfOk, length};
 ghost use Rattle.std.specs.List.{AllWithin};
-ghost use Rattle.pci_kept.specs.Rows.{AreRows, rows_keep_off, AreReaches, later, reach_of, reach_with, reaches_to};
+ghost use Rattle.pci_kept.specs.Rows.{AreRows, rows_keep_off, AreReaches, later, row_reach, reach_with, reaches_to};
 
 use pci_base::memory::OutOfMemory;
 use pci_base::range::Range;
@@ -55,7 +55,7 @@ fn later(one: u64, other: u64) -> u64
 impl Reach {
     /// That of one row.
     fn of(row: &Row) -> Reach
-        ensures { result ≡ reach_of row.now }
+        ensures { result ≡ row_reach row.now }
     {
         Reach {
             owner: row.owner,

@@ -10,8 +10,8 @@ ghost use Rattle.pci_tree.specs.Ways.{IsBridgeToBus};
 ghost use Rattle.pci_place.specs.Above.{system_in};
 ghost use Rattle.pci_first_fit.specs.Slots.{demand_value};
 ghost use Rattle.pci_kept.specs.Boards.{IsTree};
-ghost use Rattle.pci_kept.specs.Known.{asked_by};
-ghost use Rattle.pci_kept.specs.LineRows.{nobody, AreLineRows, AreSearched};
+ghost use Rattle.pci_kept.specs.Known.{asked_by_rules};
+ghost use Rattle.pci_kept.specs.LineRows.{nobody, AreRowsOfKeptLines, AreSearched};
 ghost use Rattle.pci_kept.specs.Passing.{AreStanding};
 ghost use Rattle.pci_kept.specs.RangePass.{ArePartRows, AreStandingRanges, turns_of, all_turns};
 ghost use Rattle.pci_kept.specs.ToldLines.{AreToldLines};
@@ -80,7 +80,7 @@ fn flags_in_turn<A: Allocator + Copy>(
     ensures count { IfOk result (λ flags. length flags.items ≡ length told.now.ranges.now) }
     ensures flags { IfOk result (λ flags. (q : Request) → (s : System)
         → IsTree q s ground.now.records.now → q.told.ranges ≡ told.now.ranges.now
-        → AreStanding q s ground.now.table.now → AreLineRows q is_held_line ground.now.held.rows.now
+        → AreStanding q s ground.now.table.now → AreRowsOfKeptLines q is_held_line ground.now.held.rows.now
         → ArePartRows q s ground.now.parts.rows.now → AreToldLines q s told.now.lines.now
         → AreStandingRanges q s flags.items) }
 {
@@ -105,11 +105,11 @@ pub fn standing_ranges<A: Allocator + Copy, B: Allocator>(
     rules: &Rules,
     table: &[Kept],
 ) -> Result<Vec<bool, A>, OutOfMemory>
-    requires { AreStanding (asked_by admitted.now.roots (demand_value lists.now) rules.now)
+    requires { AreStanding (asked_by_rules admitted.now.roots (demand_value lists.now) rules.now)
         (system_in admitted.now) table.now }
     ensures count { IfOk result (λ flags. length flags.items ≡ length lists.now.told.ranges.now) }
     ensures flags { IfOk result (λ flags. AreStandingRanges
-        (asked_by admitted.now.roots (demand_value lists.now) rules.now) (system_in admitted.now)
+        (asked_by_rules admitted.now.roots (demand_value lists.now) rules.now) (system_in admitted.now)
         flags.items) }
 {
     let ranges = lists.told.as_slice();

@@ -10,7 +10,7 @@ ghost use Rattle.pci_first_fit.specs.Buses.{classing_value};
 ghost use Rattle.pci_first_fit.specs.Lists.{lists_value};
 ghost use Rattle.pci_first_fit.specs.Slots.{demand_value};
 ghost use Rattle.pci_kept.specs.Boards.{IsBoard};
-ghost use Rattle.pci_kept.specs.Known.{asked_by, AreParts};
+ghost use Rattle.pci_kept.specs.Known.{asked_by_rules, AreParts};
 ghost use Rattle.pci_kept.specs.Passing.{CanBeNoted};
 ghost use Rattle.pci_kept.specs.Windows.{AreAllLawful};
 ghost use Rattle.pci_kept.specs.Holding.{IsKnowing, AreNoted};
@@ -96,8 +96,8 @@ fn stay_by<'b, A: Allocator + Copy, B: Allocator>(
     requires above { AreAboves (system_in classing.now.admitted.now) classing.now.aboves.now }
     requires lawful { AreAllLawful windows.now }
     ensures { IfOk result (λ table. IsKnowing (classing_value classing.now) windows.now
-        (asked_by classing.now.admitted.now.roots (demand_value lists.now) rules.now)
-        → AreStaying (asked_by classing.now.admitted.now.roots (demand_value lists.now) rules.now)
+        (asked_by_rules classing.now.admitted.now.roots (demand_value lists.now) rules.now)
+        → AreStaying (asked_by_rules classing.now.admitted.now.roots (demand_value lists.now) rules.now)
         (system_in classing.now.admitted.now) table.items) }
 {
     let admitted = classing.admitted;
@@ -137,10 +137,10 @@ pub fn staying<A: Allocator + Copy, B: Allocator>(
     rules: &Rules,
 ) -> Result<Vec<Kept, A>, Refused<TooLarge>>
     ensures stay { IfOk result (λ table. AreStaying
-        (asked_by admitted.now.roots (demand_value lists.now) rules.now) (system_in admitted.now)
+        (asked_by_rules admitted.now.roots (demand_value lists.now) rules.now) (system_in admitted.now)
         table.items) }
     ensures fault { IfErr result (IsTooLargeFor
-        (asked_by admitted.now.roots (demand_value lists.now) rules.now) (system_in admitted.now)) }
+        (asked_by_rules admitted.now.roots (demand_value lists.now) rules.now) (system_in admitted.now)) }
 {
     let aboves = aboves(admitted);
     let records = admitted.outline().records();

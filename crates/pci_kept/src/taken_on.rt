@@ -7,7 +7,7 @@ ghost use Rattle.pci_base.specs.Space.{space_of};
 ghost use Rattle.pci_first_fit.specs.Lines.{AreForwardRanges, AreLineRows};
 ghost use Rattle.pci_first_fit.specs.Spots.{AreRisingRanges};
 ghost use Rattle.pci_kept.specs.Passing.{CanBeNoted};
-ghost use Rattle.pci_kept.specs.Rooms.{region_bus, region_range, is_taken, is_taken_on, AreTakenOn};
+ghost use Rattle.pci_kept.specs.Rooms.{region_bus, region_range, is_taken, is_taken_on, AreTakenBehindBridge};
 
 use super::region::Region;
 use pci_base::memory::OutOfMemory;
@@ -97,7 +97,7 @@ pub fn taken_on<A: Allocator>(
     requires lines { AreLineRows takers.now.lines.now }
     // each part names a function that the table has
     requires ready { All (CanBeNoted (length table.now)) takers.now.regions.now }
-    ensures taken { IfOk result (λ taken. AreTakenOn takers.now.regions.now takers.now.lines.now
+    ensures taken { IfOk result (λ taken. AreTakenBehindBridge takers.now.regions.now takers.now.lines.now
         bus (space_of space) table.now taken.items) }
     ensures listed { IfOk result (λ taken. AreRisingRanges taken.items) }
 {

@@ -7,7 +7,7 @@ ghost use Rattle.pci_base.specs.WindowKinds.{kind_value};
 ghost use Rattle.pci_place.specs.Above.{AreAboves, system_in};
 ghost use Rattle.pci_first_fit.specs.Buses.{AreWindows, classing_value};
 ghost use Rattle.pci_spec.specs.Window.{IoWindow};
-ghost use Rattle.pci_kept.specs.Windows.{HasWindowsOf, IsTooLargeOf, first_of, AreAllNew, AreAllLawful, is_whole_range, opens_whole, has_whole, HasWhole};
+ghost use Rattle.pci_kept.specs.Windows.{HasWindowsOf, IsTooLargeOf, first_class_too_large, AreAllNew, AreAllLawful, is_whole_range, opens_whole, has_whole, HasWhole};
 
 use pci_base::memory::{OutOfMemory, Refused};
 use pci_base::range::Range;
@@ -63,7 +63,7 @@ fn first_of(
     memory: Option<usize>,
     prefetchable: Option<usize>,
 ) -> Option<TooLarge>
-    ensures { result ≡ first_of io memory prefetchable }
+    ensures { result ≡ first_class_too_large io memory prefetchable }
 {
     let (class, function) = match (io, memory, prefetchable) {
         (Some(function), _, _) => (WindowKind::Io, function),

@@ -23,14 +23,14 @@ IsOfMachine (Fault fault) = (phase_of (fault_of fault) ≤ 2) × IsFalse (is_of_
 IsOfMachine Memory = Unit {0}
 
 -- a fault that is named is there
-abbrev pub IsRefusedFor : List Block → List Block → Refused FaultOfCode → Type 0
-IsRefusedFor dump probe (Fault fault) = (roots : List ℕ) → IsThere roots dump probe (fault_of fault)
-IsRefusedFor dump probe Memory = Unit {0}
+abbrev pub IsMachineFaultThere : List Block → List Block → Refused FaultOfCode → Type 0
+IsMachineFaultThere dump probe (Fault fault) = (roots : List ℕ) → IsThere roots dump probe (fault_of fault)
+IsMachineFaultThere dump probe Memory = Unit {0}
 
 -- none that is looked for before it is there, but for those of capabilities lists
-abbrev pub IsFirstFor : List Block → List Block → Refused FaultOfCode → Type 0
-IsFirstFor dump probe (Fault fault) =
+abbrev pub IsMachineFaultFirst : List Block → List Block → Refused FaultOfCode → Type 0
+IsMachineFaultFirst dump probe (Fault fault) =
     (roots : List ℕ) (other : faults.Fault)
     → IsTrue (is_before (image_at (system_of dump probe)) other (fault_of fault))
     → IsFalse (is_of_list other) → IsThere roots dump probe other → ⊥
-IsFirstFor dump probe Memory = Unit {0}
+IsMachineFaultFirst dump probe Memory = Unit {0}

@@ -4,10 +4,10 @@ use Rattle.pci_machine.specs.declared.port.PortError.{PortError}
 use Rattle.pci_machine.specs.declared.port.PortError.TheVariants.{NoFunction, BadAccess, Failed}
 
 -- the number of an error
-abbrev pub number_of : PortError → ℕ
-number_of NoFunction = 40
-number_of BadAccess = 41
-number_of Failed = 42
+abbrev pub port_error_number : PortError → ℕ
+port_error_number NoFunction = 40
+port_error_number BadAccess = 41
+port_error_number Failed = 42
 
 -- how many failures an error counts as
 abbrev pub failures_of_error : PortError → ℕ

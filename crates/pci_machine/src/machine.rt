@@ -3,7 +3,7 @@ ghost use Rattle.std.specs.Prelude.{◌≡◌, ◌<◌, ℕ, List, map, All, IsT
 ghost use Rattle.pci_spec.specs.System.{system_of};
 ghost use Rattle.pci_spec.specs.Decoded.{IsDecodable};
 ghost use Rattle.pci_tree.specs.Pair.{IsPair};
-ghost use Rattle.pci_machine.specs.Made.{IsOfMachine, IsRefusedFor, IsFirstFor};
+ghost use Rattle.pci_machine.specs.Made.{IsOfMachine, IsMachineFaultThere, IsMachineFaultFirst};
 ghost use Rattle.pci_spec.specs.Sizing.{function_at, IsSizable};
 ghost use Rattle.pci_spec.specs.Machine.{Target, target_of, sized, write_targets};
 ghost use Rattle.std.specs.Option.{option_map};
@@ -68,9 +68,9 @@ impl<A: Allocator> Machine<A> {
             (λ machine. All (λ f. IsSizable machine f.slot) (system_of dump.now probe.now)) }
         // never 27 to 29: a machine is made of the header's registers alone
         ensures kind { IfErr result IsOfMachine }
-        ensures fault { IfErr result (IsRefusedFor dump.now probe.now) }
+        ensures fault { IfErr result (IsMachineFaultThere dump.now probe.now) }
         // but for faults of capabilities lists, which aren't looked for here
-        ensures first { IfErr result (IsFirstFor dump.now probe.now) }
+        ensures first { IfErr result (IsMachineFaultFirst dump.now probe.now) }
     {
         match pair(dump, probe) {
             Ok(()) => {}

@@ -17,11 +17,11 @@ pub enum PortError {
 }
 
 impl PortError {
-    ghost use Rattle.pci_machine.specs.Outcome.{number_of};
+    ghost use Rattle.pci_machine.specs.Outcome.{port_error_number};
 
     /// The number of the error.
     pub fn number(self) -> u8
-        ensures { result ≡ number_of self }
+        ensures { result ≡ port_error_number self }
     {
         match self {
             PortError::NoFunction => 40,

@@ -23,7 +23,7 @@ use Rattle.pci_tree.specs.Ways.{slots_of}
 use Rattle.pci_tree.proofs.Lifting.{Has}
 use Rattle.pci_claims.specs.Found.{IsFoundIn, NoneClaims}
 use Rattle.pci_map.specs.Values.{value_of}
-use Rattle.pci_map.specs.Asides.{AreFoundBy, IsRegionAside, HasNoAside, IsNamedAt, IsNamedAtRegister, IsNamedBelow, IsOfRegisters, IsTheRange, IsRangeFrom, IsAmongSlots, AreBehind, AsideTexts, AreAsides}
+use Rattle.pci_map.specs.Asides.{AreFoundBy, IsRegionAside, HasNoAside, IsNamedAt, IsNamedAtRegister, IsNamedBelow, IsOfRegisters, IsTheRange, IsRangeFrom, IsAmongSlots, AreOfNoLowerSlots, AsideTexts, AreAsides}
 use Rattle.pci_map.specs.Left.{IsLeftIf}
 use Rattle.pci_map.proofs.Lefts.{AreOne}
 use Rattle.pci_map.proofs.Tolds.{none_of, none_found, found_not, found_one, both_spaces, below_none, one_register, all_registers, the_range, the_range_not}
@@ -167,7 +167,7 @@ module _ (told : Told) (lawful : IsTold told.ranges) (given : Given) (roots : Li
   }
 
   pub ranges_aside : (slots : List Slot) (next end : ℕ) (old mid new : AsideTexts) → next ≤ end
-      → AreBehind told.ranges next slots
+      → AreOfNoLowerSlots told.ranges next slots
       → AreAsides told given roots s (IsAmongSlots slots next) old mid → AreAsides told given roots s (IsRangeFrom next end) mid new → AreAsides told given roots s (IsAmongSlots slots end) old new
   ranges_aside slots next end old mid new up behind early late = record {
     out = among_ranges told lawful s given (IsOutOfPlace told given roots s) slots next end old.outside mid.outside new.outside up behind early.out late.out;

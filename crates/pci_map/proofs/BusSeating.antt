@@ -27,8 +27,8 @@ use Rattle.pci_claims.proofs.Making.{rise_in_order}
 use Rattle.pci_map.specs.declared.seat.Seat.{Seat}
 use Rattle.pci_map.specs.declared.seat.Seat.TheVariants as seats
 use Rattle.pci_map.specs.Values.{value_of}
-use Rattle.pci_map.specs.Seats.{told_of, seat_first, IsToldOn, IsSeatOn, SeatIsBefore, HasPart, HasLine, AreSortedSeatsOf}
-use Rattle.pci_map.specs.BusSeats.{place_number, seat_number, seat_register, IsSeatAt, AreToldSeats, AreMoreSeats}
+use Rattle.pci_map.specs.Seats.{told_region_value, seat_first, IsToldOn, IsSeatOn, SeatIsBefore, HasSeatOfPart, HasLine, AreSortedSeatsOf}
+use Rattle.pci_map.specs.BusSeats.{seat_place_number, seat_number, seat_register, IsSeatAt, AreToldSeats, AreMoreSeats}
 use Rattle.pci_map.proofs.Values.{told_region}
 
 same_range : (ranges : List ToldRange) (k : ℕ) (r q : ToldRange) → slice_get ranges k ≡ Some r → slice_get ranges k ≡ Some q → r ≡ q
@@ -44,7 +44,7 @@ abbrev seat_slot : Seat → Slot
 seat_slot (seats.Own q) = q.slot
 seat_slot (seats.OfLine x) = x.told.now.slot
 
-number_is : (q : Seat) → seat_number q ≡ place_number (seat_first q) (region_number (seat_slot q) (seat_register q))
+number_is : (q : Seat) → seat_number q ≡ seat_place_number (seat_first q) (region_number (seat_slot q) (seat_register q))
 number_is (seats.Own q) = refl
 number_is (seats.OfLine x) = refl
 
@@ -132,7 +132,7 @@ module _ (told : Told) (t : Tree) (on : List Bool) (are_on : AreOnIn told t on) 
         | inr same ↦ (let e = same.0 in let up = same.1 in omega (arith, e, up, one, other))
       ]))
 
-  own_part : (qs : List Seat) → ((q : Seat) → Contains own q → Contains qs q) → (f : Function) (part : Part) (a : ℕ) → Contains s f → f.slot.bus ≡ bus → Claims f part space a → HasPart qs f part space
+  own_part : (qs : List Seat) → ((q : Seat) → Contains own q → Contains qs q) → (f : Function) (part : Part) (a : ℕ) → Contains s f → f.slot.bus ≡ bus → Claims f part space a → HasSeatOfPart qs f part space
   own_part qs joins f part a listed on_bus claims =
       let found = are.complete f part a listed on_bus claims in
       record { q = found.q; has = joins (seats.Own found.q) (in_map_from seats.Own regions found.q found.has); is = found.is }
@@ -143,7 +143,7 @@ module _ (told : Told) (t : Tree) (on : List Bool) (are_on : AreOnIn told t on) 
     line_on : (q : Seat) → Contains more q → IsSeatOn told s bus space q
     line_on q has =
         let (k, r, is, at) = ranges.each q has in
-        let x : ToldRegion = told_of at.x in
+        let x : ToldRegion = told_region_value at.x in
         let here : slice_get told.ranges k ≡ Some x.told = is.at ∙ ap Some (sym at.told) in
         subst (IsSeatOn told s bus space) (sym at.is) record {
           is = record {

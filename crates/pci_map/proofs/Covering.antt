@@ -19,7 +19,7 @@ use Rattle.pci_claims.proofs.Cutting.{never_cut_from}
 use Rattle.pci_map.specs.Gaps.{IsClaimedBy, is_cut_seat, AreClaimedBy, AreClaimsOf, AreClaimed}
 use Rattle.pci_map.specs.declared.seat.Seat.{Seat}
 use Rattle.pci_map.specs.declared.seat.Seat.TheVariants as seats
-use Rattle.pci_map.specs.Seats.{told_of, seat_value, seat_range, IsSeatOn, HasLine, AreSortedSeatsOf}
+use Rattle.pci_map.specs.Seats.{told_region_value, seat_value, seat_range, IsSeatOn, HasLine, AreSortedSeatsOf}
 use Rattle.pci_map.proofs.Cuts.{own_of, kept_of}
 use Rattle.pci_claims.proofs.GapRanges.{covers_has, covers_from, covers_nil, covers_append, covers_left, covers_right}
 
@@ -89,7 +89,7 @@ module _ (told : Told) (given : Given) (s : System) (space : Space) (bus : ℕ) 
     claims = own_of given space on.f on.part q on.is a by.held by.kept;
   }
   seat_claims (seats.OfLine x) on a by = inr (
-    told_name (told_of x),
+    told_name (told_region_value x),
     record { r = x.told.now; named = on.is.named; on_the_bus = on.on_bus; claims = record { on = on.is.on; holds = (on.of_space, by.0, by.1) } },
   )
 

@@ -21,7 +21,7 @@ use Rattle.pci_claims.specs.Found.{region_of_found, IsFoundIn}
 use Rattle.pci_claims.proofs.Cutting.{cut_from_by}
 use Rattle.pci_claims.proofs.Founds.{region_in}
 use Rattle.pci_map.specs.Values.{value_of}
-use Rattle.pci_map.specs.Inside.{region_has, is_taken}
+use Rattle.pci_map.specs.Inside.{region_has, is_cut_by_isa}
 use Rattle.pci_map.specs.Left.{NoneHas, IsFirstHoldingWindow}
 use Rattle.pci_map.specs.Ways.{Spot, io_spot, memory_spot, prefetchable_spot, IsJudged, IsHoldingWindow, IsHoldingAt, IsFirstJudged, IsFirstAt}
 use Rattle.pci_map.specs.declared.left.Judged.{Judged}
@@ -91,7 +91,7 @@ module _ (given : Given) (s : System) (unique : (f g : Function) → Contains s 
         let part = part_found k space w.window found h.has in
         let claims = subst (λ p. Claims b p space a) part (claims_at k space w.window found a h.has) in
         sym (cut_at given s unique slot (window_register k) space w.window found b (system.Window k) a listed named refl claims)
-        ∙ cut_from_by given space w.window a ∙ ap (λ c. is_taken c a) (sym h.is.cut) ∙ h.kept
+        ∙ cut_from_by given space w.window a ∙ ap (λ c. is_cut_by_isa c a) (sym h.is.cut) ∙ h.kept
 
     io_first : (o : Option Judged) → IsAddress Io a → IsHoldingAt given roots s (io_spot slot) a o → IsFirstAt given roots s Io b a o
     io_first None address none = io_none none address
@@ -129,8 +129,8 @@ module _ (given : Given) (s : System) (unique : (f g : Function) → Contains s 
 
 -- what ISA Enable takes no part at the register claims
 pub none_taken : (given : Given) (s : System) → ((f g : Function) → Contains s f → Contains s g → f.slot ≡ g.slot → f ≡ g) → (roots : List ℕ) (spot : Spot) (a : ℕ) (w : Judged) → IsJudged given roots s spot w
-    → is_taken w.cut a ≡ true → NoneHas given s spot.slot spot.register spot.space a
+    → is_cut_by_isa w.cut a ≡ true → NoneHas given s spot.slot spot.register spot.space a
 none_taken given s unique roots spot a w is taken f part listed at named own =
-    let from : is_cut_from given spot.space w.window a ≡ true = cut_from_by given spot.space w.window a ∙ ap (λ c. is_taken c a) (sym is.cut) ∙ taken in
+    let from : is_cut_from given spot.space w.window a ≡ true = cut_from_by given spot.space w.window a ∙ ap (λ c. is_cut_by_isa c a) (sym is.cut) ∙ taken in
     let of : is_cut_from given spot.space w.window a ≡ is_cut_of given part spot.space a f.slot = cut_at given s unique spot.slot spot.register spot.space w.window is.found f part a listed at named own.claims in
     false≢true (sym own.kept ∙ sym of ∙ from)

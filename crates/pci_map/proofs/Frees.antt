@@ -20,7 +20,7 @@ use Rattle.pci_claims.specs.Gathered.{IsGathered, IsCommon}
 use Rattle.pci_claims.specs.Sent.{IsSentTo}
 use Rattle.pci_claims.specs.Found.{range_at}
 use Rattle.pci_claims.proofs.Runs.{runs_of}
-use Rattle.pci_claims.specs.Isa.{is_cut_region, AreKept}
+use Rattle.pci_claims.specs.Isa.{is_cut_region, AreLeftByIsa}
 use Rattle.pci_claims.proofs.Cutting.{cut_from_where, never_cut_from}
 use Rattle.pci_claims.specs.Gaps.{piece, between, gaps}
 use Rattle.pci_map.specs.Gaps.{AreClaimed, AreFreeInside}
@@ -96,7 +96,7 @@ module _ (told : Told) (given : Given) (s : System) (bus : ℕ) (space : Space) 
     );
   }
 
-  pub free_of_cut : (gathered out : List Range) → is_cut_region given space w ≡ true → IsGathered left gathered → AreKept gathered out → AreFreeInside told given s bus space w out
+  pub free_of_cut : (gathered out : List Range) → is_cut_region given space w ≡ true → IsGathered left gathered → AreLeftByIsa gathered out → AreFreeInside told given s bus space w out
   free_of_cut gathered out on is kept = record {
     canonical = kept.canonical;
     exact = λ a. (

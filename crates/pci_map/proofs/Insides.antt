@@ -29,10 +29,10 @@ use Rattle.pci_claims.specs.Found.{NoneClaims, IsFoundIn}
 use Rattle.pci_claims.specs.Isa.{is_cut_region}
 use Rattle.pci_claims.proofs.Cutting.{cut_from_by}
 use Rattle.pci_claims.proofs.Runs.{runs_of}
-use Rattle.pci_map.specs.Values.{kind_at, part_at, part_of, value_of}
+use Rattle.pci_map.specs.Values.{kind_at, part_at, region_part, value_of}
 use Rattle.pci_map.specs.Gaps.{AreFreeInside}
 use Rattle.pci_map.specs.Above.{AreInPlace}
-use Rattle.pci_map.specs.Inside.{region_has, is_taken, is_in_window, is_held_first, IsEarlierWindow, AreInsideWindow}
+use Rattle.pci_map.specs.Inside.{region_has, is_cut_by_isa, is_first_window_with, is_held_first, IsEarlierWindow, AreInsideWindow}
 use Rattle.pci_map.specs.declared.seat.Seat.{Seat}
 use Rattle.pci_map.specs.Seats.{seat_value, seat_first, IsSeatOn, AreSeatsOn, SeatIsBefore, AreSortedSeatsOf}
 use Rattle.pci_map.proofs.Values.{among, first_of, seat_address, seat_bus, seat_space}
@@ -58,7 +58,7 @@ in_true q a low high = and_from (nat_le q.first a) (nat_le a q.last) (le-leb q.f
 true_in : (q : Region) (a : ℕ) → region_has q a ≡ true → (q.first ≤ a) × (a ≤ q.last)
 true_in q a is = let parts = and_parts (nat_le q.first a) (nat_le a q.last) is in (leb-true q.first a parts.0, leb-true a q.last parts.1)
 
-held_in : (w : Region) (o : Option Region) (a : ℕ) → is_in_window w o a ≡ true → (w.first ≤ a) × (a ≤ w.last)
+held_in : (w : Region) (o : Option Region) (a : ℕ) → is_first_window_with w o a ≡ true → (w.first ≤ a) × (a ≤ w.last)
 held_in w None a held = true_in w a held
 held_in w (Some other) a held = true_in w a (and_parts (region_has w a) (not (region_has other a)) held).0
 
@@ -81,7 +81,7 @@ module _ (given : Given) (s : System) (space : Space) (w : Region) (iw : IsRegio
   abbrev b : Function
   b = iw.f
 
-  part_kind : part_of w ≡ system.Window kind
+  part_kind : region_part w ≡ system.Window kind
   part_kind = ap (λ p. part_at p w.reg) window
 
   claims_at : (a : ℕ) → w.first ≤ a → a ≤ w.last → Claims b (system.Window kind) space a
@@ -94,11 +94,11 @@ module _ (given : Given) (s : System) (space : Space) (w : Region) (iw : IsRegio
   cut_here : (a : ℕ) → is_cut_from given space w a ≡ is_cut given space a b.slot
   cut_here a = ap (λ p. is_of_window p && is_cut given space a w.slot) window ∙ ap (is_cut given space a) (sym iw.slot)
 
-  taken_here : (cut : Bool) → cut ≡ is_cut_region given space w → (a : ℕ) → is_taken cut a ≡ is_cut given space a b.slot
-  taken_here cut is a = ap (λ c. is_taken c a) is ∙ sym (cut_from_by given space w a) ∙ cut_here a
+  taken_here : (cut : Bool) → cut ≡ is_cut_region given space w → (a : ℕ) → is_cut_by_isa cut a ≡ is_cut given space a b.slot
+  taken_here cut is a = ap (λ c. is_cut_by_isa c a) is ∙ sym (cut_from_by given space w a) ∙ cut_here a
 
   -- the same, of the window as the definitions have it
-  part_cut : (a : ℕ) → is_cut_of given (part_of w) space a w.slot ≡ is_cut_from given space w a
+  part_cut : (a : ℕ) → is_cut_of given (region_part w) space a w.slot ≡ is_cut_from given space w a
   part_cut a = ap (λ p. is_window p && is_cut given space a w.slot) part_kind ∙ sym (ap (λ p. is_of_window p && is_cut given space a w.slot) window)
 
   first_one : Claims b (system.Window kind) space w.first
@@ -111,7 +111,7 @@ module _ (given : Given) (s : System) (space : Space) (w : Region) (iw : IsRegio
   registered = ap (λ p. register_of b p) (sym part_kind) ∙ iw.register
 
   -- the memory window doesn't claim what the prefetchable one is left
-  not_earlier : (o : Option Region) → MatchOption o (NoneClaims s w.slot MEMORY_BASE space) (λ q. IsFoundIn s w.slot MEMORY_BASE space q) → (a : ℕ) → is_in_window w o a ≡ true
+  not_earlier : (o : Option Region) → MatchOption o (NoneClaims s w.slot MEMORY_BASE space) (λ q. IsFoundIn s w.slot MEMORY_BASE space q) → (a : ℕ) → is_first_window_with w o a ≡ true
       → Claims b (system.Window MemoryWindow) space a → ⊥
   not_earlier None none a held claims = none b (system.Window MemoryWindow) a iw.listed iw.slot refl claims
   not_earlier (Some other) found a held claims =
@@ -119,7 +119,7 @@ module _ (given : Given) (s : System) (space : Space) (w : Region) (iw : IsRegio
       let parts = and_parts (region_has w a) (not (region_has other a)) held in
       both_ways (not (region_has other a)) (ap not (in_true other a at.0 at.1)) parts.1
 
-  first_from : (k : WindowKind) → window_register k ≡ w.reg → window_space k ≡ space → (o : Option Region) → IsEarlierWindow s space w o → (a : ℕ) → is_in_window w o a ≡ true → is_cut given space a b.slot ≡ false
+  first_from : (k : WindowKind) → window_register k ≡ w.reg → window_space k ≡ space → (o : Option Region) → IsEarlierWindow s space w o → (a : ℕ) → is_first_window_with w o a ≡ true → is_cut given space a b.slot ≡ false
       → IsTrue (window_claims b k a) → IsAddress space a → IsTrue (is_first_window given space k a b)
   first_from IoWindow register maps o early a held kept claims address =
       subst (λ x. IsTrue (is_first_window given x IoWindow a b)) maps (and_from (window_claims b IoWindow a) (not (is_cut given Io a b.slot)) claims (ap not (subst (λ x. is_cut given x a b.slot ≡ false) (sym maps) kept)))
@@ -136,11 +136,11 @@ module _ (given : Given) (s : System) (space : Space) (w : Region) (iw : IsRegio
       → is_held_first w o cut q ≡ true → BelongsUnder given s (value_of space w) (seat_value space q)
   belongs told bus o cut is leads early q on held =
       let a : ℕ = seat_first q in
-      let parts = and_parts (not (is_taken cut a)) (is_in_window w o a) held in
+      let parts = and_parts (not (is_cut_by_isa cut a)) (is_first_window_with w o a) held in
       let at = held_in w o a parts.1 in
       let claims = claims_at a at.0 at.1 in
       let first : IsTrue (is_first_window given space kind a b) =
-      first_from kind registered first_one.maps o early a parts.1 (sym (taken_here cut is a) ∙ not_true (is_taken cut a) parts.0) (window_claims_of b kind space a claims) claims.address in record {
+      first_from kind registered first_one.maps o early a parts.1 (sym (taken_here cut is a) ∙ not_true (is_cut_by_isa cut a) parts.0) (window_claims_of b kind space a claims) claims.address in record {
         b = b;
         listed = iw.listed;
         bridge = is_a_bridge;
@@ -171,7 +171,7 @@ module _ (given : Given) (s : System) (space : Space) (w : Region) (iw : IsRegio
       let part : found.part ≡ system.Window MemoryWindow = part_same b found.part (system.Window MemoryWindow) claims.there is_a_bridge register in
       window_claims_of b MemoryWindow space a (subst (λ p. Claims b p space a) part claims)
 
-  held_by : (o : Option Region) → IsEarlierWindow s space w o → (a : ℕ) → IsTrue (is_first_window given space kind a b) → region_has w a ≡ true → is_in_window w o a ≡ true
+  held_by : (o : Option Region) → IsEarlierWindow s space w o → (a : ℕ) → IsTrue (is_first_window given space kind a b) → region_has w a ≡ true → is_first_window_with w o a ≡ true
   held_by None early a first inside = inside
   held_by (Some other) early a first inside =
       let prefetch : kind ≡ PrefetchWindow = is_prefetch kind registered (Some other) other refl early in
@@ -201,7 +201,7 @@ module _ (given : Given) (s : System) (space : Space) (w : Region) (iw : IsRegio
       subst (λ f. IsTrue (is_first_window given space kind a f)) same (subst (λ k. IsTrue (is_first_window given space k a u.b)) kinds there) in
       let address : IsAddress space a = seat_address told s bus space q lawful on in
       let at = claims_back a (claims_of b kind space a is_a_bridge first_one.maps address (first_claims given space kind a b first)) in
-      and_from (not (is_taken cut a)) (is_in_window w o a) (ap not (taken_here cut is a ∙ kept_first given space kind a b first))
+      and_from (not (is_cut_by_isa cut a)) (is_first_window_with w o a) (ap not (taken_here cut is a ∙ kept_first given space kind a b first))
       (held_by o early a first (in_true w a at.0 at.1))
 
   -- ---- what is free

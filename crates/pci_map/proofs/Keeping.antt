@@ -6,7 +6,7 @@ use Rattle.std.proofs.lemmas.List.Elements.{Contains-append_cases, Contains-appe
 use Rattle.pci_spec.specs.System.{Space}
 use Rattle.pci_spec.proofs.Members.{in_nil, in_cons_cases, in_head, pairs_nil, pairs_cons, pairs_head, pairs_tail, pairs_append}
 use Rattle.pci_map.specs.declared.seat.Seat.{Seat}
-use Rattle.pci_map.specs.Seats.{SeatIsBefore, AreKept}
+use Rattle.pci_map.specs.Seats.{SeatIsBefore, AreFilteredSeats}
 
 module _ {X : Type 0} (R : X → X → Type 0) where
   pairs_front : (xs ys : List X) → AllPairs R (xs ++ ys) → AllPairs R xs
@@ -22,13 +22,13 @@ module _ {X : Type 0} (R : X → X → Type 0) where
   ]
 
 module _ (P : Seat → Type 0) (space : Space) where
-  pub all_kept : (qs : List Seat) → ((q : Seat) → Contains qs q → P q) → AreKept P space qs qs
+  pub all_kept : (qs : List Seat) → ((q : Seat) → Contains qs q → P q) → AreFilteredSeats P space qs qs
   all_kept qs hold = record { each = λ q has. has; hold = hold; complete = λ q has p. has; sorted = λ sorted. sorted }
 
-  pub none_kept : AreKept P space [] []
+  pub none_kept : AreFilteredSeats P space [] []
   none_kept = all_kept [] (λ q has. absurd (in_nil q has))
 
-  kept : (qs out : List Seat) (q : Seat) → P q → AreKept P space qs out → AreKept P space (qs ++ q ∷ []) (out ++ q ∷ [])
+  kept : (qs out : List Seat) (q : Seat) → P q → AreFilteredSeats P space qs out → AreFilteredSeats P space (qs ++ q ∷ []) (out ++ q ∷ [])
   kept qs out q holds was = record {
     each = λ p has. elim (Contains-append_cases out (q ∷ []) p has) [
       | inl early ↦ Contains-append_left qs (q ∷ []) p (was.each p early)
@@ -52,7 +52,7 @@ module _ (P : Seat → Type 0) (space : Space) where
         ]);
   }
 
-  dropped : (qs out : List Seat) (q : Seat) → (P q → ⊥) → AreKept P space qs out → AreKept P space (qs ++ q ∷ []) out
+  dropped : (qs out : List Seat) (q : Seat) → (P q → ⊥) → AreFilteredSeats P space qs out → AreFilteredSeats P space (qs ++ q ∷ []) out
   dropped qs out q fails was = record {
     each = λ p has. Contains-append_left qs (q ∷ []) p (was.each p has);
     hold = was.hold;
@@ -70,10 +70,10 @@ module _ (P : Seat → Type 0) (space : Space) where
     split : take k qs ++ q ∷ [] ≡ take (k + 1) qs
     split = ap (λ x. take k qs ++ x ∷ []) at ∙ sym (take_more qs k q within)
 
-    pub one_kept : (out new : List Seat) → new ≡ out ++ q ∷ [] → P q → AreKept P space (take k qs) out → AreKept P space (take (k + 1) qs) new
+    pub one_kept : (out new : List Seat) → new ≡ out ++ q ∷ [] → P q → AreFilteredSeats P space (take k qs) out → AreFilteredSeats P space (take (k + 1) qs) new
     one_kept out new is holds was =
-        subst (λ xs. AreKept P space xs new) split (subst (AreKept P space (take k qs ++ q ∷ [])) (sym is) (kept (take k qs) out q holds was))
+        subst (λ xs. AreFilteredSeats P space xs new) split (subst (AreFilteredSeats P space (take k qs ++ q ∷ [])) (sym is) (kept (take k qs) out q holds was))
 
-    pub one_dropped : (out new : List Seat) → new ≡ out → (P q → ⊥) → AreKept P space (take k qs) out → AreKept P space (take (k + 1) qs) new
+    pub one_dropped : (out new : List Seat) → new ≡ out → (P q → ⊥) → AreFilteredSeats P space (take k qs) out → AreFilteredSeats P space (take (k + 1) qs) new
     one_dropped out new is fails was =
-        subst (λ xs. AreKept P space xs new) split (subst (AreKept P space (take k qs ++ q ∷ [])) (sym is) (dropped (take k qs) out q fails was))
+        subst (λ xs. AreFilteredSeats P space xs new) split (subst (AreFilteredSeats P space (take k qs ++ q ∷ [])) (sym is) (dropped (take k qs) out q fails was))

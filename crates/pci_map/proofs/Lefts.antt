@@ -22,11 +22,11 @@ use Rattle.judge_spec.specs.Map.{HasWay, IsOutsideWindows}
 use Rattle.judge_spec.proofs.Having.{window_has_space}
 use Rattle.pci_tree.specs.declared.region.Region.{Region}
 use Rattle.pci_tree.specs.Ranges.{Covers}
-use Rattle.pci_map.specs.Addresses.{SpaceRanges, ranges_in, AreTaken}
+use Rattle.pci_map.specs.Addresses.{SpaceRanges, ranges_in, AreTakenByBridge}
 use Rattle.pci_map.specs.Takers.{IsTakenFirst}
 use Rattle.pci_map.proofs.TakenRanges.{none_in}
 use Rattle.pci_map.specs.Values.{value_of}
-use Rattle.pci_map.specs.Left.{IsSlotAbove, IsUnled, IsFirstHoldingWindow, IsLeftIf}
+use Rattle.pci_map.specs.Left.{IsSlotAbove, IsBehindNoBridge, IsFirstHoldingWindow, IsLeftIf}
 use Rattle.pci_map.specs.Ways.{IsFirstJudged, IsWayTo, AreWays}
 use Rattle.pci_map.specs.declared.left.Judged.{Judged}
 use Rattle.pci_map.specs.Windows.{BridgeWindows}
@@ -90,13 +90,13 @@ module _ (given : Given) (roots : List ℕ) (s : System) (space : Space) (q : Ma
   root_way bus way on = ([], inl (subst (Contains roots) (sym on) way))
 
   -- no bridge leads to its bus
-  pub left_unled : (bus : ℕ) → IsUnled roots s bus → (slot_of q).bus ≡ bus → IsOutsideWindows given roots s q
+  pub left_unled : (bus : ℕ) → IsBehindNoBridge roots s bus → (slot_of q).bus ≡ bus → IsOutsideWindows given roots s q
   left_unled bus unled on [] (inl way) = unled.off_root (subst (Contains roots) on way)
   left_unled bus unled on [] (inr taker) = unled.none taker.stands.b (taker.stands.listed, taker.stands.bridge, taker.stands.leads ∙ on)
   left_unled bus unled on (p ∷ windows) (is, under, way) = unled.none under.b (under.listed, under.bridge, under.leads ∙ on)
 
   -- and nothing is taken there
-  pub unled_left : (bus : ℕ) → IsUnled roots s bus → (slot_of q).bus ≡ bus → (a : ℕ) (x : SpaceRanges) → x ≡ record { io = []; memory = [] } → (b : Bool) → IsTrue b ↔ Covers (ranges_in space x) a → IsLeftIf given roots s q (not b)
+  pub unled_left : (bus : ℕ) → IsBehindNoBridge roots s bus → (slot_of q).bus ≡ bus → (a : ℕ) (x : SpaceRanges) → x ≡ record { io = []; memory = [] } → (b : Bool) → IsTrue b ↔ Covers (ranges_in space x) a → IsLeftIf given roots s q (not b)
   unled_left bus unled on a x none true has = absurd (none_in space a x none (has.0 refl))
   unled_left bus unled on a x none false has = left_unled bus unled on
 
@@ -143,7 +143,7 @@ module _ (given : Given) (roots : List ℕ) (s : System) (space : Space) (q : Ma
         ([], inr (record { root = way.0; slot = above.b.slot; is_root = way.1; below = record { bridges = way.2; leads = way.3 }; stands = stands_behind none taken }))
 
     -- it is left, unless the bridge takes it
-    pub left_unless_taken : AreOne s → IsNested roots s → (xs : SpaceRanges) → AreTaken given above.b xs → ((kind : WindowKind) → IsTrue (is_first_window given space kind a above.b) → ⊥) → (b : Bool) → IsTrue b ↔ Covers (ranges_in space xs) a
+    pub left_unless_taken : AreOne s → IsNested roots s → (xs : SpaceRanges) → AreTakenByBridge given above.b xs → ((kind : WindowKind) → IsTrue (is_first_window given space kind a above.b) → ⊥) → (b : Bool) → IsTrue b ↔ Covers (ranges_in space xs) a
         → IsLeftIf given roots s q (not b)
     left_unless_taken unique nested xs are none true has = taken_way nested none ((are space a).0 (has.0 refl))
     left_unless_taken unique nested xs are none false has = left_none unique none (λ taken. false≢true (has.1 ((are space a).1 taken)))
@@ -184,7 +184,7 @@ module _ (given : Given) (roots : List ℕ) (s : System) (space : Space) (q : Ma
 -- ---- what a bridge takes and none of its windows claims
 
 module _ (given : Given) (roots : List ℕ) (s : System) (space : Space) (b : Function) (a : ℕ) where
-  pub taken_first : (x : SpaceRanges) → AreTaken given b x → ((kind : WindowKind) → IsTrue (is_first_window given space kind a b) → ⊥) → (t : Bool) → IsTrue t ↔ Covers (ranges_in space x) a
+  pub taken_first : (x : SpaceRanges) → AreTakenByBridge given b x → ((kind : WindowKind) → IsTrue (is_first_window given space kind a b) → ⊥) → (t : Bool) → IsTrue t ↔ Covers (ranges_in space x) a
       → MatchBool t (IsTakenFirst given space b a) (IsTakenFirst given space b a → ⊥)
   taken_first x are none true has = record { taken = (are space a).0 (has.0 refl); no_window = λ kind. false_from_ne_true (is_first_window given space kind a b) (none kind) }
   taken_first x are none false has = λ it. false≢true (has.1 ((are space a).1 it.taken))

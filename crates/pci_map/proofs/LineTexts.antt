@@ -17,7 +17,7 @@ use Rattle.pci_tree.specs.Regions.{is_of_window}
 use Rattle.pci_claims.specs.Found.{bounds_range}
 use Rattle.pci_claims.specs.Isa.{cuts, is_cut_region}
 use Rattle.pci_map.specs.Lines.{isa_word, isa_ending, name_ending, region_line_by}
-use Rattle.pci_map.specs.Values.{part_at, part_of, value_of}
+use Rattle.pci_map.specs.Values.{part_at, region_part, value_of}
 use Rattle.pci_listing.proofs.Texts.{three_words}
 use Rattle.pci_map.proofs.Indents.{deep_pushed}
 
@@ -45,7 +45,7 @@ isa_said given Memory slot Window reg = refl
 pub line_by_cut : (given : Given) (depth : ℕ) (space : Space) (q : Region) (old new : List ℕ) (cut : Bool) → cut ≡ is_cut_region given space q → new ≡ old ++ region_line_by depth (value_of space q) cut
     → new ≡ old ++ map_region_line given depth (Own (value_of space q))
 line_by_cut given depth space q old new cut is text =
-    text ∙ ap (λ ws. old ++ extent_line depth space (bounds_range q) (part_name (part_of q) q.prefetch ∷ slot_text q.slot ∷ hex_byte q.reg ∷ ws)) (ap isa_word is ∙ sym (isa_said given space q.slot q.part q.reg))
+    text ∙ ap (λ ws. old ++ extent_line depth space (bounds_range q) (part_name (region_part q) q.prefetch ∷ slot_text q.slot ∷ hex_byte q.reg ∷ ws)) (ap isa_word is ∙ sym (isa_said given space q.slot q.part q.reg))
 
 -- the cells of a region's line
 pub region_cells : (a b c d e f h k last whole part slot register : List ℕ) (cut : Bool) → a ≡ whole → b ≡ a ++ 32 ∷ [] → c ≡ b ++ part

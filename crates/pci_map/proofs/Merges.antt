@@ -17,7 +17,7 @@ use Rattle.judge_spec.specs.Lines.{Lines, End, Free, Sits, MapPlace, Mark, regio
 use Rattle.pci_base.specs.declared.range.Range.{Range}
 use Rattle.pci_base.specs.Ranges.{decoded_range_of}
 use Rattle.pci_map.specs.declared.seat.Seat.{Seat}
-use Rattle.pci_map.specs.Seats.{seat_value, seat_first, SeatIsBefore, IsAmong}
+use Rattle.pci_map.specs.Seats.{seat_value, seat_first, SeatIsBefore, IsAmongSeats}
 use Rattle.pci_map.proofs.Values.{first_of}
 use Rattle.pci_map.specs.Walk.{ahead, Entry, Run, At, entries, run_entries, merged}
 
@@ -234,7 +234,7 @@ module _ (P : ℕ → Type 0) (rs : List Range) (free : AreRuns P (map decoded_r
 pub lines_are : (told : Told) (given : Given) (roots : List ℕ) (s : System) (space : Space) (place : MapPlace) (lines : Lines) (qs : List Seat) (rs : List Range) → entries lines ≡ merged space qs rs
     → ((q : Seat) → Contains qs q → IsIn told s (seat_value space q)) → ((q : Seat) → Contains qs q → space_of (seat_value space q) ≡ space) → ((q : Seat) → Contains qs q → StandsInPlace given s place (seat_value space q))
     → ((q : Seat) → Contains qs q → IsOutOfPlace told given roots s (seat_value space q) → ⊥)
-    → ((v : MapRegion) → IsIn told s v → space_of v ≡ space → StandsInPlace given s place v → (IsOutOfPlace told given roots s v → ⊥) → IsAmong space qs v)
+    → ((v : MapRegion) → IsIn told s v → space_of v ≡ space → StandsInPlace given s place v → (IsOutOfPlace told given roots s v → ⊥) → IsAmongSeats space qs v)
     → AreRuns (IsFreeInPlace told given s space place) (map decoded_range_of rs) → AllPairs (SeatIsBefore space) qs
     → ((q : Seat) (a : ℕ) → Contains qs q → a ≡ seat_first q → IsFreeInPlace told given s space place a → ⊥) → AreLinesAt told given roots s space place lines
 lines_are told given roots s space place lines qs rs is each of stand within complete free sorted apart =

@@ -23,7 +23,7 @@ use Rattle.pci_tree.specs.Outline.{RiseBySlot}
 use Rattle.pci_tree.proofs.Lifting.{Has, record_for, same_bridge, same_secondary, same_slot_of, one_by_number, one_function}
 use Rattle.pci_claims.specs.Isa.{is_cut_region}
 use Rattle.pci_claims.proofs.Founds.{none_without_record}
-use Rattle.pci_map.specs.Values.{part_of, value_of}
+use Rattle.pci_map.specs.Values.{region_part, value_of}
 use Rattle.pci_map.specs.declared.seat.Seat.{Seat}
 use Rattle.pci_map.specs.Seats.{AreSortedSeatsOf}
 use Rattle.pci_map.specs.Gaps.{AreFreeInside}
@@ -33,7 +33,7 @@ use Rattle.pci_map.proofs.Insides.{is_a_bridge, inside_is}
 
 module _ (s : System) (rs : List Record) (space : Space) (w : Region) (has : Has s rs) (iw : IsRegionIn s (value_of space w)) where
   pub no_record : (Contains (slots_of rs) w.slot → ⊥) → ⊥
-  no_record none = none_without_record s rs w.slot w.reg space has none iw.f (part_of w) w.first iw.listed iw.slot iw.register ((iw.claims w.first).0 (omega arith, iw.some))
+  no_record none = none_without_record s rs w.slot w.reg space has none iw.f (region_part w) w.first iw.listed iw.slot iw.register ((iw.claims w.first).0 (omega arith, iw.some))
 
   module _ (rise : RiseBySlot rs) (window : w.part ≡ Window) (r : Record) (there : Contains rs r) (slot : r.slot ≡ w.slot) where
     stands_for : record_value r ≡ record_of iw.f

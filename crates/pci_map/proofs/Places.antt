@@ -33,7 +33,7 @@ use Rattle.pci_claims.specs.Found.{range_at}
 use Rattle.pci_map.specs.Values.{value_of}
 use Rattle.pci_map.specs.Addresses.{SpaceRanges, ranges_in, AreSent, HasUnsent}
 use Rattle.pci_base.specs.declared.range.Range.{Range}
-use Rattle.pci_map.specs.Seats.{IsToldOf}
+use Rattle.pci_map.specs.Seats.{IsToldOfListedSlots}
 use Rattle.pci_map.specs.Above.{IsSentAbove}
 use Rattle.pci_map.proofs.Values.{told_region}
 use Rattle.pci_map.proofs.Lefts.{AreOne}
@@ -91,7 +91,7 @@ module _ (told : Told) (s : System) (x : ToldRegion) (is : IsToldIn told s x) wh
   range_at_index : get_or told.ranges is.named.index x.told ≡ x.told
   range_at_index = get_or_from_slice_get told.ranges is.named.index x.told x.told is.named.at
 
-  pub function_there : is_marked_held x.told.mark ≡ false → IsToldOf told s → (f : Function) × Contains s f × (f.slot ≡ x.told.slot)
+  pub function_there : is_marked_held x.told.mark ≡ false → IsToldOfListedSlots told s → (f : Function) × Contains s f × (f.slot ≡ x.told.slot)
   function_there not_held of = listed_there s x.told.slot (λ none. of.listed x.told.slot record {
     r = x.told;
     is_told = subst (Contains told.ranges) range_at_index (Contains-get_or told.ranges is.named.index x.told (slice_get_within told.ranges is.named.index x.told is.named.at));

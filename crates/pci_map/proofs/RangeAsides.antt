@@ -17,7 +17,7 @@ use Rattle.pci_function.specs.declared.record.Record.{Record}
 use Rattle.pci_tree.specs.Outline.{RiseBySlot}
 use Rattle.pci_tree.specs.Ways.{slots_of}
 use Rattle.pci_tree.proofs.Lifting.{Has, record_for, same_slot_of}
-use Rattle.pci_map.specs.Asides.{IsOfRegisters, IsTheRange, IsRangeFrom, IsAmongSlots, AreBelow, AreBehind, AreAsidesWritten}
+use Rattle.pci_map.specs.Asides.{IsOfRegisters, IsTheRange, IsRangeFrom, IsAmongSlots, AreOfLowerSlots, AreOfNoLowerSlots, AreAsidesWritten}
 use Rattle.pci_map.proofs.Tolds.{register_low, before, told_none, told_join, told_same}
 
 first_of : (ranges : List ToldRange) {n : ℕ} → n < length ranges → ToldRange
@@ -131,7 +131,7 @@ module _ (told : Told) (lawful : IsTold told.ranges) (s : System) where
 
     -- the ranges up to another index
     pub among_ranges : (slots : List Slot) (next end : ℕ) (old mid new : List ℕ) → next ≤ end
-        → AreBehind told.ranges next slots
+        → AreOfNoLowerSlots told.ranges next slots
         → AreAsidesWritten told given Q s (IsAmongSlots slots next) old mid → AreAsidesWritten told given Q s (IsRangeFrom next end) mid new → AreAsidesWritten told given Q s (IsAmongSlots slots end) old new
     among_ranges slots next end old mid new up behind early late =
         told_join told given Q s (IsAmongSlots slots next) (IsRangeFrom next end) (IsAmongSlots slots end) old mid new early late
@@ -241,7 +241,7 @@ module _ (told : Told) (lawful : IsTold told.ranges) (s : System) where
 
 module _ (ranges : List ToldRange) (rs : List Record) (k : ℕ) (r : Record) (rise : RiseBySlot rs) (lt : k < length rs) (at : get_or rs k r ≡ r) (end : ℕ) where
   -- no range behind them has a lower slot than a function so far
-  pub behind_more : AllWithin (λ x. slot_number r.slot ≤ slot_number x.slot) ranges end (length ranges) → AreBehind ranges end (slots_of (take (k + 1) rs))
+  pub behind_more : AllWithin (λ x. slot_number r.slot ≤ slot_number x.slot) ranges end (length ranges) → AreOfNoLowerSlots ranges end (slots_of (take (k + 1) rs))
   behind_more after x has i d low high =
       let up = after i d low high in
       let split : slots_of (take (k + 1) rs) ≡ slots_of (take k rs) ++ r.slot ∷ [] = map_more (λ (z : Record). z.slot) rs k r lt ∙ ap (λ (z : Record). slots_of (take k rs) ++ z.slot ∷ []) at in
@@ -257,7 +257,7 @@ module _ (ranges : List ToldRange) (rs : List Record) (k : ℕ) (r : Record) (ri
       ]
 
   -- those before them have lower slots than the functions behind
-  pub below_more : AllWithin (λ x. slot_number x.slot < slot_number r.slot) ranges 0 end → AreBelow ranges end rs (k + 1)
+  pub below_more : AllWithin (λ x. slot_number x.slot < slot_number r.slot) ranges 0 end → AreOfLowerSlots ranges end rs (k + 1)
   below_more early j d from within i e low high =
       let less = early i e low high in
       let up = rise k j d (omega (arith, from)) within in
@@ -265,7 +265,7 @@ module _ (ranges : List ToldRange) (rs : List Record) (k : ℕ) (r : Record) (ri
       let here : slot_number (get_or rs k d).slot ≡ slot_number r.slot = ap (λ (z : Record). slot_number z.slot) same in
       omega (arith, less, up, here)
 
-  pub up_to : (next : ℕ) → next ≤ length ranges → AreBelow ranges next rs k → AllWithin (λ x. slot_number r.slot ≤ slot_number x.slot) ranges end (length ranges) → next ≤ end
+  pub up_to : (next : ℕ) → next ≤ length ranges → AreOfLowerSlots ranges next rs k → AllWithin (λ x. slot_number r.slot ≤ slot_number x.slot) ranges end (length ranges) → next ≤ end
   up_to next within below after = elim (cases_lt end next) [
     | inr up ↦ up
     | inl less ↦ absurd (

@@ -5,19 +5,19 @@ use Rattle.std.proofs.lemmas.Bool.{cases_lt, false≢true}
 use Rattle.std.proofs.lemmas.List.{get_or_append_left, get_or_push, length_push}
 use Rattle.pci_spec.specs.System.{System, Io, Memory}
 use Rattle.judge_spec.specs.Given.{Given, ranges_said}
-use Rattle.pci_claims.specs.Values.{host_value, given_value}
+use Rattle.pci_claims.specs.Values.{host_value, code_given_value}
 use Rattle.pci_claims.specs.declared.given.Given as declared
-use Rattle.pci_map.specs.Above.{AreRootsAbove, AreRows}
+use Rattle.pci_map.specs.Above.{AreRootsAbove, AreRowsSentAbove}
 use Rattle.pci_map.specs.Addresses.{SpaceRanges, AreSent}
 
 none_mapped : {X Y : Type 0} (f : X → Y) (o : Option X) → is_some o ≡ false → option_map f o ≡ None
 none_mapped f None none = refl
 none_mapped f (Some x) none = absurd (false≢true (sym none))
 
-pub io_none : (given : declared.Given) → is_some given.io ≡ false → ranges_said (given_value given) Io ≡ None
+pub io_none : (given : declared.Given) → is_some given.io ≡ false → ranges_said (code_given_value given) Io ≡ None
 io_none given none = none_mapped (λ rs. map host_value rs.now) given.io none
 
-pub memory_none : (given : declared.Given) → is_some given.memory ≡ false → ranges_said (given_value given) Memory ≡ None
+pub memory_none : (given : declared.Given) → is_some given.memory ≡ false → ranges_said (code_given_value given) Memory ≡ None
 memory_none given none = none_mapped (λ rs. map host_value rs.now) given.memory none
 
 module _ (given : Given) (table : List ℕ) where
@@ -43,7 +43,7 @@ module _ (given : Given) (table : List ℕ) where
     ]);
   }
 
-  pub rows_are : (roots : List ℕ) (s : System) (end : ℕ) (rows : List SpaceRanges) → end ≡ 256 → AreRowsBelow end rows → AreRootsAbove roots s table → AreRows given roots s rows
+  pub rows_are : (roots : List ℕ) (s : System) (end : ℕ) (rows : List SpaceRanges) → end ≡ 256 → AreRowsBelow end rows → AreRootsAbove roots s table → AreRowsSentAbove given roots s rows
   rows_are roots s end rows is below above = record {
     size = below.size ∙ is;
     each = λ f d listed small. record {

@@ -22,7 +22,7 @@ use Rattle.pci_claims.specs.Values.{taking_value}
 use Rattle.pci_claims.proofs.Gathering.{nil_canonical}
 use Rattle.pci_claims.proofs.GapRanges.{covers_nil}
 use Rattle.pci_claims.proofs.Linking.{on_record}
-use Rattle.pci_map.specs.Addresses.{SpaceRanges, ranges_in, HasUnsent, AreTakenIn, AreTakenBy, AreTaken}
+use Rattle.pci_map.specs.Addresses.{SpaceRanges, ranges_in, HasUnsent, AreTakenIn, AreTakenBy, AreTakenByBridge}
 
 -- ---- one space
 
@@ -64,12 +64,12 @@ none_in Io a x none h = covers_nil a (subst (λ (y : SpaceRanges). Covers y.io a
 none_in Memory a x none h = covers_nil a (subst (λ (y : SpaceRanges). Covers y.memory a) none h)
 
 module _ (given : Given) (f : Function) (x : SpaceRanges) where
-  pub taken_by : (r : Record) → record_value r ≡ record_of f → AreTakenBy given r x → AreTaken given f x
+  pub taken_by : (r : Record) → record_value r ≡ record_of f → AreTakenBy given r x → AreTakenByBridge given f x
   taken_by r e are Io a = (λ (h : Covers x.io a). takes_same given Io a r f e ∙ (are.io.exact a).0 h, λ (h : IsTrue (takes given Io a f)). (are.io.exact a).1 (sym (takes_same given Io a r f e) ∙ h))
   taken_by r e are Memory a =
       (λ (h : Covers x.memory a). takes_same given Memory a r f e ∙ (are.memory.exact a).0 h, λ (h : IsTrue (takes given Memory a f)). (are.memory.exact a).1 (sym (takes_same given Memory a r f e) ∙ h))
 
-  pub nothing_taken : given.unclaimed ≡ [] → x ≡ record { io = []; memory = [] } → AreTaken given f x
+  pub nothing_taken : given.unclaimed ≡ [] → x ≡ record { io = []; memory = [] } → AreTakenByBridge given f x
   nothing_taken nothing none space a =
       (λ (h : Covers (ranges_in space x) a). absurd (none_in space a x none h), λ (h : IsTrue (takes given space a f)). absurd (false≢true (sym (takes_none given nothing space a f) ∙ h)))
 

@@ -26,7 +26,7 @@ use Rattle.pci_claims.proofs.Parts.{any_more}
 use Rattle.pci_map.specs.declared.takers.Taker.{Taker}
 use Rattle.pci_map.specs.Above.{IsOnlyRootAbove}
 use Rattle.pci_map.specs.Addresses.{SpaceRanges, AreTakenBy}
-use Rattle.pci_map.specs.Takers.{AreTakenAt, MayTake, IsTaker, AreTakers}
+use Rattle.pci_map.specs.Takers.{AreTakenByBridgeAt, MayTake, IsTaker, AreTakers}
 use Rattle.pci_map.proofs.TakenRanges.{taken_by, nothing_taken}
 use Rattle.pci_map.proofs.Tolds.{before}
 
@@ -81,15 +81,15 @@ taker_is roots s r f b taker same is slot bus above =
 -- ---- what the bridge at a slot takes
 
 module _ (given : Given) (s : System) (slot : Slot) (x : SpaceRanges) where
-  pub nothing_at : given.unclaimed ≡ [] → x ≡ record { io = []; memory = [] } → AreTakenAt given s slot x
+  pub nothing_at : given.unclaimed ≡ [] → x ≡ record { io = []; memory = [] } → AreTakenByBridgeAt given s slot x
   nothing_at nothing none b listed at = nothing_taken given b x nothing none
 
-  pub no_bridge_at : (rs : List Record) → Has s rs → (Contains (slots_of rs) slot → ⊥) → AreTakenAt given s slot x
+  pub no_bridge_at : (rs : List Record) → Has s rs → (Contains (slots_of rs) slot → ⊥) → AreTakenByBridgeAt given s slot x
   no_bridge_at rs has none b listed at =
       let own = record_for s rs b has listed in
       absurd (none (subst (λ (y : Slot). Contains (slots_of rs) y) (same_slot_of own.0 b own.1.same ∙ at) (in_map_from (λ (r : Record). r.slot) rs own.0 own.1.has)))
 
-  pub taken_there : (rs : List Record) (r : Record) → Has s rs → RiseBySlot rs → Contains rs r → r.slot ≡ slot → AreTakenBy given r x → AreTakenAt given s slot x
+  pub taken_there : (rs : List Record) (r : Record) → Has s rs → RiseBySlot rs → Contains rs r → r.slot ≡ slot → AreTakenBy given r x → AreTakenByBridgeAt given s slot x
   taken_there rs r has rise there is are b listed at =
       let own = record_for s rs b has listed in
       let slots : own.0.slot ≡ r.slot = same_slot_of own.0 b own.1.same ∙ at ∙ sym is in

@@ -24,7 +24,7 @@ use Rattle.pci_map.specs.declared.seat.Seat.{Seat}
 use Rattle.pci_map.specs.declared.takers.Taker.{Taker}
 use Rattle.pci_map.specs.Values.{Mapped}
 use Rattle.pci_map.specs.Windows.{BridgeWindows}
-use Rattle.pci_map.specs.Seats.{seat_value, seat_first, IsSeatOn, AreSortedSeatsOf, AreKept}
+use Rattle.pci_map.specs.Seats.{seat_value, seat_first, IsSeatOn, AreSortedSeatsOf, AreFilteredSeats}
 use Rattle.pci_map.specs.Above.{AreInPlace}
 use Rattle.pci_map.specs.Ways.{AreAbove, HasNoWindow}
 use Rattle.pci_map.specs.Takers.{IsTakenFirst, AreTakers}
@@ -60,7 +60,7 @@ module _ (told : Told) (given : Given) (roots : List ℕ) (s : System) (space : 
 
   -- ---- the regions behind a bridge that it takes
 
-  pub taken_is : (b : Function) (bus : ℕ) (all taken out : List Seat) → AreSortedSeatsOf told s bus space all → AreKept (λ q. IsTakenFirst given space b (seat_first q)) space all taken
+  pub taken_is : (b : Function) (bus : ℕ) (all taken out : List Seat) → AreSortedSeatsOf told s bus space all → AreFilteredSeats (λ q. IsTakenFirst given space b (seat_first q)) space all taken
       → AreInPlace told given roots s space taken out → IsTakenOf the_space b bus out
   taken_is b bus all taken out sorted kept placed = record {
     each = λ q has. sorted.each q (kept.each q (placed.each q has));

@@ -20,14 +20,14 @@ use Rattle.pci_map.specs.declared.seat.Seat.TheVariants as seats
 use Rattle.pci_map.specs.Seats.{seat_value, seat_first, IsSeatOn, AreSortedSeatsOf}
 use Rattle.pci_claims.specs.Found.{region_of_found}
 use Rattle.pci_claims.proofs.Founds.{region_in}
-use Rattle.pci_map.specs.Values.{kind_at, part_at, part_of, value_of}
+use Rattle.pci_map.specs.Values.{kind_at, part_at, region_part, value_of}
 
 kind_is : (kind : WindowKind) → kind_at (window_register kind) ≡ kind
 kind_is IoWindow = refl
 kind_is MemoryWindow = refl
 kind_is PrefetchWindow = refl
 
-pub part_is : (f : Function) (part : system.Part) (space : Space) (q : Region) → IsRegionOf f part space q → part_of q ≡ part
+pub part_is : (f : Function) (part : system.Part) (space : Space) (q : Region) → IsRegionOf f part space q → region_part q ≡ part
 part_is f (system.Bar n) space q is =
     ap (λ p. part_at p q.reg) is.named ∙ ap (λ r. system.Bar ((r - 16) / 4)) is.register ∙ ap system.Bar (let e : (16 + 4 * n - 16) / 4 ≡ n = omega arith in e)
 part_is f system.Rom space q is = ap (λ p. part_at p q.reg) is.named
@@ -63,8 +63,8 @@ own_among told s bus space qs v sorted is on same =
     let last : q.last ≡ v.range.last = le_antisymm last_in.1 last_back.1 in (
       seats.Own q,
       found.has,
-      ap Own (ap (λ x. made x q.reg (part_of q) space q.prefetch q.first q.last) (of.slot ∙ is.slot)
-          ∙ ap (λ x. made v.slot x (part_of q) space q.prefetch q.first q.last) (of.register ∙ is.register)
+      ap Own (ap (λ x. made x q.reg (region_part q) space q.prefetch q.first q.last) (of.slot ∙ is.slot)
+          ∙ ap (λ x. made v.slot x (region_part q) space q.prefetch q.first q.last) (of.register ∙ is.register)
           ∙ ap (λ x. made v.slot v.register x space q.prefetch q.first q.last) (part_is is.f v.part space q of)
           ∙ ap (λ x. made v.slot v.register v.part x q.prefetch q.first q.last) (sym same)
           ∙ ap (λ x. made v.slot v.register v.part v.space x q.first q.last) (of.prefetch ∙ is.prefetchable)

@@ -7,7 +7,7 @@ use Rattle.judge_spec.specs.ToldClaims.{Told}
 use Rattle.judge_spec.specs.Lines.{IsOutOfPlace}
 use Rattle.pci_tree.specs.Outline.{Tree}
 use Rattle.pci_map.specs.declared.seat.Seat.{Seat}
-use Rattle.pci_map.specs.Seats.{seat_value, AreKept}
+use Rattle.pci_map.specs.Seats.{seat_value, AreFilteredSeats}
 use Rattle.pci_map.specs.Left.{IsTreeOf}
 use Rattle.pci_map.specs.Addresses.{SpaceRanges, AreSent}
 
@@ -39,7 +39,7 @@ pub record IsNothingSaid (given : Given) (rows : List SpaceRanges) : Type 0 wher
   pub memory : ranges_said given Memory ≡ None
 
 -- at each bus with functions what is sent to the root above it
-pub record AreRows (given : Given) (roots : List ℕ) (s : System) (rows : List SpaceRanges) : Type 0 where
+pub record AreRowsSentAbove (given : Given) (roots : List ℕ) (s : System) (rows : List SpaceRanges) : Type 0 where
   pub size : length rows ≡ 256
   pub each : (f : Function) (d : SpaceRanges) → Contains s f → f.slot.bus < 256
       → IsSentAbove given roots s f.slot.bus (slice_index_or rows f.slot.bus d)
@@ -48,7 +48,7 @@ pub record AreRows (given : Given) (roots : List ℕ) (s : System) (rows : List 
 pub record AreSentAbove (given : Given) (t : Tree) (s : System)
     (above : List SpaceRanges) : Type 0 where
   pub tree : IsTreeOf t s
-  pub rows : IsNothingSaid given above ⊎ AreRows given t.roots s above
+  pub rows : IsNothingSaid given above ⊎ AreRowsSentAbove given t.roots s above
 
 -- a region of a bus is out of place
 abbrev pub IsSeatOut : Told → Given → List ℕ → System → Space → Seat → Type 0
@@ -57,4 +57,4 @@ IsSeatOut told given roots s space q = IsOutOfPlace told given roots s (seat_val
 -- just those of some regions that aren't out of place, in their order
 abbrev pub AreInPlace : Told → Given → List ℕ → System → Space → List Seat → List Seat → Type 0
 AreInPlace told given roots s space qs out =
-    AreKept (λ q. IsSeatOut told given roots s space q → ⊥) space qs out
+    AreFilteredSeats (λ q. IsSeatOut told given roots s space q → ⊥) space qs out

@@ -38,6 +38,6 @@ pub record AreTakenBy (given : Given) (r : Record) (x : SpaceRanges) : Type 0 wh
   pub memory : AreTakenIn given Memory r x.memory
 
 -- just the addresses that a bridge of a system takes
-abbrev pub AreTaken : Given → Function → SpaceRanges → Type 0
-AreTaken given b x =
+abbrev pub AreTakenByBridge : Given → Function → SpaceRanges → Type 0
+AreTakenByBridge given b x =
     (space : Space) (a : ℕ) → Covers (ranges_in space x) a ↔ IsTrue (takes given space a b)

@@ -84,14 +84,14 @@ IsAmongSlots slots end q =
     (Contains slots (slot_of q) × (register_of q < 256)) ⊎ IsRangeFrom 0 end q
 
 -- the ranges before an index have lower slots than the functions from another index on
-abbrev pub AreBelow : List ToldRange → ℕ → List Record → ℕ → Type 0
-AreBelow ranges next rs from =
+abbrev pub AreOfLowerSlots : List ToldRange → ℕ → List Record → ℕ → Type 0
+AreOfLowerSlots ranges next rs from =
     (k : ℕ) (d : Record) → from ≤ k → k < length rs
     → AllWithin (λ r. slot_number r.slot < slot_number (slice_index_or rs k d).slot) ranges 0 next
 
 -- those from an index on have no lower slots than some functions
-abbrev pub AreBehind : List ToldRange → ℕ → List Slot → Type 0
-AreBehind ranges next slots =
+abbrev pub AreOfNoLowerSlots : List ToldRange → ℕ → List Slot → Type 0
+AreOfNoLowerSlots ranges next slots =
     (x : Slot) → Contains slots x
     → AllWithin (λ r. slot_number x ≤ slot_number r.slot) ranges next (length ranges)
 

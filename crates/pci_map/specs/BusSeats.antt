@@ -12,8 +12,8 @@ use Rattle.pci_map.specs.declared.seat.ToldRegion as declared
 use Rattle.pci_map.specs.Seats.{seat_first}
 
 -- the place of a region in the order of first addresses, slots and registers
-abbrev pub place_number : ℕ → ℕ → ℕ
-place_number first number = first * 4294967296 + number
+abbrev pub seat_place_number : ℕ → ℕ → ℕ
+seat_place_number first number = first * 4294967296 + number
 
 -- the place of a region in the order of slots and registers
 abbrev pub slot_place : Seat → ℕ
@@ -21,7 +21,7 @@ slot_place (seats.Own q) = region_number q.slot q.reg
 slot_place (seats.OfLine x) = region_number x.told.now.slot x.register
 
 abbrev pub seat_number : Seat → ℕ
-seat_number q = place_number (seat_first q) (slot_place q)
+seat_number q = seat_place_number (seat_first q) (slot_place q)
 
 abbrev pub seat_register : Seat → ℕ
 seat_register (seats.Own q) = q.reg

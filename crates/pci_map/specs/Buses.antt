@@ -13,7 +13,7 @@ use Rattle.judge_spec.specs.MapText.{taking_text, space_lines, root_text}
 use Rattle.pci_map.specs.declared.takers.Taker.{Taker}
 use Rattle.pci_map.specs.declared.seat.Seat.{Seat}
 use Rattle.pci_map.specs.Values.{Mapped}
-use Rattle.pci_map.specs.Seats.{seat_first, AreSeatsOn, SeatIsBefore, IsAmong}
+use Rattle.pci_map.specs.Seats.{seat_first, AreSeatsOn, SeatIsBefore, IsAmongSeats}
 use Rattle.pci_map.specs.Above.{IsSeatOut}
 use Rattle.pci_map.specs.Takers.{IsTakenFirst}
 
@@ -54,5 +54,5 @@ pub record IsTakenOf (m : Mapped) (b : Function) (bus : ℕ) (qs : List Seat) : 
       → IsSeatOut m.told m.given m.roots m.system m.space q → ⊥
   pub complete : (v : MapRegion) → IsIn m.told m.system v → space_of v ≡ m.space
       → (slot_of v).bus ≡ bus → IsTakenFirst m.given m.space b (range_of v).first
-      → (IsOutOfPlace m.told m.given m.roots m.system v → ⊥) → IsAmong m.space qs v
+      → (IsOutOfPlace m.told m.given m.roots m.system v → ⊥) → IsAmongSeats m.space qs v
   pub sorted : AllPairs (SeatIsBefore m.space) qs

@@ -12,7 +12,7 @@ use Rattle.pci_base.specs.Ranges.{decoded_range_of}
 use Rattle.pci_tree.specs.declared.region.Region.{Region}
 use Rattle.pci_map.specs.declared.seat.Seat.{Seat}
 use Rattle.pci_map.specs.Values.{Mapped, value_of}
-use Rattle.pci_map.specs.Seats.{seat_value, seat_first, AreSeatsOn, SeatIsBefore, IsAmong}
+use Rattle.pci_map.specs.Seats.{seat_value, seat_first, AreSeatsOn, SeatIsBefore, IsAmongSeats}
 use Rattle.pci_map.specs.Above.{IsSeatOut}
 use Rattle.pci_claims.specs.Found.{NoneClaims, IsFoundIn}
 
@@ -20,17 +20,17 @@ abbrev pub region_has : Region → ℕ → Bool
 region_has q a = nat_le q.first a && nat_le a q.last
 
 -- whether ISA Enable takes an address from a window, by whether it cuts it
-abbrev pub is_taken : Bool → ℕ → Bool
-is_taken cut a = cut && is_isa_port a
+abbrev pub is_cut_by_isa : Bool → ℕ → Bool
+is_cut_by_isa cut a = cut && is_isa_port a
 
 -- whether a window has an address, and an earlier one of its bridge, where there is one, hasn't
-abbrev pub is_in_window : Region → Option Region → ℕ → Bool
-is_in_window w None a = region_has w a
-is_in_window w (Some other) a = region_has w a && not (region_has other a)
+abbrev pub is_first_window_with : Region → Option Region → ℕ → Bool
+is_first_window_with w None a = region_has w a
+is_first_window_with w (Some other) a = region_has w a && not (region_has other a)
 
 -- the same of the first address of a region, where ISA Enable doesn't take it
 abbrev pub is_held_first : Region → Option Region → Bool → Seat → Bool
-is_held_first w o cut q = not (is_taken cut (seat_first q)) && is_in_window w o (seat_first q)
+is_held_first w o cut q = not (is_cut_by_isa cut (seat_first q)) && is_first_window_with w o (seat_first q)
 
 -- before the prefetchable window the memory window comes, where it is enabled and open; before the others none
 abbrev pub IsEarlierWindow : System → Space → Region → Option Region → Type 0
@@ -51,6 +51,6 @@ pub record AreInsideWindow (m : Mapped) (w : Region) (bus : ℕ) (regions : List
       → IsSeatOut m.told m.given m.roots m.system m.space q → ⊥
   pub complete : (v : MapRegion) → IsIn m.told m.system v → space_of v ≡ m.space
       → BelongsUnder m.given m.system (value_of m.space w) v
-      → (IsOutOfPlace m.told m.given m.roots m.system v → ⊥) → IsAmong m.space regions v
+      → (IsOutOfPlace m.told m.given m.roots m.system v → ⊥) → IsAmongSeats m.space regions v
   pub sorted : AllPairs (SeatIsBefore m.space) regions
   pub free : AreRuns (IsFreeIn m.told m.given m.system (value_of m.space w)) (map decoded_range_of runs)

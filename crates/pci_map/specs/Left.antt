@@ -17,7 +17,7 @@ use Rattle.pci_tree.specs.declared.region.Region as outline
 use Rattle.pci_tree.specs.Outline.{Tree}
 use Rattle.pci_map.specs.declared.ways.Above.{Above}
 use Rattle.pci_map.specs.declared.ways.Above.TheVariants as above
-use Rattle.pci_map.specs.Values.{part_of, value_of}
+use Rattle.pci_map.specs.Values.{region_part, value_of}
 
 -- a system with an outline's records: its bridges nest, and no two of its functions have one slot
 pub record IsTreeOf (t : Tree) (s : System) : Type 0 where
@@ -34,7 +34,7 @@ pub record IsSlotAbove (roots : List ℕ) (s : System) (bus : ℕ) (slot : Slot)
   pub only : (c : Function) → LeadsTo s c bus → c.slot ≡ slot
 
 -- no bridge leads to a bus, which is no root
-pub record IsUnled (roots : List ℕ) (s : System) (bus : ℕ) : Type 0 where
+pub record IsBehindNoBridge (roots : List ℕ) (s : System) (bus : ℕ) : Type 0 where
   pub off_root : Contains roots bus → ⊥
   pub none : (b : Function) → LeadsTo s b bus → ⊥
 
@@ -42,7 +42,7 @@ pub record IsUnled (roots : List ℕ) (s : System) (bus : ℕ) : Type 0 where
 abbrev pub HasAbove : List ℕ → System → ℕ → Above → Type 0
 HasAbove roots s bus above.Host = Contains roots bus
 HasAbove roots s bus (above.Bridge slot) = IsSlotAbove roots s bus slot
-HasAbove roots s bus above.Nothing = IsUnled roots s bus
+HasAbove roots s bus above.Nothing = IsBehindNoBridge roots s bus
 
 -- no part that this register names claims the address
 abbrev pub NoneHas : Given → System → Slot → ℕ → Space → ℕ → Type 0
@@ -56,7 +56,7 @@ pub record IsFirstHoldingWindow (given : Given) (s : System) (space : Space) (b 
   pub is : IsRegionIn s (value_of space w)
   pub slot : b.slot ≡ w.slot
   pub kind : WindowKind
-  pub window : part_of w ≡ system.Window kind
+  pub window : region_part w ≡ system.Window kind
   pub first : IsTrue (is_first_window given space kind a b)
 
 -- the region is left, or windows lead to it

@@ -7,7 +7,7 @@ use Rattle.judge_spec.specs.Given.{Given}
 use Rattle.judge_spec.specs.Told.{IsTold}
 use Rattle.judge_spec.specs.ToldClaims.{Told}
 use Rattle.pci_claims.specs.ToldOn.{AreOnIn}
-use Rattle.pci_map.specs.Seats.{IsToldOf}
+use Rattle.pci_map.specs.Seats.{IsToldOfListedSlots}
 use Rattle.pci_map.specs.Addresses.{SpaceRanges}
 use Rattle.pci_map.specs.Above.{AreSentAbove}
 use Rattle.pci_map.specs.declared.takers.Taker.{Taker}
@@ -25,7 +25,7 @@ pub record IsSystemOf (told : Told) (given : Given) (t : Tree) (above : List Spa
     (s : System) : Type 0 where
   pub tree : HasTree t s
   pub sent : AreSentAbove given t s above
-  pub is_told : IsToldOf told s
+  pub is_told : IsToldOfListedSlots told s
 
 -- the same, with the windows above each bus, and the bridges that take what nobody claims
 pub record IsSystemWith (told : Told) (given : Given) (t : Tree) (above : List SpaceRanges)

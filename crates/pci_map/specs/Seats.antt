@@ -17,12 +17,12 @@ use Rattle.pci_map.specs.declared.seat.Seat.TheVariants as seats
 use Rattle.pci_map.specs.declared.seat.ToldRegion as declared
 use Rattle.pci_map.specs.Values.{value_of}
 
-abbrev pub told_of : declared.ToldRegion → ToldRegion
-told_of x = record { register = x.register; told = x.told.now }
+abbrev pub told_region_value : declared.ToldRegion → ToldRegion
+told_region_value x = record { register = x.register; told = x.told.now }
 
 abbrev pub seat_value : Space → Seat → MapRegion
 seat_value space (seats.Own q) = Own (value_of space q)
-seat_value space (seats.OfLine x) = OfLine (told_of x)
+seat_value space (seats.OfLine x) = OfLine (told_region_value x)
 
 abbrev pub told_range : ToldRange → Range
 told_range r = record { first = r.first; last = r.last }
@@ -36,7 +36,7 @@ seat_first (seats.Own q) = q.first
 seat_first (seats.OfLine x) = x.told.now.first
 
 -- the ranges are those of a text, and the system lists each slot of one that isn't held
-pub record IsToldOf (told : Told) (s : System) : Type 0 where
+pub record IsToldOfListedSlots (told : Told) (s : System) : Type 0 where
   pub lawful : IsTold told.ranges
   pub listed : AreListedIn told s
 
@@ -49,7 +49,7 @@ pub record IsToldOn (told : Told) (s : System) (bus : ℕ) (space : Space) (x : 
 -- a region of a bus and a space
 abbrev pub IsSeatOn : Told → System → ℕ → Space → Seat → Type 0
 IsSeatOn told s bus space (seats.Own q) = IsRegionOn s bus space q
-IsSeatOn told s bus space (seats.OfLine x) = IsToldOn told s bus space (told_of x)
+IsSeatOn told s bus space (seats.OfLine x) = IsToldOn told s bus space (told_region_value x)
 
 abbrev pub AreSeatsOn : Told → System → ℕ → Space → List Seat → Type 0
 AreSeatsOn told s bus space qs = (q : Seat) → Contains qs q → IsSeatOn told s bus space q
@@ -59,13 +59,13 @@ abbrev pub SeatIsBefore : Space → Seat → Seat → Type 0
 SeatIsBefore space p q = MarkIsBefore (region_mark (seat_value space p)) (region_mark (seat_value space q))
 
 -- the region stands in the list
-pub record IsAmong (space : Space) (qs : List Seat) (v : MapRegion) : Type 0 where
+pub record IsAmongSeats (space : Space) (qs : List Seat) (v : MapRegion) : Type 0 where
   pub q : Seat
   pub has : Contains qs q
   pub is : seat_value space q ≡ v
 
 -- the list has the region of a function's part
-pub record HasPart (qs : List Seat) (f : Function) (part : Part) (space : Space) : Type 0 where
+pub record HasSeatOfPart (qs : List Seat) (f : Function) (part : Part) (space : Space) : Type 0 where
   pub q : Region
   pub has : Contains qs (seats.Own q)
   pub is : IsRegionOf f part space q
@@ -74,19 +74,19 @@ pub record HasPart (qs : List Seat) (f : Function) (part : Part) (space : Space)
 pub record HasLine (qs : List Seat) (x : ToldRegion) : Type 0 where
   pub y : declared.ToldRegion
   pub has : Contains qs (seats.OfLine y)
-  pub is : told_of y ≡ x
+  pub is : told_region_value y ≡ x
 
 -- just the regions of a bus and a space, in order
 pub record AreSortedSeatsOf (told : Told) (s : System) (bus : ℕ) (space : Space)
     (qs : List Seat) : Type 0 where
   pub each : AreSeatsOn told s bus space qs
   pub parts : (f : Function) (part : Part) (a : ℕ) → Contains s f → f.slot.bus ≡ bus
-      → Claims f part space a → HasPart qs f part space
+      → Claims f part space a → HasSeatOfPart qs f part space
   pub lines : (x : ToldRegion) → IsToldOn told s bus space x → HasLine qs x
   pub sorted : AllPairs (SeatIsBefore space) qs
 
 -- just those of some regions of which P holds, in their order
-pub record AreKept (P : Seat → Type 0) (space : Space) (qs out : List Seat) : Type 0 where
+pub record AreFilteredSeats (P : Seat → Type 0) (space : Space) (qs out : List Seat) : Type 0 where
   pub each : (q : Seat) → Contains out q → Contains qs q
   pub hold : (q : Seat) → Contains out q → P q
   pub complete : (q : Seat) → Contains qs q → P q → Contains out q

@@ -13,7 +13,7 @@ use Rattle.pci_function.specs.declared.record.Record.{Record}
 use Rattle.pci_function.specs.Values.{record_value}
 use Rattle.pci_map.specs.declared.takers.Taker.{Taker}
 use Rattle.pci_map.specs.Above.{IsOnlyRootAbove}
-use Rattle.pci_map.specs.Addresses.{SpaceRanges, AreTaken}
+use Rattle.pci_map.specs.Addresses.{SpaceRanges, AreTakenByBridge}
 
 -- a bridge takes an address, and none of its windows claims it
 pub record IsTakenFirst (given : Given) (space : Space) (b : Function) (a : ℕ) : Type 0 where
@@ -21,8 +21,8 @@ pub record IsTakenFirst (given : Given) (space : Space) (b : Function) (a : ℕ)
   pub no_window : (kind : WindowKind) → IsFalse (is_first_window given space kind a b)
 
 -- just what the bridge at a slot takes
-abbrev pub AreTakenAt : Given → System → Slot → SpaceRanges → Type 0
-AreTakenAt given s slot x = (b : Function) → Contains s b → b.slot ≡ slot → AreTaken given b x
+abbrev pub AreTakenByBridgeAt : Given → System → Slot → SpaceRanges → Type 0
+AreTakenByBridgeAt given s slot x = (b : Function) → Contains s b → b.slot ≡ slot → AreTakenByBridge given b x
 
 -- a function is a bridge of which it is given what it takes
 abbrev pub MayTake : Given → Function → Type 0

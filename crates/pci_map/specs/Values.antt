@@ -36,8 +36,8 @@ part_at Bar reg = system.Bar ((reg - 16) / 4)
 part_at Rom reg = system.Rom
 part_at Window reg = system.Window (kind_at reg)
 
-abbrev pub part_of : Region → system.Part
-part_of q = part_at q.part q.reg
+abbrev pub region_part : Region → system.Part
+region_part q = part_at q.part q.reg
 
 abbrev pub value_of : Space → Region → why.Region
-value_of space q = region_of_found q (part_of q) space
+value_of space q = region_of_found q (region_part q) space

@@ -11,11 +11,11 @@ use Rattle.judge_spec.specs.Lines.{is_first_window}
 use Rattle.pci_claims.specs.Found.{IsFoundIn, NoneClaims}
 use Rattle.pci_claims.specs.Isa.{is_cut_region}
 use Rattle.pci_map.specs.Values.{value_of}
-use Rattle.pci_map.specs.Inside.{region_has, is_taken}
-use Rattle.pci_map.specs.Left.{IsSlotAbove, IsUnled, NoneHas, IsFirstHoldingWindow, IsLeftIf}
+use Rattle.pci_map.specs.Inside.{region_has, is_cut_by_isa}
+use Rattle.pci_map.specs.Left.{IsSlotAbove, IsBehindNoBridge, NoneHas, IsFirstHoldingWindow, IsLeftIf}
 use Rattle.pci_map.specs.declared.left.Judged.{Judged}
 use Rattle.pci_map.specs.Windows.{BridgeWindows}
-use Rattle.pci_map.specs.Takers.{AreTakenAt}
+use Rattle.pci_map.specs.Takers.{AreTakenByBridgeAt}
 
 -- where a bridge's window stands: its register, and the space of its addresses
 pub record Spot : Type 0 where
@@ -50,7 +50,7 @@ pub record IsHoldingWindow (given : Given) (roots : List ℕ) (s : System) (spot
     (w : Judged) : Type 0 where
   pub is : IsJudged given roots s spot w
   pub has : IsTrue (region_has w.window a)
-  pub kept : IsFalse (is_taken w.cut a)
+  pub kept : IsFalse (is_cut_by_isa w.cut a)
 
 -- that window, where it claims an address
 abbrev pub IsHoldingAt : Given → List ℕ → System → Spot → ℕ → Option Judged → Type 0
@@ -75,7 +75,7 @@ pub record AreWindowsOf (given : Given) (roots : List ℕ) (s : System) (slot : 
   pub io : IsJudgedAt given roots s (io_spot slot) ws.io
   pub memory : IsJudgedAt given roots s (memory_spot slot) ws.memory
   pub prefetchable : IsJudgedAt given roots s (prefetchable_spot slot) ws.prefetchable
-  pub takes : AreTakenAt given s slot ws.takes
+  pub takes : AreTakenByBridgeAt given s slot ws.takes
 
 -- the windows of the bridge that leads to a bus, which is no root
 pub record AreAbove (given : Given) (roots : List ℕ) (s : System) (bus : ℕ) (ws : BridgeWindows) : Type 0 where
@@ -85,7 +85,7 @@ pub record AreAbove (given : Given) (roots : List ℕ) (s : System) (bus : ℕ) 
 
 -- no window leads to a bus, and no bridge takes anything that it leads to it
 pub record HasNoWindow (roots : List ℕ) (s : System) (bus : ℕ) (ws : BridgeWindows) : Type 0 where
-  pub unled : IsUnled roots s bus
+  pub unled : IsBehindNoBridge roots s bus
   pub io : ws.io ≡ None
   pub memory : ws.memory ≡ None
   pub prefetchable : ws.prefetchable ≡ None

@@ -12,9 +12,9 @@ ghost use Rattle.pci_base.specs.Space.{space_of};
 ghost use Rattle.pci_function.specs.Values.{record_value};
 ghost use Rattle.pci_tree.specs.Outline.{Tree};
 ghost use Rattle.pci_tree.specs.Regions.{IsRegionOn};
-ghost use Rattle.pci_claims.specs.Values.{given_value};
+ghost use Rattle.pci_claims.specs.Values.{code_given_value};
 ghost use Rattle.pci_map.specs.Values.{value_of};
-ghost use Rattle.pci_map.specs.Seats.{told_of, IsToldOf, IsSeatOn, AreSeatsOn};
+ghost use Rattle.pci_map.specs.Seats.{told_region_value, IsToldOfListedSlots, IsSeatOn, AreSeatsOn};
 ghost use Rattle.pci_map.specs.Above.{IsOnlyRootAbove, AreRootsAbove, AreSentAbove, IsSeatOut, AreInPlace};
 
 use super::addresses::Addresses;
@@ -67,7 +67,7 @@ pub fn sent_above<A: Allocator + Copy>(
 ) -> Result<Vec<Addresses<A>, A>, OutOfMemory>
     // an outline has no image, so this is said of every system with its records
     ensures { IfOk result (λ v. (s : System) → HasRecords s outline.now.records
-        → AreSentAbove (given_value given.now) outline.now s v.items) }
+        → AreSentAbove (code_given_value given.now) outline.now s v.items) }
 {
     let records = outline.records();
     let mut above = Vec::new(alloc);
@@ -110,9 +110,9 @@ pub fn is_out_of_place<A: Allocator>(
 /// Whether a told range isn't held, and has an address to which no access of the host starts on the root above its bus.
 pub fn is_line_outside<A: Allocator>(above: &[Addresses<A>], line: &ToldRegion<'_>) -> bool
     ensures { (told : ToldValue) (given : GivenValue) (t : Tree) (s : System)
-        → AreSentAbove given t s above.now → IsToldOf told s → IsToldIn told s (told_of line.now)
-        → MatchBool result (IsOutOfPlace told given t.roots s (OfLine (told_of line.now)))
-        (IsOutOfPlace told given t.roots s (OfLine (told_of line.now)) → ⊥) }
+        → AreSentAbove given t s above.now → IsToldOfListedSlots told s → IsToldIn told s (told_region_value line.now)
+        → MatchBool result (IsOutOfPlace told given t.roots s (OfLine (told_region_value line.now)))
+        (IsOutOfPlace told given t.roots s (OfLine (told_region_value line.now)) → ⊥) }
 {
     let bus = line.slot().bus() as usize;
     // no list is said
@@ -133,7 +133,7 @@ fn is_seat_outside<A: Allocator>(
     seat: &Seat<'_>,
 ) -> bool
     ensures { (told : ToldValue) (given : GivenValue) (t : Tree) (s : System)
-        → AreSentAbove given t s above.now → IsToldOf told s
+        → AreSentAbove given t s above.now → IsToldOfListedSlots told s
         → IsSeatOn told s bus (space_of space) seat.now
         → MatchBool result (IsSeatOut told given t.roots s (space_of space) seat.now)
         (IsSeatOut told given t.roots s (space_of space) seat.now → ⊥) }
@@ -153,7 +153,7 @@ pub fn in_place<'g, A: Allocator, B: Allocator>(
     seats: Vec<Seat<'g>, A>,
 ) -> Result<Vec<Seat<'g>, A>, OutOfMemory>
     ensures { IfOk result (λ v. (told : ToldValue) (given : GivenValue) (t : Tree) (s : System)
-        → AreSentAbove given t s above.now → IsToldOf told s
+        → AreSentAbove given t s above.now → IsToldOfListedSlots told s
         → AreSeatsOn told s bus (space_of space) seats.entry.items
         → AreInPlace told given t.roots s (space_of space) seats.entry.items v.items) }
 {

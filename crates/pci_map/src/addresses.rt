@@ -3,7 +3,7 @@
 ghost use Rattle.std.specs.Prelude.{◌≡◌, ℕ, ◌↔◌, [], IsTrue, IfOk, MatchBool};
 ghost use Rattle.pci_base.specs.Space.{space_of};
 ghost use Rattle.pci_tree.specs.Ranges.{Holds, Covers, IsCanonical};
-ghost use Rattle.pci_claims.specs.Values.{given_value};
+ghost use Rattle.pci_claims.specs.Values.{code_given_value};
 ghost use Rattle.pci_map.specs.Addresses.{ranges_in, HasUnsent, AreSent, AreTakenIn, AreTakenBy};
 
 use pci_base::memory::OutOfMemory;
@@ -44,7 +44,7 @@ fn taken_in<A: Allocator + Copy>(
     space: Space,
 ) -> Result<Vec<Range, A>, OutOfMemory>
     ensures { IfOk result
-        (λ v. AreTakenIn (given_value given.now) (space_of space) function.now v.items) }
+        (λ v. AreTakenIn (code_given_value given.now) (space_of space) function.now v.items) }
 {
     if !is_bridge_on(function, space) {
         return Ok(Vec::new(alloc));
@@ -66,7 +66,7 @@ impl<A: Allocator + Copy> Addresses<A> {
 
     /// What the host sends to a root bus.
     pub fn sent(alloc: A, given: &Given<'_>, root: u8) -> Result<Addresses<A>, OutOfMemory>
-        ensures { IfOk result (λ sent. AreSent (given_value given.now) root sent) }
+        ensures { IfOk result (λ sent. AreSent (code_given_value given.now) root sent) }
     {
         let io = sent_to(alloc, given, Space::Io, root)?;
         let memory = sent_to(alloc, given, Space::Mem, root)?;
@@ -79,7 +79,7 @@ impl<A: Allocator + Copy> Addresses<A> {
         given: &Given<'_>,
         function: &Record,
     ) -> Result<Addresses<A>, OutOfMemory>
-        ensures { IfOk result (λ taken. AreTakenBy (given_value given.now) function.now taken) }
+        ensures { IfOk result (λ taken. AreTakenBy (code_given_value given.now) function.now taken) }
     {
         let io = taken_in(alloc, given, function, Space::Io)?;
         let memory = taken_in(alloc, given, function, Space::Mem)?;

@@ -10,9 +10,9 @@ ghost use Rattle.pci_base.specs.Space.{space_of};
 ghost use Rattle.pci_tree.specs.Outline.{Tree};
 ghost use Rattle.pci_tree.specs.declared.region.Region.{Region as RegionValue};
 ghost use Rattle.pci_claims.specs.Found.{IsFoundIn};
-ghost use Rattle.pci_claims.specs.Values.{given_value, told_value};
+ghost use Rattle.pci_claims.specs.Values.{code_given_value, told_value};
 ghost use Rattle.pci_map.specs.Values.{value_of};
-ghost use Rattle.pci_map.specs.Seats.{told_of};
+ghost use Rattle.pci_map.specs.Seats.{told_region_value};
 ghost use Rattle.pci_map.specs.Mapped.{AreToldOn, IsSystemOf, IsSystemWith};
 ghost use Rattle.pci_map.specs.Above.{AreSentAbove};
 ghost use Rattle.pci_map.specs.Ways.{AreWays};
@@ -162,9 +162,9 @@ fn push_aside_in<A: Allocator, B: Allocator>(
 ) -> Result<(), OutOfMemory>
     requires { length routes.now.ways.now ≡ 256 }
     ensures { OnOk result ((told : ToldValue) (t : Tree) (s : System)
-        → AreSentAbove (given_value routes.now.given) t s routes.now.above.now → AreWays (given_value routes.now.given) t.roots s routes.now.ways.now
+        → AreSentAbove (code_given_value routes.now.given) t s routes.now.above.now → AreWays (code_given_value routes.now.given) t.roots s routes.now.ways.now
         → AreFoundBy s spot.slot (space_of spot.space) regions.now
-        → AreAsides told (given_value routes.now.given) t.roots s (IsNamedAt spot.slot spot.register (space_of spot.space)) asides.old asides.new) }
+        → AreAsides told (code_given_value routes.now.given) t.roots s (IsNamedAt spot.slot spot.register (space_of spot.space)) asides.old asides.new) }
 {
     let Some(region) = at_register(regions, spot.register) else {
         return Ok(());
@@ -190,10 +190,10 @@ fn push_aside_at<A: Allocator, B: Allocator>(
 ) -> Result<(), OutOfMemory>
     requires { length routes.now.ways.now ≡ 256 }
     ensures { OnOk result ((told : ToldValue) (t : Tree) (s : System)
-        → AreSentAbove (given_value routes.now.given) t s routes.now.above.now → AreWays (given_value routes.now.given) t.roots s routes.now.ways.now
+        → AreSentAbove (code_given_value routes.now.given) t s routes.now.above.now → AreWays (code_given_value routes.now.given) t.roots s routes.now.ways.now
         → AreFoundBy s function.now.slot Io function.now.io.now
         → AreFoundBy s function.now.slot Memory function.now.memory.now
-        → AreAsides told (given_value routes.now.given) t.roots s (IsNamedAtRegister function.now.slot register) asides.old asides.new) }
+        → AreAsides told (code_given_value routes.now.given) t.roots s (IsNamedAtRegister function.now.slot register) asides.old asides.new) }
 {
     let slot = function.slot;
     let io_spot = Spot {
@@ -218,10 +218,10 @@ fn push_by_register<A: Allocator, B: Allocator>(
 ) -> Result<(), OutOfMemory>
     requires { length routes.now.ways.now ≡ 256 }
     ensures { OnOk result ((told : ToldValue) (t : Tree) (s : System)
-        → AreSentAbove (given_value routes.now.given) t s routes.now.above.now → AreWays (given_value routes.now.given) t.roots s routes.now.ways.now
+        → AreSentAbove (code_given_value routes.now.given) t s routes.now.above.now → AreWays (code_given_value routes.now.given) t.roots s routes.now.ways.now
         → AreFoundBy s function.now.slot Io function.now.io.now
         → AreFoundBy s function.now.slot Memory function.now.memory.now
-        → AreAsides told (given_value routes.now.given) t.roots s (IsOfRegisters function.now.slot) asides.old asides.new) }
+        → AreAsides told (code_given_value routes.now.given) t.roots s (IsOfRegisters function.now.slot) asides.old asides.new) }
 {
     for register in 0..REGISTERS {
         push_aside_at(asides, routes, function, 4 * register)?;
@@ -237,10 +237,10 @@ fn push_asides_of<A: Allocator, B: Allocator>(
 ) -> Result<(), OutOfMemory>
     requires { length routes.now.ways.now ≡ 256 }
     ensures { OnOk result ((told : ToldValue) (t : Tree) (s : System)
-        → AreSentAbove (given_value routes.now.given) t s routes.now.above.now → AreWays (given_value routes.now.given) t.roots s routes.now.ways.now
+        → AreSentAbove (code_given_value routes.now.given) t s routes.now.above.now → AreWays (code_given_value routes.now.given) t.roots s routes.now.ways.now
         → AreFoundBy s function.now.slot Io function.now.io.now
         → AreFoundBy s function.now.slot Memory function.now.memory.now
-        → AreAsides told (given_value routes.now.given) t.roots s (IsOfRegisters function.now.slot) asides.old asides.new) }
+        → AreAsides told (code_given_value routes.now.given) t.roots s (IsOfRegisters function.now.slot) asides.old asides.new) }
 {
     if has_aside(routes, function.io, Space::Io, function.slot)
         || has_aside(routes, function.memory, Space::Mem, function.slot)
@@ -258,10 +258,10 @@ fn push_told_aside<A: Allocator, B: Allocator>(
 ) -> Result<(), OutOfMemory>
     requires { length routes.now.ways.now ≡ 256 }
     ensures { OnOk result ((told : ToldValue) (t : Tree) (s : System)
-        → IsSystemOf told (given_value routes.now.given) t routes.now.above.now s
-        → AreWays (given_value routes.now.given) t.roots s routes.now.ways.now
-        → IsToldIn told s (told_of line.now)
-        → AreAsides told (given_value routes.now.given) t.roots s (IsTheRange (told_of line.now)) asides.old asides.new) }
+        → IsSystemOf told (code_given_value routes.now.given) t routes.now.above.now s
+        → AreWays (code_given_value routes.now.given) t.roots s routes.now.ways.now
+        → IsToldIn told s (told_region_value line.now)
+        → AreAsides told (code_given_value routes.now.given) t.roots s (IsTheRange (told_region_value line.now)) asides.old asides.new) }
 {
     if is_line_outside(routes.above, line) {
         push_told_line(&mut asides.outside, 1, line)?;
@@ -292,9 +292,9 @@ fn push_told_asides<A: Allocator, B: Allocator>(
     requires low { first ≤ end }
     requires high { end ≤ length mapped.now.told.ranges.now }
     ensures { OnOk result ((s : System)
-        → IsSystemOf (told_value mapped.now.told) (given_value routes.now.given) mapped.now.outline.now routes.now.above.now s
-        → AreWays (given_value routes.now.given) mapped.now.outline.now.roots s routes.now.ways.now
-        → AreAsides (told_value mapped.now.told) (given_value routes.now.given) mapped.now.outline.now.roots s
+        → IsSystemOf (told_value mapped.now.told) (code_given_value routes.now.given) mapped.now.outline.now routes.now.above.now s
+        → AreWays (code_given_value routes.now.given) mapped.now.outline.now.roots s routes.now.ways.now
+        → AreAsides (told_value mapped.now.told) (code_given_value routes.now.given) mapped.now.outline.now.roots s
         (IsRangeFrom first end) asides.old asides.new) }
 {
     for i in first..end {
@@ -319,8 +319,8 @@ fn push_all<A: Allocator + Copy, B: Allocator>(
     // bus numbers index it
     requires ways { length mapped.now.ways.now ≡ 256 }
     ensures { OnOk result ((s : System)
-        → IsSystemWith (told_value mapped.now.told) (given_value mapped.now.given) mapped.now.outline.now mapped.now.above.now mapped.now.ways.now mapped.now.takers.now s
-        → AreAsides (told_value mapped.now.told) (given_value mapped.now.given) mapped.now.outline.now.roots s
+        → IsSystemWith (told_value mapped.now.told) (code_given_value mapped.now.given) mapped.now.outline.now mapped.now.above.now mapped.now.ways.now mapped.now.takers.now s
+        → AreAsides (told_value mapped.now.told) (code_given_value mapped.now.given) mapped.now.outline.now.roots s
         (IsIn (told_value mapped.now.told) s) asides.old asides.new) }
 {
     let routes = Routes {
@@ -359,8 +359,8 @@ pub fn push_asides<A: Allocator + Copy, B: Allocator>(
     // bus numbers index it
     requires ways { length mapped.now.ways.now ≡ 256 }
     ensures { OnOk result ((s : System)
-        → IsSystemWith (told_value mapped.now.told) (given_value mapped.now.given) mapped.now.outline.now mapped.now.above.now mapped.now.ways.now mapped.now.takers.now s
-        → AreAsidesTold (told_value mapped.now.told) (given_value mapped.now.given) mapped.now.outline.now.roots s
+        → IsSystemWith (told_value mapped.now.told) (code_given_value mapped.now.given) mapped.now.outline.now mapped.now.above.now mapped.now.ways.now mapped.now.takers.now s
+        → AreAsidesTold (told_value mapped.now.told) (code_given_value mapped.now.given) mapped.now.outline.now.roots s
         (string_bytes text.old) (string_bytes text.new)) }
 {
     let mut asides = Asides {

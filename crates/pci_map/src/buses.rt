@@ -4,7 +4,7 @@ ghost use Rattle.std.specs.String.{string_bytes};
 ghost use Rattle.std.specs.List.{Contains, range_with_len};
 ghost use Rattle.pci_spec.specs.System.{System};
 ghost use Rattle.pci_base.specs.Space.{space_of};
-ghost use Rattle.pci_claims.specs.Values.{given_value, told_value};
+ghost use Rattle.pci_claims.specs.Values.{code_given_value, told_value};
 ghost use Rattle.pci_map.specs.Values.{mapped_of};
 ghost use Rattle.pci_map.specs.Mapped.{AreToldOn, IsSystemWith};
 ghost use Rattle.pci_map.specs.Buses.{AreTakingsTold, IsSpaceTold, AreRootsTold};
@@ -30,9 +30,9 @@ fn taken_text<A: Allocator + Copy>(
     requires told { AreToldOn (told_value walk.now.mapped.now.told) walk.now.mapped.now.outline.now walk.now.mapped.now.on.now }
     requires ways { length walk.now.mapped.now.ways.now ≡ 256 }
     ensures { IfOk result (λ text. (s : System)
-        → IsSystemWith (told_value walk.now.mapped.now.told) (given_value walk.now.mapped.now.given) walk.now.mapped.now.outline.now walk.now.mapped.now.above.now walk.now.mapped.now.ways.now walk.now.mapped.now.takers.now s
+        → IsSystemWith (told_value walk.now.mapped.now.told) (code_given_value walk.now.mapped.now.given) walk.now.mapped.now.outline.now walk.now.mapped.now.above.now walk.now.mapped.now.ways.now walk.now.mapped.now.takers.now s
         → Contains walk.now.mapped.now.outline.now.roots root
-        → AreTakingsTold (mapped_of (told_value walk.now.mapped.now.told) (given_value walk.now.mapped.now.given) walk.now.mapped.now.outline.now s (space_of walk.now.space))
+        → AreTakingsTold (mapped_of (told_value walk.now.mapped.now.told) (code_given_value walk.now.mapped.now.given) walk.now.mapped.now.outline.now s (space_of walk.now.space))
         root walk.now.mapped.now.takers.now [] (string_bytes text)) }
 {
     let mut text = String::new(walk.alloc);
@@ -52,9 +52,9 @@ fn push_space<A: Allocator + Copy, B: Allocator>(
     // bus numbers index it
     requires ways { length mapped.now.ways.now ≡ 256 }
     ensures { OnOk result ((s : System)
-        → IsSystemWith (told_value mapped.now.told) (given_value mapped.now.given) mapped.now.outline.now mapped.now.above.now mapped.now.ways.now mapped.now.takers.now s
+        → IsSystemWith (told_value mapped.now.told) (code_given_value mapped.now.given) mapped.now.outline.now mapped.now.above.now mapped.now.ways.now mapped.now.takers.now s
         → Contains mapped.now.outline.now.roots bus
-        → IsSpaceTold (mapped_of (told_value mapped.now.told) (given_value mapped.now.given) mapped.now.outline.now s
+        → IsSpaceTold (mapped_of (told_value mapped.now.told) (code_given_value mapped.now.given) mapped.now.outline.now s
         (space_of space)) bus (string_bytes text.old) (string_bytes text.new)) }
 {
     let walk = Walk {
@@ -86,8 +86,8 @@ fn push_bus<A: Allocator + Copy, B: Allocator>(
     requires told { AreToldOn (told_value mapped.now.told) mapped.now.outline.now mapped.now.on.now }
     requires ways { length mapped.now.ways.now ≡ 256 }
     ensures { OnOk result ((s : System)
-        → IsSystemWith (told_value mapped.now.told) (given_value mapped.now.given) mapped.now.outline.now mapped.now.above.now mapped.now.ways.now mapped.now.takers.now s
-        → AreRootsTold (told_value mapped.now.told) (given_value mapped.now.given) mapped.now.outline.now.roots s (bus ∷ [])
+        → IsSystemWith (told_value mapped.now.told) (code_given_value mapped.now.given) mapped.now.outline.now mapped.now.above.now mapped.now.ways.now mapped.now.takers.now s
+        → AreRootsTold (told_value mapped.now.told) (code_given_value mapped.now.given) mapped.now.outline.now.roots s (bus ∷ [])
         (string_bytes text.old) (string_bytes text.new)) }
 {
     if !mapped.outline.roots().has(bus) {
@@ -106,8 +106,8 @@ pub fn push_roots<A: Allocator + Copy, B: Allocator>(
     requires told { AreToldOn (told_value mapped.now.told) mapped.now.outline.now mapped.now.on.now }
     requires ways { length mapped.now.ways.now ≡ 256 }
     ensures { OnOk result ((s : System)
-        → IsSystemWith (told_value mapped.now.told) (given_value mapped.now.given) mapped.now.outline.now mapped.now.above.now mapped.now.ways.now mapped.now.takers.now s
-        → AreRootsTold (told_value mapped.now.told) (given_value mapped.now.given) mapped.now.outline.now.roots s
+        → IsSystemWith (told_value mapped.now.told) (code_given_value mapped.now.given) mapped.now.outline.now mapped.now.above.now mapped.now.ways.now mapped.now.takers.now s
+        → AreRootsTold (told_value mapped.now.told) (code_given_value mapped.now.given) mapped.now.outline.now.roots s
         (range_with_len 0 256)
         (string_bytes text.old) (string_bytes text.new)) }
 {

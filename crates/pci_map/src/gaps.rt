@@ -9,7 +9,7 @@ ghost use Rattle.judge_spec.specs.ToldClaims.{Told};
 ghost use Rattle.judge_spec.specs.Lines.{IsFreeOn};
 ghost use Rattle.pci_base.specs.Ranges.{decoded_range_of};
 ghost use Rattle.pci_base.specs.Space.{space_of};
-ghost use Rattle.pci_claims.specs.Values.{given_value};
+ghost use Rattle.pci_claims.specs.Values.{code_given_value};
 ghost use Rattle.pci_map.specs.Gaps.{is_cut_seat, AreClaimedBy, AreClaimsOf, AreClaimed, AreFreeInside};
 ghost use Rattle.pci_map.specs.Seats.{seat_range, AreSortedSeatsOf};
 
@@ -28,7 +28,7 @@ use std::alloc::Allocator;
 
 /// Whether ISA Enable takes addresses of a space from a region of a bus.
 fn is_seat_cut(given: &Given<'_>, space: Space, seat: &Seat<'_>) -> bool
-    ensures { result ≡ is_cut_seat (given_value given.now) (space_of space) seat.now }
+    ensures { result ≡ is_cut_seat (code_given_value given.now) (space_of space) seat.now }
 {
     match seat {
         Seat::Own(region) => is_cut(given, space, region),
@@ -39,7 +39,7 @@ fn is_seat_cut(given: &Given<'_>, space: Space, seat: &Seat<'_>) -> bool
 /// Whether ISA Enable takes addresses of a space from one of some regions.
 fn any_cut(given: &Given<'_>, space: Space, seats: &[Seat<'_>]) -> bool
     ensures { IsFalse result
-        → All (λ q. IsFalse (is_cut_seat (given_value given.now) (space_of space) q)) seats.now }
+        → All (λ q. IsFalse (is_cut_seat (code_given_value given.now) (space_of space) q)) seats.now }
 {
     for seat in seats {
         if is_seat_cut(given, space, seat) {
@@ -70,7 +70,7 @@ fn claims_of_one<A: Allocator + Copy>(
     seat: &Seat<'_>,
 ) -> Result<Vec<Range, A>, OutOfMemory>
     ensures { IfOk result
-        (λ v. AreClaimsOf (given_value given.now) (space_of space) seat.now v.items) }
+        (λ v. AreClaimsOf (code_given_value given.now) (space_of space) seat.now v.items) }
 {
     match seat {
         Seat::Own(region) => own(alloc, given, region, space),
@@ -90,7 +90,7 @@ fn claims_of<A: Allocator + Copy>(
     seats: &[Seat<'_>],
 ) -> Result<Vec<Range, A>, OutOfMemory>
     ensures { IfOk result
-        (λ v. AreClaimedBy (given_value given.now) (space_of space) seats.now v.items) }
+        (λ v. AreClaimedBy (code_given_value given.now) (space_of space) seats.now v.items) }
 {
     let mut out = Vec::new(alloc);
     for seat in seats {
@@ -109,7 +109,7 @@ fn claimed<A: Allocator + Copy>(
 ) -> Result<Vec<Range, A>, OutOfMemory>
     ensures { IfOk result (λ v. (told : Told) (s : System) (bus : ℕ)
         → AreSortedSeatsOf told s bus (space_of space) seats.now
-        → AreClaimed told (given_value given.now) s bus (space_of space) v.items) }
+        → AreClaimed told (code_given_value given.now) s bus (space_of space) v.items) }
 {
     if any_cut(given, space, seats) {
         gathered(claims_of(alloc, given, space, seats)?)
@@ -128,7 +128,7 @@ pub fn free_inside<A: Allocator + Copy>(
 ) -> Result<Vec<Range, A>, OutOfMemory>
     ensures { IfOk result (λ v. (told : Told) (s : System) (bus : ℕ)
         → AreSortedSeatsOf told s bus (space_of space) seats.now
-        → AreFreeInside told (given_value given.now) s bus (space_of space) window.now v.items) }
+        → AreFreeInside told (code_given_value given.now) s bus (space_of space) window.now v.items) }
 {
     let range = Range {
         first: window.first,
@@ -146,7 +146,7 @@ pub fn free_inside<A: Allocator + Copy>(
 
 /// Whether a list is said of a space.
 fn is_said(given: &Given<'_>, space: Space) -> bool
-    ensures { result ≡ is_some (ranges_said (given_value given.now) (space_of space)) }
+    ensures { result ≡ is_some (ranges_said (code_given_value given.now) (space_of space)) }
 {
     match space {
         Space::Io => given.io.is_some(),
@@ -164,7 +164,7 @@ pub fn free_on_root<A: Allocator + Copy>(
 ) -> Result<Vec<Range, A>, OutOfMemory>
     ensures { IfOk result (λ v. (told : Told) (s : System)
         → AreSortedSeatsOf told s root (space_of space) seats.now
-        → AreRuns (IsFreeOn told (given_value given.now) s root (space_of space)) (map decoded_range_of v.items)) }
+        → AreRuns (IsFreeOn told (code_given_value given.now) s root (space_of space)) (map decoded_range_of v.items)) }
 {
     if !is_said(given, space) {
         return Ok(Vec::new(alloc));

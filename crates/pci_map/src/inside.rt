@@ -3,13 +3,13 @@ ghost use Rattle.std.specs.Prelude.{◌≡◌, IfOk, MatchOption};
 ghost use Rattle.std.specs.List.{filter};
 ghost use Rattle.pci_spec.specs.System.{System};
 ghost use Rattle.pci_spec.specs.Decoded.{HasRecords};
-ghost use Rattle.pci_claims.specs.Values.{given_value, told_value};
+ghost use Rattle.pci_claims.specs.Values.{code_given_value, told_value};
 ghost use Rattle.pci_base.specs.Space.{space_of};
 ghost use Rattle.pci_spec.specs.Why.{IsRegionIn};
 ghost use Rattle.pci_tree.specs.declared.region.Part.TheVariants.{Window};
 ghost use Rattle.pci_map.specs.Values.{value_of, mapped_of};
 ghost use Rattle.pci_map.specs.Mapped.{AreToldOn, IsSystemOf};
-ghost use Rattle.pci_map.specs.Inside.{region_has, is_taken, is_held_first, IsEarlierWindow, AreInsideWindow};
+ghost use Rattle.pci_map.specs.Inside.{region_has, is_cut_by_isa, is_held_first, IsEarlierWindow, AreInsideWindow};
 
 use super::above::in_place;
 use super::bus_seats::seats_on;
@@ -47,7 +47,7 @@ pub fn has(region: &Region, address: u64) -> bool
 
 /// Whether ISA Enable takes an address from a window, by whether it cuts the window.
 pub fn takes(cut: bool, address: u64) -> bool
-    ensures { result ≡ is_taken cut address }
+    ensures { result ≡ is_cut_by_isa cut address }
 {
     cut && is_isa_port(address)
 }
@@ -123,10 +123,10 @@ pub fn look_inside<'g, A: Allocator + Copy>(
     requires { AreToldOn (told_value mapped.now.told) mapped.now.outline.now mapped.now.on.now }
     // an outline has no image, so this is said of every system with its records
     ensures { IfOk result (λ o. (s : System)
-        → IsSystemOf (told_value mapped.now.told) (given_value mapped.now.given) mapped.now.outline.now mapped.now.above.now s
+        → IsSystemOf (told_value mapped.now.told) (code_given_value mapped.now.given) mapped.now.outline.now mapped.now.above.now s
         → IsRegionIn s (value_of (space_of space) window.now) → window.now.part ≡ Window
         → MatchOption o ⊥ (λ i. AreInsideWindow
-        (mapped_of (told_value mapped.now.told) (given_value mapped.now.given) mapped.now.outline.now s (space_of space))
+        (mapped_of (told_value mapped.now.told) (code_given_value mapped.now.given) mapped.now.outline.now s (space_of space))
         window.now i.bus i.regions.items i.runs.items)) }
 {
     let outline = mapped.outline;

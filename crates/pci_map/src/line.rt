@@ -1,19 +1,18 @@
 //! The lines of a map.
-ghost use Rattle.std.specs.Prelude.{◌≡◌, ◌+◌, ◌*◌, ◌≤◌, ◌++◌, ◌∷◌, IsAscii, OnOk};
+ghost use Rattle.std.specs.Prelude.{◌≡◌, ◌+◌, ◌*◌, ◌≤◌, ◌++◌, ◌∷◌, IsAscii, OnOk, map};
 ghost use Rattle.std.specs.String.{string_bytes};
 ghost use Rattle.std.specs.List.{flat_map};
-ghost use Rattle.std.specs.Prelude.{map};
 ghost use Rattle.pci_spec.specs.Listing.{range_text};
 ghost use Rattle.pci_spec.specs.Why.{amount_text, address_count};
 ghost use Rattle.judge_spec.specs.ToldLine.{register_text};
 ghost use Rattle.judge_spec.specs.Regions.{Own};
 ghost use Rattle.judge_spec.specs.MapText.{indent, part_name, told_part_name, map_told_line, map_region_line, free_line, bus_heading, taking_heading};
-ghost use Rattle.pci_claims.specs.Values.{given_value};
+ghost use Rattle.pci_claims.specs.Values.{code_given_value};
 ghost use Rattle.arrayvec.specs.ArrayVec.{array_vec_len};
 ghost use Rattle.pci_base.specs.Ranges.{decoded_range_of};
 ghost use Rattle.pci_base.specs.Space.{space_of};
-ghost use Rattle.pci_map.specs.Values.{part_of, value_of};
-ghost use Rattle.pci_map.specs.Seats.{told_of, seat_value};
+ghost use Rattle.pci_map.specs.Values.{region_part, value_of};
+ghost use Rattle.pci_map.specs.Seats.{told_region_value, seat_value};
 ghost use Rattle.pci_map.specs.Lines.{isa_ending, name_ending, region_line_by};
 
 use super::cells::{CELLS_MAX, Cells, push_cells, put, put_byte, put_bytes, put_slot};
@@ -60,7 +59,7 @@ fn put_indent(cells: &mut Cells, depth: u32)
 fn put_name(cells: &mut Cells, region: &Region)
     requires { array_vec_len cells.old + 8 ≤ CELLS_MAX }
     ensures text { cells.new.items
-        ≡ cells.old.items ++ part_name (part_of region.now) region.now.prefetch }
+        ≡ cells.old.items ++ part_name (region_part region.now) region.now.prefetch }
     ensures len { array_vec_len cells.new ≤ array_vec_len cells.old + 8 }
 {
     match (region.part, region.prefetch) {
@@ -75,7 +74,7 @@ fn put_name(cells: &mut Cells, region: &Region)
 #[inline(always)]
 fn put_told_name(cells: &mut Cells, line: &ToldRegion<'_>)
     requires { array_vec_len cells.old + 9 ≤ CELLS_MAX }
-    ensures text { cells.new.items ≡ cells.old.items ++ told_part_name (told_of line.now) }
+    ensures text { cells.new.items ≡ cells.old.items ++ told_part_name (told_region_value line.now) }
     ensures len { array_vec_len cells.new ≤ array_vec_len cells.old + 9 }
 {
     let told = line.told;
@@ -220,7 +219,7 @@ pub fn push_region<A: Allocator>(
     region: &Region,
 ) -> Result<(), AllocError>
     ensures { OnOk result (string_bytes text.new ≡ string_bytes text.old
-        ++ map_region_line (given_value given.now) depth (Own (value_of (space_of space) region.now))) }
+        ++ map_region_line (code_given_value given.now) depth (Own (value_of (space_of space) region.now))) }
 {
     push_region_line(text, depth, space, region, is_cut(given, space, region))
 }
@@ -232,7 +231,7 @@ pub fn push_told_line<A: Allocator>(
     line: &ToldRegion<'_>,
 ) -> Result<(), AllocError>
     ensures { OnOk result
-        (string_bytes text.new ≡ string_bytes text.old ++ map_told_line depth (told_of line.now)) }
+        (string_bytes text.new ≡ string_bytes text.old ++ map_told_line depth (told_region_value line.now)) }
 {
     let mut cells = Cells::new();
     put_extent(&mut cells, depth % STEPS, line.space(), line.range());
@@ -257,7 +256,7 @@ pub fn push_line<A: Allocator>(
     seat: &Seat<'_>,
 ) -> Result<(), AllocError>
     ensures { OnOk result (string_bytes text.new ≡ string_bytes text.old
-        ++ map_region_line (given_value given.now) depth (seat_value (space_of space) seat.now)) }
+        ++ map_region_line (code_given_value given.now) depth (seat_value (space_of space) seat.now)) }
 {
     match seat {
         Seat::Own(region) => push_region(text, given, depth, space, region),

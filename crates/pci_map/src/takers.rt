@@ -2,9 +2,9 @@
 ghost use Rattle.std.specs.Prelude.{◌≡◌, IfOk};
 ghost use Rattle.pci_spec.specs.System.{System};
 ghost use Rattle.judge_spec.specs.UnclaimedLaws.{is_taking};
-ghost use Rattle.pci_claims.specs.Values.{given_value};
+ghost use Rattle.pci_claims.specs.Values.{code_given_value};
 ghost use Rattle.pci_map.specs.Left.{IsTreeOf};
-ghost use Rattle.pci_map.specs.Takers.{AreTakenAt, IsTakerOf, AreTakers};
+ghost use Rattle.pci_map.specs.Takers.{AreTakenByBridgeAt, IsTakerOf, AreTakers};
 
 use super::above::root_over;
 use super::addresses::Addresses;
@@ -28,7 +28,7 @@ pub struct Taker {
 
 /// Whether it is given what the bridge at a slot takes.
 fn is_taking(given: &Given<'_>, slot: Slot) -> bool
-    ensures { result ≡ is_taking (given_value given.now).unclaimed slot }
+    ensures { result ≡ is_taking (code_given_value given.now).unclaimed slot }
 {
     for entry in given.unclaimed {
         if entry.slot == slot {
@@ -47,7 +47,7 @@ pub fn taken_at<A: Allocator + Copy>(
 ) -> Result<Addresses<A>, OutOfMemory>
     // an outline has no image, so this is said of every system with its records
     ensures { IfOk result (λ taken. (s : System) → IsTreeOf outline.now s
-        → AreTakenAt (given_value given.now) s slot taken) }
+        → AreTakenByBridgeAt (code_given_value given.now) s slot taken) }
 {
     if given.unclaimed.is_empty() {
         return Ok(Addresses::none(alloc));
@@ -65,7 +65,7 @@ fn taker_of<A: Allocator + Copy>(
     function: &Record,
 ) -> Option<Taker>
     ensures { (s : System) → IsTreeOf outline.now s
-        → IsTakerOf (given_value given.now) outline.now.roots s function.now result }
+        → IsTakerOf (code_given_value given.now) outline.now.roots s function.now result }
 {
     let Some(bridge) = function.bridge else {
         return None;
@@ -86,7 +86,7 @@ pub fn find_takers<A: Allocator + Copy>(
     outline: &Outline<A>,
 ) -> Result<Vec<Taker, A>, OutOfMemory>
     ensures { IfOk result (λ v. (s : System) → IsTreeOf outline.now s
-        → AreTakers (given_value given.now) outline.now.roots s v.items) }
+        → AreTakers (code_given_value given.now) outline.now.roots s v.items) }
 {
     let mut takers = Vec::new(alloc);
     if given.unclaimed.is_empty() {

@@ -8,9 +8,9 @@ ghost use Rattle.judge_spec.specs.ToldClaims.{Told};
 ghost use Rattle.pci_base.specs.Space.{space_of};
 ghost use Rattle.judge_spec.specs.Map.{IsBelow};
 ghost use Rattle.pci_tree.specs.Outline.{Tree};
-ghost use Rattle.pci_claims.specs.Values.{given_value, told_value};
+ghost use Rattle.pci_claims.specs.Values.{code_given_value, told_value};
 ghost use Rattle.pci_map.specs.Values.{mapped_of};
-ghost use Rattle.pci_map.specs.Seats.{IsToldOf, AreSeatsOn, AreKept, seat_first};
+ghost use Rattle.pci_map.specs.Seats.{IsToldOfListedSlots, AreSeatsOn, AreFilteredSeats, seat_first};
 ghost use Rattle.pci_map.specs.Left.{IsTreeOf};
 ghost use Rattle.pci_map.specs.Ways.{AreAbove};
 ghost use Rattle.pci_map.specs.Takers.{IsTakenFirst};
@@ -37,9 +37,9 @@ fn taken_first<'g, A: Allocator, B: Allocator>(
     seats: &[Seat<'g>],
 ) -> Result<Vec<Seat<'g>, A>, OutOfMemory>
     ensures { IfOk result (λ v. (told : Told) (given : Given) (t : Tree) (s : System) (bus : ℕ)
-        → IsTreeOf t s → IsToldOf told s → AreSeatsOn told s bus (space_of space) seats.now
+        → IsTreeOf t s → IsToldOfListedSlots told s → AreSeatsOn told s bus (space_of space) seats.now
         → (above : AreAbove given t.roots s bus windows.now)
-        → AreKept (λ q. IsTakenFirst given (space_of space) above.bridge.b (seat_first q)) (space_of space) seats.now v.items) }
+        → AreFilteredSeats (λ q. IsTakenFirst given (space_of space) above.bridge.b (seat_first q)) (space_of space) seats.now v.items) }
 {
     let Ok(mut out) = Vec::with_capacity(alloc, seats.len()) else {
         return Err(OutOfMemory);
@@ -62,9 +62,9 @@ fn look_behind<'g, A: Allocator + Copy>(
     ensures bus { IfOk result (λ i. i.bus ≡ bus) }
     ensures runs { IfOk result (λ i. i.runs.items ≡ []) }
     ensures taken { IfOk result (λ i. (s : System)
-        → IsSystemWith (told_value walk.now.mapped.now.told) (given_value walk.now.mapped.now.given) walk.now.mapped.now.outline.now walk.now.mapped.now.above.now walk.now.mapped.now.ways.now walk.now.mapped.now.takers.now s
-        → (above : AreAbove (given_value walk.now.mapped.now.given) walk.now.mapped.now.outline.now.roots s bus windows.now)
-        → IsTakenOf (mapped_of (told_value walk.now.mapped.now.told) (given_value walk.now.mapped.now.given) walk.now.mapped.now.outline.now s (space_of walk.now.space))
+        → IsSystemWith (told_value walk.now.mapped.now.told) (code_given_value walk.now.mapped.now.given) walk.now.mapped.now.outline.now walk.now.mapped.now.above.now walk.now.mapped.now.ways.now walk.now.mapped.now.takers.now s
+        → (above : AreAbove (code_given_value walk.now.mapped.now.given) walk.now.mapped.now.outline.now.roots s bus windows.now)
+        → IsTakenOf (mapped_of (told_value walk.now.mapped.now.told) (code_given_value walk.now.mapped.now.given) walk.now.mapped.now.outline.now s (space_of walk.now.space))
         above.bridge.b bus i.regions.items) }
 {
     let all = seats_on(walk.alloc, walk.mapped, bus, walk.space)?;
@@ -84,9 +84,9 @@ fn push_taking<A: Allocator + Copy, B: Allocator>(
     // bus numbers index it
     requires ways { length walk.now.mapped.now.ways.now ≡ 256 }
     ensures { OnOk result ((s : System) (root : ℕ)
-        → IsSystemWith (told_value walk.now.mapped.now.told) (given_value walk.now.mapped.now.given) walk.now.mapped.now.outline.now walk.now.mapped.now.above.now walk.now.mapped.now.ways.now walk.now.mapped.now.takers.now s
+        → IsSystemWith (told_value walk.now.mapped.now.told) (code_given_value walk.now.mapped.now.given) walk.now.mapped.now.outline.now walk.now.mapped.now.above.now walk.now.mapped.now.ways.now walk.now.mapped.now.takers.now s
         → Contains walk.now.mapped.now.takers.now taker → IsBelow s root taker.slot
-        → AreTakingsTold (mapped_of (told_value walk.now.mapped.now.told) (given_value walk.now.mapped.now.given) walk.now.mapped.now.outline.now s (space_of walk.now.space))
+        → AreTakingsTold (mapped_of (told_value walk.now.mapped.now.told) (code_given_value walk.now.mapped.now.given) walk.now.mapped.now.outline.now s (space_of walk.now.space))
         root (taker ∷ []) (string_bytes text.old) (string_bytes text.new)) }
 {
     let bus = taker.bus;
@@ -117,9 +117,9 @@ pub fn push_takings<A: Allocator + Copy, B: Allocator>(
     requires told { AreToldOn (told_value walk.now.mapped.now.told) walk.now.mapped.now.outline.now walk.now.mapped.now.on.now }
     requires ways { length walk.now.mapped.now.ways.now ≡ 256 }
     ensures { OnOk result ((s : System)
-        → IsSystemWith (told_value walk.now.mapped.now.told) (given_value walk.now.mapped.now.given) walk.now.mapped.now.outline.now walk.now.mapped.now.above.now walk.now.mapped.now.ways.now walk.now.mapped.now.takers.now s
+        → IsSystemWith (told_value walk.now.mapped.now.told) (code_given_value walk.now.mapped.now.given) walk.now.mapped.now.outline.now walk.now.mapped.now.above.now walk.now.mapped.now.ways.now walk.now.mapped.now.takers.now s
         → Contains walk.now.mapped.now.outline.now.roots root
-        → AreTakingsTold (mapped_of (told_value walk.now.mapped.now.told) (given_value walk.now.mapped.now.given) walk.now.mapped.now.outline.now s (space_of walk.now.space))
+        → AreTakingsTold (mapped_of (told_value walk.now.mapped.now.told) (code_given_value walk.now.mapped.now.given) walk.now.mapped.now.outline.now s (space_of walk.now.space))
         root walk.now.mapped.now.takers.now (string_bytes text.old) (string_bytes text.new)) }
 {
     for taker in walk.mapped.takers {

@@ -6,7 +6,7 @@ ghost use Rattle.pci_tree.specs.Trees.{HasTree};
 ghost use Rattle.judge_spec.specs.Told.{IsTold};
 ghost use Rattle.judge_spec.specs.ToldNumbered.{AreListedIn};
 ghost use Rattle.judge_spec.specs.MapText.{IsMapText};
-ghost use Rattle.pci_claims.specs.Values.{given_value, told_value};
+ghost use Rattle.pci_claims.specs.Values.{code_given_value, told_value};
 
 use super::above::sent_above;
 use super::asides::push_asides;
@@ -33,7 +33,7 @@ pub fn map_text<A: Allocator + Copy>(
     requires { IsTold told.now.ranges.now }
     // an outline has no image, so this is said of every system with its records
     ensures { IfOk result (λ text. (s : System) → HasTree outline.now s → AreListedIn (told_value told.now) s
-        → IsMapText (told_value told.now) (given_value given.now) outline.now.roots s (string_bytes text)) }
+        → IsMapText (told_value told.now) (code_given_value given.now) outline.now.roots s (string_bytes text)) }
 {
     let above = sent_above(alloc, given, outline)?;
     let ways = find_ways(alloc, given, outline)?;

@@ -6,7 +6,7 @@ ghost use Rattle.pci_spec.specs.System.{System};
 ghost use Rattle.judge_spec.specs.MapText.{free_line};
 ghost use Rattle.pci_base.specs.Ranges.{decoded_range_of};
 ghost use Rattle.pci_base.specs.Space.{space_of};
-ghost use Rattle.pci_claims.specs.Values.{given_value, told_value};
+ghost use Rattle.pci_claims.specs.Values.{code_given_value, told_value};
 ghost use Rattle.pci_map.specs.Values.{mapped_of};
 ghost use Rattle.pci_map.specs.Seats.{IsSeatOn, AreSeatsOn};
 ghost use Rattle.pci_map.specs.Mapped.{AreToldOn, IsSystemOf};
@@ -73,10 +73,10 @@ fn inside_of<'g, A: Allocator + Copy>(
     // so the walk ends
     ensures deeper { IfOk result (λ o. IfSome o (λ i. bus < i.bus)) }
     ensures inside { IfOk result (λ o. (s : System)
-        → IsSystemOf (told_value walk.now.mapped.now.told) (given_value walk.now.mapped.now.given) walk.now.mapped.now.outline.now walk.now.mapped.now.above.now s
+        → IsSystemOf (told_value walk.now.mapped.now.told) (code_given_value walk.now.mapped.now.given) walk.now.mapped.now.outline.now walk.now.mapped.now.above.now s
         → IsSeatOn (told_value walk.now.mapped.now.told) s bus (space_of walk.now.space) seat.now
         → MatchOption o (IsNoWindow seat.now)
-        (λ i. HasInside (mapped_of (told_value walk.now.mapped.now.told) (given_value walk.now.mapped.now.given) walk.now.mapped.now.outline.now s (space_of walk.now.space))
+        (λ i. HasInside (mapped_of (told_value walk.now.mapped.now.told) (code_given_value walk.now.mapped.now.given) walk.now.mapped.now.outline.now s (space_of walk.now.space))
         seat.now i.bus i.regions.items i.runs.items)) }
 {
     let Seat::Own(region) = seat else {
@@ -108,9 +108,9 @@ fn push_seat<A: Allocator + Copy, B: Allocator>(
     // each window leads to a higher bus, so the depth can be counted
     requires deep { depth ≤ bus + 1 }
     ensures { OnOk result ((s : System)
-        → IsSystemOf (told_value walk.now.mapped.now.told) (given_value walk.now.mapped.now.given) walk.now.mapped.now.outline.now walk.now.mapped.now.above.now s
+        → IsSystemOf (told_value walk.now.mapped.now.told) (code_given_value walk.now.mapped.now.given) walk.now.mapped.now.outline.now walk.now.mapped.now.above.now s
         → IsSeatOn (told_value walk.now.mapped.now.told) s bus (space_of walk.now.space) seat.now
-        → IsSeated (mapped_of (told_value walk.now.mapped.now.told) (given_value walk.now.mapped.now.given) walk.now.mapped.now.outline.now s (space_of walk.now.space)) depth seat.now
+        → IsSeated (mapped_of (told_value walk.now.mapped.now.told) (code_given_value walk.now.mapped.now.given) walk.now.mapped.now.outline.now s (space_of walk.now.space)) depth seat.now
         (string_bytes text.old) (string_bytes text.new)) }
 {
     push_line(text, &walk.mapped.given, depth, walk.space, seat)?;
@@ -131,9 +131,9 @@ pub fn push_place<A: Allocator + Copy, B: Allocator>(
     requires told { AreToldOn (told_value walk.now.mapped.now.told) walk.now.mapped.now.outline.now walk.now.mapped.now.on.now }
     requires deep { depth ≤ place.now.bus + 1 }
     ensures { OnOk result ((s : System)
-        → IsSystemOf (told_value walk.now.mapped.now.told) (given_value walk.now.mapped.now.given) walk.now.mapped.now.outline.now walk.now.mapped.now.above.now s
+        → IsSystemOf (told_value walk.now.mapped.now.told) (code_given_value walk.now.mapped.now.given) walk.now.mapped.now.outline.now walk.now.mapped.now.above.now s
         → AreSeatsOn (told_value walk.now.mapped.now.told) s place.now.bus (space_of walk.now.space) place.now.regions.items
-        → ArePlacesWritten (mapped_of (told_value walk.now.mapped.now.told) (given_value walk.now.mapped.now.given) walk.now.mapped.now.outline.now s (space_of walk.now.space)) depth
+        → ArePlacesWritten (mapped_of (told_value walk.now.mapped.now.told) (code_given_value walk.now.mapped.now.given) walk.now.mapped.now.outline.now s (space_of walk.now.space)) depth
         (merged (space_of walk.now.space) place.now.regions.items place.now.runs.items)
         (string_bytes text.old) (string_bytes text.new)) }
 {

@@ -7,7 +7,7 @@ ghost use Rattle.pci_base.specs.Space.{space_of};
 ghost use Rattle.pci_function.specs.Values.{record_value};
 ghost use Rattle.pci_tree.specs.Roots.{buses_of};
 ghost use Rattle.pci_tree.specs.Ways.{IsBridgeToBus};
-ghost use Rattle.pci_claims.specs.Values.{given_value};
+ghost use Rattle.pci_claims.specs.Values.{code_given_value};
 ghost use Rattle.pci_map.specs.Left.{IsTreeOf, HasAbove};
 ghost use Rattle.pci_map.specs.Ways.{IsJudgedAt, AreWindowsOf, IsWayTo, AreWays};
 
@@ -73,8 +73,8 @@ fn judge<A: Allocator + Copy>(
 ) -> Result<Option<Judged>, OutOfMemory>
     requires { spot.slot.bus < length ways.now }
     ensures { IfOk result (λ o. (s : System) → IsTreeOf outline.now s
-        → AreWays (given_value given.now) outline.now.roots s ways.now
-        → IsJudgedAt (given_value given.now) outline.now.roots s record { slot = spot.slot; register = spot.register; space = space_of spot.space } o) }
+        → AreWays (code_given_value given.now) outline.now.roots s ways.now
+        → IsJudgedAt (code_given_value given.now) outline.now.roots s record { slot = spot.slot; register = spot.register; space = space_of spot.space } o) }
 {
     let Spot {
         slot,
@@ -99,8 +99,8 @@ fn windows_of<A: Allocator + Copy>(
 ) -> Result<Windows<A>, OutOfMemory>
     requires { bridge.bus < length ways.now }
     ensures { IfOk result (λ w. (s : System) → IsTreeOf outline.now s
-        → AreWays (given_value given.now) outline.now.roots s ways.now
-        → AreWindowsOf (given_value given.now) outline.now.roots s bridge w) }
+        → AreWays (code_given_value given.now) outline.now.roots s ways.now
+        → AreWindowsOf (code_given_value given.now) outline.now.roots s bridge w) }
 {
     let io_spot = Spot {
         slot: bridge,
@@ -138,9 +138,9 @@ fn next_way<A: Allocator + Copy>(
     above: Above,
 ) -> Result<Option<Windows<A>>, OutOfMemory>
     ensures { IfOk result (λ o. (s : System) → IsTreeOf outline.now s
-        → AreWays (given_value given.now) outline.now.roots s ways.now
+        → AreWays (code_given_value given.now) outline.now.roots s ways.now
         → HasAbove outline.now.roots s (length ways.now) above
-        → IsWayTo (given_value given.now) outline.now.roots s (length ways.now) o) }
+        → IsWayTo (code_given_value given.now) outline.now.roots s (length ways.now) o) }
 {
     match above {
         Above::Host => Ok(None),
@@ -165,7 +165,7 @@ pub fn find_ways<A: Allocator + Copy>(
     // bus numbers index it
     ensures size { IfOk result (λ v. length v.items ≡ 256) }
     ensures ways { IfOk result (λ v. (s : System) → IsTreeOf outline.now s
-        → AreWays (given_value given.now) outline.now.roots s v.items) }
+        → AreWays (code_given_value given.now) outline.now.roots s v.items) }
 {
     let records = outline.records();
     let roots = outline.roots();

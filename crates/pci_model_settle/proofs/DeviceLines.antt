@@ -23,8 +23,8 @@ use Rattle.std.specs.List.Sorted.{IsNonDecreasingBy}
 use Rattle.pci_model_settle.specs.declared.claim_lines.Line.{Line as CodeLine}
 use Rattle.pci_model_settle.specs.LineValues.{AreToldInOrder, line_value}
 use Rattle.pci_model_settle.proofs.MergedLines.{ranges_of_lines}
-use Rattle.pci_model_settle.specs.ClaimLines.{Line, ranges_of}
-use Rattle.pci_model_settle.specs.OffDevices.{ShownPart, lines_of, lines_of_all, lines_of_part, part_line, shown_bar, shown_parts, shown_range, shown_rom}
+use Rattle.pci_model_settle.specs.ClaimLines.{Line, line_ranges}
+use Rattle.pci_model_settle.specs.OffDevices.{ShownPart, lines_of, lines_of_all, lines_of_part, part_line, shown_bar_part, shown_parts, shown_range, shown_rom}
 use Rattle.pci_model_settle.specs.Unmoved.{is_among}
 use Rattle.pci_model_settle.proofs.HeldLines.{AreAt, AreFrom, at_both, each_told, from_at, in_order, number_of}
 
@@ -56,23 +56,23 @@ can_be_told slot part is_slot h = record {
 }
 
 module _ (slot : Slot) (is_slot : IsSlot slot) where
-  lines_at : (part : ShownPart) (unplaced : Bool) → IsShown slot part → AreAt (slot_number slot) (ranges_of (if unplaced then [] else part_line part ∷ []))
+  lines_at : (part : ShownPart) (unplaced : Bool) → IsShown slot part → AreAt (slot_number slot) (line_ranges (if unplaced then [] else part_line part ∷ []))
   lines_at part true h = tt
   lines_at part false h = (can_be_told slot part is_slot h, ap slot_number h.at, tt)
 
-  part_at : (part : ShownPart) → IsShown slot part → AreAt (slot_number slot) (ranges_of (lines_of_part part))
+  part_at : (part : ShownPart) → IsShown slot part → AreAt (slot_number slot) (line_ranges (lines_of_part part))
   part_at part h = lines_at part (part.range.first == 0) h
 
-  parts_at : (parts : List ShownPart) → AreShown slot parts → AreAt (slot_number slot) (ranges_of (flat_map lines_of_part parts))
+  parts_at : (parts : List ShownPart) → AreShown slot parts → AreAt (slot_number slot) (line_ranges (flat_map lines_of_part parts))
   parts_at [] h = tt
   parts_at (part ∷ parts) h =
       subst (AreAt (slot_number slot)) (sym (map-append (λ (l : Line). l.range) (lines_of_part part) (flat_map lines_of_part parts)))
-      (at_both (slot_number slot) (ranges_of (lines_of_part part)) (ranges_of (flat_map lines_of_part parts)) (part_at part h.0) (parts_at parts h.1))
+      (at_both (slot_number slot) (line_ranges (lines_of_part part)) (line_ranges (flat_map lines_of_part parts)) (part_at part h.0) (parts_at parts h.1))
 
 -- ---- the parts of a record
 
 bar_shown : (slot : Slot) (register : ℕ) (kind : BarKind) (prefetchable : Bool) (first last : ℕ) → IsSpanIn (space_in kind) first last
-    → IsShown slot (shown_bar slot record { register = register; kind = decoded_kind_of kind; prefetchable = prefetchable; range = record { first = first; last = last } })
+    → IsShown slot (shown_bar_part slot record { register = register; kind = decoded_kind_of kind; prefetchable = prefetchable; range = record { first = first; last = last } })
 bar_shown slot register kinds.Io prefetchable first last h = record { at = refl; forward = h.0; last = h.1; plain = λ _. refl }
 bar_shown slot register kinds.Mem32 prefetchable first last h = record { at = refl; forward = h.0; last = h.1; plain = λ e. absurd (memory_is_other e) } where
   memory_is_other : Memory ≡ Io → ⊥
@@ -81,7 +81,7 @@ bar_shown slot register kinds.Mem64 prefetchable first last h = record { at = re
   memory_is_other : Memory ≡ Io → ⊥
   memory_is_other e = cc
 
-bars_shown : (slot : Slot) (bars : List Bar) → All (λ b. IsSpanIn (space_in b.kind) b.first b.last) bars → AreShown slot (map (shown_bar slot) (map decoded_bar_of bars))
+bars_shown : (slot : Slot) (bars : List Bar) → All (λ b. IsSpanIn (space_in b.kind) b.first b.last) bars → AreShown slot (map (shown_bar_part slot) (map decoded_bar_of bars))
 bars_shown slot [] each = tt
 bars_shown slot (b ∷ bars) each =
     (bar_shown slot b.reg b.kind b.prefetch b.first b.last (each 0 b (omega arith)), bars_shown slot bars (All-tail (λ (x : Bar). IsSpanIn (space_in x.kind) x.first x.last) b bars each))
@@ -99,27 +99,27 @@ shown_both : (slot : Slot) (xs ys : List ShownPart) → AreShown slot xs → Are
 shown_both slot [] ys hx hy = hy
 shown_both slot (x ∷ xs) ys hx hy = (hx.0, shown_both slot xs ys hx.1 hy)
 
-record_at : (slots : List Slot) (r : Record) → IsSlot r.slot → IsLawful r → AreAt (slot_number r.slot) (ranges_of (lines_of slots (record_value r)))
+record_at : (slots : List Slot) (r : Record) → IsSlot r.slot → IsLawful r → AreAt (slot_number r.slot) (line_ranges (lines_of slots (record_value r)))
 record_at slots r is_slot lawful = among (is_among slots r.slot) where
   parts : AreShown r.slot (shown_parts (record_value r))
   parts =
-      shown_both r.slot (map (shown_bar r.slot) (map decoded_bar_of r.bars.items)) (shown_rom r.slot (option_map decoded_rom_of r.rom)) (bars_shown r.slot r.bars.items lawful.bars)
+      shown_both r.slot (map (shown_bar_part r.slot) (map decoded_bar_of r.bars.items)) (shown_rom r.slot (option_map decoded_rom_of r.rom)) (bars_shown r.slot r.bars.items lawful.bars)
       (rom_shown r.slot r.rom lawful.rom)
 
-  among : (x : Bool) → AreAt (slot_number r.slot) (ranges_of (if x then flat_map lines_of_part (shown_parts (record_value r)) else []))
+  among : (x : Bool) → AreAt (slot_number r.slot) (line_ranges (if x then flat_map lines_of_part (shown_parts (record_value r)) else []))
   among true = parts_at r.slot is_slot (shown_parts (record_value r)) parts
   among false = tt
 
 -- ---- of all records
 
 pub records_from : (k : ℕ) (slots : List Slot) (rs : List Record) → All (λ r. IsSlot r.slot) rs → All IsLawful rs → AllPairs (λ r q. slot_number r.slot < slot_number q.slot) rs
-    → ((d : Record) → 0 < length rs → k ≤ slot_number (get_or rs 0 d).slot) → AreFrom k (ranges_of (lines_of_all slots (map record_value rs)))
+    → ((d : Record) → 0 < length rs → k ≤ slot_number (get_or rs 0 d).slot) → AreFrom k (line_ranges (lines_of_all slots (map record_value rs)))
 records_from k slots [] each lawful rising low = tt
 records_from k slots (r ∷ rs) each lawful rising low =
     let first = lines_of slots (record_value r) in
     let more = lines_of_all slots (map record_value rs) in
     subst (AreFrom k) (sym (map-append (λ (l : Line). l.range) first more))
-    (from_at k (slot_number r.slot) (ranges_of first) (ranges_of more) (low r (omega arith))
+    (from_at k (slot_number r.slot) (line_ranges first) (line_ranges more) (low r (omega arith))
     (record_at slots r (each 0 r (omega arith)) (lawful 0 r (omega arith)))
     (records_from (slot_number r.slot) slots rs (All-tail (λ (x : Record). IsSlot x.slot) r rs each) (All-tail IsLawful r rs lawful)
     (λ (i j : ℕ) (d : Record) (lt : i < j) (within : j < length rs). rising (suc i) (suc j) d (omega (arith, lt)) (omega (arith, within)))
@@ -136,8 +136,8 @@ pub told_devices : (slots : List Slot) (s : System) (rs : List Record) (out : Li
     → AllPairs (λ r q. slot_number r.slot < slot_number q.slot) rs → map line_value out ≡ lines_of_all slots (map record_value rs) → AreToldInOrder out
 told_devices slots s rs out system same lawful rising is =
     let from = records_from 0 slots rs (slots_of_records s rs system.each same) lawful rising (λ d some. omega arith) in
-    let ranges = ranges_of_lines out ∙ ap ranges_of is in
+    let ranges = ranges_of_lines out ∙ ap line_ranges is in
     record {
-      each = subst (All IsToldRange) (sym ranges) (each_told 0 (ranges_of (lines_of_all slots (map record_value rs))) from);
-      order = subst (IsNonDecreasingBy number_of) (sym ranges) (in_order 0 (ranges_of (lines_of_all slots (map record_value rs))) from);
+      each = subst (All IsToldRange) (sym ranges) (each_told 0 (line_ranges (lines_of_all slots (map record_value rs))) from);
+      order = subst (IsNonDecreasingBy number_of) (sym ranges) (in_order 0 (line_ranges (lines_of_all slots (map record_value rs))) from);
     }

@@ -18,8 +18,8 @@ use Rattle.pci_claims.specs.declared.legacy.FixedPart.TheVariants.{Legacy, Palet
 use Rattle.pci_claims.specs.Legacy.{blocks_of, vga_low, vga_high, palette_low, palette_high}
 use Rattle.pci_model_settle.specs.declared.claim_lines.Line.{Line as CodeLine}
 use Rattle.pci_model_settle.specs.declared.claim_lines.TooManyLines.{TooManyLines}
-use Rattle.pci_model_settle.specs.LineValues.{AreToldInOrder, line_value, ranges_in}
-use Rattle.pci_model_settle.specs.ClaimLines.{AreBySlot, Line, claim_line, claim_lines, held, joined, line_key, lines_with, merged, own_lines, part_lines, port_lines, ports_of_kb, ranges_of, told_lines}
+use Rattle.pci_model_settle.specs.LineValues.{AreToldInOrder, line_value, code_line_ranges}
+use Rattle.pci_model_settle.specs.ClaimLines.{AreBySlot, Line, claim_line, claim_lines, held, joined, line_key, lines_with, merged_by_key, own_lines, part_lines, port_lines, ports_of_kb, line_ranges, told_lines}
 use Rattle.pci_model_settle.proofs.MergedLines.{map_merged, merged_length, ranges_of_lines}
 
 abbrev pub number_of : ToldRange → ℕ
@@ -46,11 +46,11 @@ from_either : (k : ℕ) (x y : ToldRange) (xs ys : List ToldRange) (t : Bool) �
 from_either k x y xs ys true tx kx ty ky h g = (tx, kx, h refl)
 from_either k x y xs ys false tx kx ty ky h g = (ty, ky, g refl)
 
-merged_from : (k : ℕ) (xs ys : List ToldRange) → AreFrom k xs → AreFrom k ys → AreFrom k (merged number_of xs ys)
+merged_from : (k : ℕ) (xs ys : List ToldRange) → AreFrom k xs → AreFrom k ys → AreFrom k (merged_by_key number_of xs ys)
 merged_from k [] ys hx hy = hy
 merged_from k (x ∷ xs) [] hx hy = hx
 merged_from k (x ∷ xs) (y ∷ ys) hx hy =
-    from_either k x y (merged number_of xs (y ∷ ys)) (merged number_of (x ∷ xs) ys) (nat_le (number_of x) (number_of y)) hx.0 hx.1 hy.0 hy.1
+    from_either k x y (merged_by_key number_of xs (y ∷ ys)) (merged_by_key number_of (x ∷ xs) ys) (nat_le (number_of x) (number_of y)) hx.0 hx.1 hy.0 hy.1
     (λ e. merged_from (number_of x) xs (y ∷ ys) hx.2 (hy.0, leb-true _ _ e, hy.2))
     (λ e. merged_from (number_of y) (x ∷ xs) ys (hx.0, let less = leb-false _ _ e in omega (arith, less), hx.2) hy.2)
 
@@ -179,9 +179,9 @@ ranges_of_claims : (claims : List ToldRange) → map (λ (l : Line). l.range) (m
 ranges_of_claims [] = refl
 ranges_of_claims (r ∷ claims) = ap (λ rs. r ∷ rs) (ranges_of_claims claims)
 
-lines_are : (lines : List Line) (claims : List ToldRange) → lines_with lines claims ≡ merged number_of (ranges_of lines) claims
+lines_are : (lines : List Line) (claims : List ToldRange) → lines_with lines claims ≡ merged_by_key number_of (line_ranges lines) claims
 lines_are lines claims =
-    map_merged (λ (l : Line). l.range) number_of lines (map claim_line claims) ∙ ap (merged number_of (ranges_of lines)) (ranges_of_claims claims)
+    map_merged (λ (l : Line). l.range) number_of lines (map claim_line claims) ∙ ap (merged_by_key number_of (line_ranges lines)) (ranges_of_claims claims)
 
 pub lines_length : (lines : List Line) (claims : List ToldRange) → length (lines_with lines claims) ≡ length lines + length claims
 lines_length lines claims =
@@ -202,25 +202,25 @@ claims_length legacy palette = merged_length number_of (flat_map (part_lines Leg
 told_whole : (rs : List ToldRange) → AreFrom 0 rs → length rs ≤ 4096 → IsTold rs
 told_whole rs whole few = record { each = each_told 0 rs whole; order = in_order 0 rs whole; room = few }
 
-pub lines_told : (lines : List Line) (legacy palette : List LegacyBridge) → IsTold (ranges_of lines) → AreBySlot legacy → AreBySlot palette → length (lines_with lines (claim_lines legacy palette)) ≤ 4096
+pub lines_told : (lines : List Line) (legacy palette : List LegacyBridge) → IsTold (line_ranges lines) → AreBySlot legacy → AreBySlot palette → length (lines_with lines (claim_lines legacy palette)) ≤ 4096
     → IsTold (lines_with lines (claim_lines legacy palette))
 lines_told lines legacy palette told first second few =
     let first_from = bridges_from 0 Legacy legacy first.each first.order (λ d some. omega arith) in
     let second_from = bridges_from 0 Palette palette second.each second.order (λ d some. omega arith) in
     let claims_from = merged_from 0 (flat_map (part_lines Legacy) legacy) (flat_map (part_lines Palette) palette) first_from second_from in
-    let own_from = from_list 0 (ranges_of lines) told.each told.order (λ d some. omega arith) in
+    let own_from = from_list 0 (line_ranges lines) told.each told.order (λ d some. omega arith) in
     told_whole (lines_with lines (claim_lines legacy palette))
-    (subst (AreFrom 0) (sym (lines_are lines (claim_lines legacy palette))) (merged_from 0 (ranges_of lines) (claim_lines legacy palette) own_from claims_from)) few
+    (subst (AreFrom 0) (sym (lines_are lines (claim_lines legacy palette))) (merged_from 0 (line_ranges lines) (claim_lines legacy palette) own_from claims_from)) few
 
-pub own_told : (ranges : List ToldRange) (devices : List Line) → IsTold ranges → All IsToldRange (ranges_of devices) → IsNonDecreasingBy number_of (ranges_of devices) → length (own_lines ranges devices) ≤ 4096
-    → IsTold (ranges_of (own_lines ranges devices))
+pub own_told : (ranges : List ToldRange) (devices : List Line) → IsTold ranges → All IsToldRange (line_ranges devices) → IsNonDecreasingBy number_of (line_ranges devices) → length (own_lines ranges devices) ≤ 4096
+    → IsTold (line_ranges (own_lines ranges devices))
 own_told ranges devices told each order few =
     let user_from = told_from 0 1 ranges told.each told.order (λ d some. omega arith) in
-    let devices_from = from_list 0 (ranges_of devices) each order (λ d some. omega arith) in
+    let devices_from = from_list 0 (line_ranges devices) each order (λ d some. omega arith) in
     let size = length-map (own_lines ranges devices) (λ (l : Line). l.range) in
-    told_whole (ranges_of (own_lines ranges devices))
+    told_whole (line_ranges (own_lines ranges devices))
     (subst (AreFrom 0) (sym (map_merged (λ (l : Line). l.range) number_of (told_lines 1 ranges) devices))
-    (merged_from 0 (map (λ l. l.range) (told_lines 1 ranges)) (ranges_of devices) user_from devices_from)) (omega (arith, size, few))
+    (merged_from 0 (map (λ l. l.range) (told_lines 1 ranges)) (line_ranges devices) user_from devices_from)) (omega (arith, size, few))
 
 -- ---- room
 
@@ -289,7 +289,7 @@ own_many ranges ys many =
     let same = length-map ys line_value in
     omega (arith, size, same, many)
 
-pub devices_told : (ranges : List ToldRange) (ys out : List CodeLine) → IsTold ranges → AreToldInOrder ys → length ranges + length ys ≤ 4096 → map line_value out ≡ own_lines ranges (map line_value ys) → IsTold (ranges_in out)
+pub devices_told : (ranges : List ToldRange) (ys out : List CodeLine) → IsTold ranges → AreToldInOrder ys → length ranges + length ys ≤ 4096 → map line_value out ≡ own_lines ranges (map line_value ys) → IsTold (code_line_ranges out)
 devices_told ranges ys out told are few is =
-    subst IsTold (sym (ranges_of_lines out ∙ ap ranges_of is))
+    subst IsTold (sym (ranges_of_lines out ∙ ap line_ranges is))
     (own_told ranges (map line_value ys) told (subst (All IsToldRange) (ranges_of_lines ys) are.each) (subst (IsNonDecreasingBy number_of) (ranges_of_lines ys) are.order) (own_few ranges ys few))

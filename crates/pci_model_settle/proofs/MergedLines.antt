@@ -16,12 +16,12 @@ use Rattle.pci_claims.specs.Values.{legacy_value}
 use Rattle.pci_model_settle.specs.declared.claim_lines.Line.{Line as CodeLine}
 use Rattle.pci_model_settle.specs.declared.claim_lines.Origin.{Origin}
 use Rattle.pci_model_settle.specs.declared.claim_lines.Origin.TheVariants.{Bridge}
-use Rattle.pci_model_settle.specs.ClaimLines.{Kept, Line, claim_line, claim_lines, held, joined, kept_lines, line_key, lines_with, merged, own_lines, part_lines, port_lines, ports_of_kb, ranges_of, told_line_of, told_lines}
-use Rattle.pci_model_settle.specs.LineValues.{AddsClaims, is_next, kept_of, key_of, line_value, ranges_in}
+use Rattle.pci_model_settle.specs.ClaimLines.{LinesWithOrigins, Line, claim_line, claim_lines, held, joined, kept_lines, line_key, lines_with, merged_by_key, own_lines, part_lines, port_lines, ports_of_kb, line_ranges, told_line_of, told_lines}
+use Rattle.pci_model_settle.specs.LineValues.{AddsClaims, is_next, kept_code_lines, key_of, line_value, code_line_ranges}
 
 -- ---- two lists as one
 
-pub merged_none : {X : Type 0} (key : X → ℕ) (xs : List X) → merged key xs [] ≡ xs
+pub merged_none : {X : Type 0} (key : X → ℕ) (xs : List X) → merged_by_key key xs [] ≡ xs
 merged_none key [] = refl
 merged_none key (x ∷ xs) = refl
 
@@ -29,25 +29,25 @@ length_of_either : {X : Type 0} (t : Bool) (x y : X) (xs ys : List X) (n : ℕ) 
 length_of_either true x y xs ys n h k = ap suc h
 length_of_either false x y xs ys n h k = ap suc k
 
-pub merged_length : {X : Type 0} (key : X → ℕ) (xs ys : List X) → length (merged key xs ys) ≡ length xs + length ys
+pub merged_length : {X : Type 0} (key : X → ℕ) (xs ys : List X) → length (merged_by_key key xs ys) ≡ length xs + length ys
 merged_length key [] ys = omega arith
 merged_length key (x ∷ xs) [] = omega arith
 merged_length key (x ∷ xs) (y ∷ ys) =
     let second = merged_length key (x ∷ xs) ys in
-    let same : length (merged key (x ∷ xs) ys) ≡ length xs + suc (length ys) = omega (arith, second) in
+    let same : length (merged_by_key key (x ∷ xs) ys) ≡ length xs + suc (length ys) = omega (arith, second) in
     let e : suc (length xs + suc (length ys)) ≡ suc (length xs) + suc (length ys) = omega arith in
-    length_of_either (nat_le (key x) (key y)) x y (merged key xs (y ∷ ys)) (merged key (x ∷ xs) ys) (length xs + suc (length ys)) (merged_length key xs (y ∷ ys)) same ∙ e
+    length_of_either (nat_le (key x) (key y)) x y (merged_by_key key xs (y ∷ ys)) (merged_by_key key (x ∷ xs) ys) (length xs + suc (length ys)) (merged_length key xs (y ∷ ys)) same ∙ e
 
 map_of_either : {X Y : Type 0} (f : X → Y) (t : Bool) (x y : X) (xs ys : List X) (us vs : List Y) → map f xs ≡ us → map f ys ≡ vs
     → map f (if t then x ∷ xs else y ∷ ys) ≡ (if t then f x ∷ us else f y ∷ vs)
 map_of_either f true x y xs ys us vs h k = ap (λ zs. f x ∷ zs) h
 map_of_either f false x y xs ys us vs h k = ap (λ zs. f y ∷ zs) k
 
-pub map_merged : {X Y : Type 0} (f : X → Y) (key : Y → ℕ) (xs ys : List X) → map f (merged (λ x. key (f x)) xs ys) ≡ merged key (map f xs) (map f ys)
+pub map_merged : {X Y : Type 0} (f : X → Y) (key : Y → ℕ) (xs ys : List X) → map f (merged_by_key (λ x. key (f x)) xs ys) ≡ merged_by_key key (map f xs) (map f ys)
 map_merged f key [] ys = refl
 map_merged f key (x ∷ xs) [] = refl
 map_merged f key (x ∷ xs) (y ∷ ys) =
-    map_of_either f (nat_le (key (f x)) (key (f y))) x y (merged (λ z. key (f z)) xs (y ∷ ys)) (merged (λ z. key (f z)) (x ∷ xs) ys) _ _
+    map_of_either f (nat_le (key (f x)) (key (f y))) x y (merged_by_key (λ z. key (f z)) xs (y ∷ ys)) (merged_by_key (λ z. key (f z)) (x ∷ xs) ys) _ _
     (map_merged f key xs (y ∷ ys)) (map_merged f key (x ∷ xs) ys)
 
 -- ---- one line on
@@ -69,16 +69,16 @@ either_false : {X : Type 0} (t : Bool) (xs ys : List X) → t ≡ false → (if 
 either_false true xs ys h = absurd (both_ways _ h refl)
 either_false false xs ys h = refl
 
-next_is : (xs ys : List CodeLine) (d : CodeLine) → is_next xs ys ≡ true → 0 < length xs + length ys → merged key_of xs ys ≡ get_or xs 0 d ∷ merged key_of (drop 1 xs) ys
+next_is : (xs ys : List CodeLine) (d : CodeLine) → is_next xs ys ≡ true → 0 < length xs + length ys → merged_by_key key_of xs ys ≡ get_or xs 0 d ∷ merged_by_key key_of (drop 1 xs) ys
 next_is [] [] d next some = absurd (let no : ⊥ = omega (arith, some) in no)
 next_is [] (y ∷ ys) d next some = absurd (both_ways _ refl next)
 next_is (x ∷ xs) [] d next some = ap (λ zs. x ∷ zs) (sym (merged_none key_of xs))
-next_is (x ∷ xs) (y ∷ ys) d next some = either_true (nat_le (key_of x) (key_of y)) (x ∷ merged key_of xs (y ∷ ys)) (y ∷ merged key_of (x ∷ xs) ys) next
+next_is (x ∷ xs) (y ∷ ys) d next some = either_true (nat_le (key_of x) (key_of y)) (x ∷ merged_by_key key_of xs (y ∷ ys)) (y ∷ merged_by_key key_of (x ∷ xs) ys) next
 
-other_is : (xs ys : List CodeLine) (d : CodeLine) → is_next xs ys ≡ false → merged key_of xs ys ≡ get_or ys 0 d ∷ merged key_of xs (drop 1 ys)
+other_is : (xs ys : List CodeLine) (d : CodeLine) → is_next xs ys ≡ false → merged_by_key key_of xs ys ≡ get_or ys 0 d ∷ merged_by_key key_of xs (drop 1 ys)
 other_is xs [] d other = absurd (both_ways _ other refl)
 other_is [] (y ∷ ys) d other = refl
-other_is (x ∷ xs) (y ∷ ys) d other = either_false (nat_le (key_of x) (key_of y)) (x ∷ merged key_of xs (y ∷ ys)) (y ∷ merged key_of (x ∷ xs) ys) other
+other_is (x ∷ xs) (y ∷ ys) d other = either_false (nat_le (key_of x) (key_of y)) (x ∷ merged_by_key key_of xs (y ∷ ys)) (y ∷ merged_by_key key_of (x ∷ xs) ys) other
 
 pub next_of_rest : (xs ys : List CodeLine) (i j : ℕ) → is_next (take (length xs - i) (drop i xs)) (take (length ys - j) (drop j ys)) ≡ is_next (drop i xs) (drop j ys)
 next_of_rest xs ys i j = ap (λ zs. is_next zs (take (length ys - j) (drop j ys))) (take_rest xs i) ∙ ap (is_next (drop i xs)) (take_rest ys j)
@@ -90,20 +90,20 @@ pushed : {X : Type 0} (out out' rest more all : List X) (x : X) → out ++ rest 
 pushed out out' rest more all x h e p = ap (λ zs. zs ++ more) p ∙ append_assoc out (x ∷ []) more ∙ sym (ap (λ zs. out ++ zs) e) ∙ h
 
 pub first_pushed : (xs ys out out' all : List CodeLine) (i j : ℕ) (d : CodeLine) → is_next (drop i xs) (drop j ys) ≡ true → 0 < length (drop i xs) + length (drop j ys)
-    → out ++ merged key_of (drop i xs) (drop j ys) ≡ all → out' ≡ out ++ get_or xs i d ∷ [] → out' ++ merged key_of (drop (i + 1) xs) (drop j ys) ≡ all
+    → out ++ merged_by_key key_of (drop i xs) (drop j ys) ≡ all → out' ≡ out ++ get_or xs i d ∷ [] → out' ++ merged_by_key key_of (drop (i + 1) xs) (drop j ys) ≡ all
 first_pushed xs ys out out' all i j d next some h p =
-    pushed out out' (merged key_of (drop i xs) (drop j ys)) (merged key_of (drop (i + 1) xs) (drop j ys)) all (get_or xs i d) h
+    pushed out out' (merged_by_key key_of (drop i xs) (drop j ys)) (merged_by_key key_of (drop (i + 1) xs) (drop j ys)) all (get_or xs i d) h
     (next_is (drop i xs) (drop j ys) d next some
-    ∙ ap (λ x. x ∷ merged key_of (drop 1 (drop i xs)) (drop j ys)) (at_start xs i d)
-    ∙ ap (λ zs. get_or xs i d ∷ merged key_of zs (drop j ys)) (drop-drop 1 i xs)) p
+    ∙ ap (λ x. x ∷ merged_by_key key_of (drop 1 (drop i xs)) (drop j ys)) (at_start xs i d)
+    ∙ ap (λ zs. get_or xs i d ∷ merged_by_key key_of zs (drop j ys)) (drop-drop 1 i xs)) p
 
 pub second_pushed : (xs ys out out' all : List CodeLine) (i j : ℕ) (d : CodeLine) → is_next (drop i xs) (drop j ys) ≡ false
-    → out ++ merged key_of (drop i xs) (drop j ys) ≡ all → out' ≡ out ++ get_or ys j d ∷ [] → out' ++ merged key_of (drop i xs) (drop (j + 1) ys) ≡ all
+    → out ++ merged_by_key key_of (drop i xs) (drop j ys) ≡ all → out' ≡ out ++ get_or ys j d ∷ [] → out' ++ merged_by_key key_of (drop i xs) (drop (j + 1) ys) ≡ all
 second_pushed xs ys out out' all i j d other h p =
-    pushed out out' (merged key_of (drop i xs) (drop j ys)) (merged key_of (drop i xs) (drop (j + 1) ys)) all (get_or ys j d) h
+    pushed out out' (merged_by_key key_of (drop i xs) (drop j ys)) (merged_by_key key_of (drop i xs) (drop (j + 1) ys)) all (get_or ys j d) h
     (other_is (drop i xs) (drop j ys) d other
-    ∙ ap (λ x. x ∷ merged key_of (drop i xs) (drop 1 (drop j ys))) (at_start ys j d)
-    ∙ ap (λ zs. get_or ys j d ∷ merged key_of (drop i xs) zs) (drop-drop 1 j ys)) p
+    ∙ ap (λ x. x ∷ merged_by_key key_of (drop i xs) (drop 1 (drop j ys))) (at_start ys j d)
+    ∙ ap (λ zs. get_or ys j d ∷ merged_by_key key_of (drop i xs) zs) (drop-drop 1 j ys)) p
 
 -- ---- a user's lines
 
@@ -195,33 +195,33 @@ pub claims_size : (claims : List ToldRange) (xs : List CodeLine) → map line_va
 claims_size claims xs e = same_length line_value claim_line xs claims e
 
 pub claims_merged : (legacy palette : List spec.LegacyBridge) (xs ys out : List CodeLine) → map line_value xs ≡ map claim_line (flat_map (part_lines Legacy) legacy)
-    → map line_value ys ≡ map claim_line (flat_map (part_lines Palette) palette) → out ≡ merged key_of xs ys → map line_value out ≡ map claim_line (claim_lines legacy palette)
+    → map line_value ys ≡ map claim_line (flat_map (part_lines Palette) palette) → out ≡ merged_by_key key_of xs ys → map line_value out ≡ map claim_line (claim_lines legacy palette)
 claims_merged legacy palette xs ys out ex ey e =
     ap (map line_value) e ∙ map_merged line_value (λ (l : Line). slot_number l.range.slot) xs ys
-    ∙ ap (λ zs. merged (λ (l : Line). slot_number l.range.slot) zs (map line_value ys)) ex
-    ∙ ap (merged (λ (l : Line). slot_number l.range.slot) (map claim_line (flat_map (part_lines Legacy) legacy))) ey
+    ∙ ap (λ zs. merged_by_key (λ (l : Line). slot_number l.range.slot) zs (map line_value ys)) ex
+    ∙ ap (merged_by_key (λ (l : Line). slot_number l.range.slot) (map claim_line (flat_map (part_lines Legacy) legacy))) ey
     ∙ sym (map_merged claim_line (λ (l : Line). slot_number l.range.slot) (flat_map (part_lines Legacy) legacy) (flat_map (part_lines Palette) palette))
 
-pub joined_is : (claims : List ToldRange) (xs ys out : List CodeLine) → map line_value ys ≡ map claim_line claims → out ≡ merged key_of xs ys → map line_value out ≡ joined (map line_value xs) claims
-joined_is claims xs ys out ey e = ap (map line_value) e ∙ map_merged line_value line_key xs ys ∙ ap (merged line_key (map line_value xs)) ey
+pub joined_is : (claims : List ToldRange) (xs ys out : List CodeLine) → map line_value ys ≡ map claim_line claims → out ≡ merged_by_key key_of xs ys → map line_value out ≡ joined (map line_value xs) claims
+joined_is claims xs ys out ey e = ap (map line_value) e ∙ map_merged line_value line_key xs ys ∙ ap (merged_by_key line_key (map line_value xs)) ey
 
-pub own_is : (ranges : List ToldRange) (xs ys out : List CodeLine) → map line_value xs ≡ told_lines 1 ranges → out ≡ merged key_of xs ys → map line_value out ≡ own_lines ranges (map line_value ys)
-own_is ranges xs ys out ex e = ap (map line_value) e ∙ map_merged line_value line_key xs ys ∙ ap (λ zs. merged line_key zs (map line_value ys)) ex
+pub own_is : (ranges : List ToldRange) (xs ys out : List CodeLine) → map line_value xs ≡ told_lines 1 ranges → out ≡ merged_by_key key_of xs ys → map line_value out ≡ own_lines ranges (map line_value ys)
+own_is ranges xs ys out ex e = ap (map line_value) e ∙ map_merged line_value line_key xs ys ∙ ap (λ zs. merged_by_key line_key zs (map line_value ys)) ex
 
 map_twice : {X Y Z : Type 0} (f : X → Y) (g : Y → Z) (xs : List X) → map (λ x. g (f x)) xs ≡ map g (map f xs)
 map_twice f g [] = refl
 map_twice f g (x ∷ xs) = ap (λ zs. g (f x) ∷ zs) (map_twice f g xs)
 
-pub ranges_of_lines : (xs : List CodeLine) → ranges_in xs ≡ ranges_of (map line_value xs)
+pub ranges_of_lines : (xs : List CodeLine) → code_line_ranges xs ≡ line_ranges (map line_value xs)
 ranges_of_lines xs = map_twice line_value (λ (l : Line). l.range) xs
 
-pub ranges_are : (lines : List Line) (claims : List ToldRange) (out : List CodeLine) → map line_value out ≡ joined lines claims → ranges_in out ≡ lines_with lines claims
-ranges_are lines claims out e = ranges_of_lines out ∙ ap ranges_of e
+pub ranges_are : (lines : List Line) (claims : List ToldRange) (out : List CodeLine) → map line_value out ≡ joined lines claims → code_line_ranges out ≡ lines_with lines claims
+ranges_are lines claims out e = ranges_of_lines out ∙ ap line_ranges e
 
-abbrev kept : List ToldRange → List Origin → Kept
+abbrev kept : List ToldRange → List Origin → LinesWithOrigins
 kept told origins = record { told = told; origins = Bridge ∷ origins }
 
-pub kept_are : (lines : List Line) (claims : List ToldRange) (out : List CodeLine) → map line_value out ≡ joined lines claims → kept_of out ≡ kept_lines lines claims
+pub kept_are : (lines : List Line) (claims : List ToldRange) (out : List CodeLine) → map line_value out ≡ joined lines claims → kept_code_lines out ≡ kept_lines lines claims
 kept_are lines claims out e =
     ap (λ (told : List ToldRange). kept told (map (λ (l : CodeLine). (line_value l).origin) out)) (ranges_are lines claims out e)
     ∙ ap (λ (origins : List Origin). kept (lines_with lines claims) origins) (map_twice line_value (λ (l : Line). l.origin) out ∙ ap (map (λ (l : Line). l.origin)) e)

@@ -15,7 +15,7 @@ use Rattle.pci_claims.specs.declared.legacy.FixedPart.{FixedPart}
 use Rattle.pci_claims.specs.declared.legacy.FixedPart.TheVariants.{Legacy, Palette}
 use Rattle.pci_claims.specs.Legacy.{ArePorts, blocks_of, vga_low, vga_high, palette_low, palette_high, part_holds}
 use Rattle.pci_claims.proofs.Pieces.{no_ports, more_ports, pieces_of_palette, vga_pieces}
-use Rattle.pci_model_settle.specs.ClaimLines.{HasAddress, held, part_lines, port_lines}
+use Rattle.pci_model_settle.specs.ClaimLines.{HasRangeWithAddress, held, part_lines, port_lines}
 
 -- ---- some of a list
 
@@ -152,7 +152,7 @@ held_some Legacy b Memory a h =
 held_some Palette b Io a h = covering b.slot a palette_low palette_high (blocks_of b.is_wide) ((palette_ports b.is_wide a).1 h)
 held_some Palette b Memory a h = absurd (let no : false ≡ true = h in cc)
 
-pub addresses_of_part : (part : FixedPart) (b : LegacyBridge) (space : Space) (a : ℕ) → HasAddress (part_lines part b) space a ↔ IsTrue (part_holds part b.is_wide space a)
+pub addresses_of_part : (part : FixedPart) (b : LegacyBridge) (space : Space) (a : ℕ) → HasRangeWithAddress (part_lines part b) space a ↔ IsTrue (part_holds part b.is_wide space a)
 addresses_of_part part b space a = (
   λ h. some_held part b space a (from_any (λ r. Holds r space a) (part_lines part b) h),
   λ h. to_any (λ r. Holds r space a) (part_lines part b) (held_some part b space a h),

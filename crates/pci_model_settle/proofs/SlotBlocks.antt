@@ -11,7 +11,7 @@ use Rattle.pci_spec.specs.Slot.{Slot, IsRising, slot_number, same_slot}
 use Rattle.pci_spec.specs.Text.{Block, slots_of}
 use Rattle.pci_spec.specs.Machine.{Write}
 use Rattle.judge_spec.specs.Windows.{with_number}
-use Rattle.pci_model_settle.specs.Listed.{block_after, command_at}
+use Rattle.pci_model_settle.specs.Listed.{block_after, listed_command}
 
 rise : (blocks : List Block) → IsRising (slots_of blocks) → (i j : ℕ) (d : Block) → i < j → j < length blocks → slot_number (get_or blocks i d).slot < slot_number (get_or blocks j d).slot
 rise blocks dump i j d lt within =
@@ -51,30 +51,30 @@ other_slot s t other = elim (cases_Bool (same_slot s t)) [
 
 module _ (slot : Slot) where
   -- blocks of other slots have no Command there
-  none_there : (blocks : List Block) → ((k : ℕ) (d : Block) → k < length blocks → slot_number (get_or blocks k d).slot ≡ slot_number slot → ⊥) → command_at blocks slot ≡ 0
+  none_there : (blocks : List Block) → ((k : ℕ) (d : Block) → k < length blocks → slot_number (get_or blocks k d).slot ≡ slot_number slot → ⊥) → listed_command blocks slot ≡ 0
   none_there [] others = refl
   none_there (b ∷ blocks) others =
-      ap (λ same. if same then command b.image else command_at blocks slot) (other_slot b.slot slot (others 0 b (omega arith)))
+      ap (λ same. if same then command b.image else listed_command blocks slot) (other_slot b.slot slot (others 0 b (omega arith)))
       ∙ none_there blocks (λ k d less. others (suc k) d (omega (arith, less)))
 
   -- the block of an index, where those before it are of others, and those behind it
   at_index : (blocks : List Block) (n : ℕ) (b : Block) → n < length blocks → b ≡ get_or blocks n b
       → ((k : ℕ) (d : Block) → k < n → slot_number (get_or blocks k d).slot ≡ slot_number slot → ⊥)
       → ((k : ℕ) (d : Block) → n < k → k < length blocks → slot_number (get_or blocks k d).slot ≡ slot_number slot → ⊥)
-      → command_at blocks slot ≡ (if same_slot b.slot slot then command b.image else 0)
+      → listed_command blocks slot ≡ (if same_slot b.slot slot then command b.image else 0)
   at_index [] n b within is before after = absurd (let no : ⊥ = omega (arith, within) in no)
   at_index (c ∷ blocks) zero b within is before after =
       ap (λ rest. if same_slot c.slot slot then command c.image else rest) (none_there blocks (λ k d less. after (suc k) d (omega arith) (omega (arith, less))))
       ∙ ap (λ (x : Block). if same_slot x.slot slot then command x.image else 0) (sym is)
   at_index (c ∷ blocks) (suc n) b within is before after =
-      ap (λ same. if same then command c.image else command_at blocks slot) (other_slot c.slot slot (before 0 c (omega arith)))
+      ap (λ same. if same then command c.image else listed_command blocks slot) (other_slot c.slot slot (before 0 c (omega arith)))
       ∙ at_index blocks n b (omega (arith, within)) is (λ k d less. before (suc k) d (omega (arith, less))) (λ k d more less. after (suc k) d (omega (arith, more)) (omega (arith, less)))
 
   module _ (blocks : List Block) (dump : IsRising (slots_of blocks)) (n : ℕ) (before : AllWithin (λ b. slot_number b.slot < slot_number slot) blocks 0 n) (after : AllWithin (λ b. slot_number slot ≤ slot_number b.slot) blocks n (length blocks)) where
-    pub command_none : length blocks ≤ n → command_at blocks slot ≡ 0
+    pub command_none : length blocks ≤ n → listed_command blocks slot ≡ 0
     command_none past = none_there blocks (λ k d less e. let low = before k d (omega arith) (omega (arith, past, less)) in omega (arith, low, e))
 
-    pub command_there : (b : Block) → n < length blocks → b ≡ get_or blocks n b → command_at blocks slot ≡ (if same_slot b.slot slot then command b.image else 0)
+    pub command_there : (b : Block) → n < length blocks → b ≡ get_or blocks n b → listed_command blocks slot ≡ (if same_slot b.slot slot then command b.image else 0)
     command_there b within is =
         at_index blocks n b within is
         (λ k d less e. let low = before k d (omega arith) less in omega (arith, low, e))

@@ -46,8 +46,8 @@ part_lines Legacy b =
 part_lines Palette b = port_lines b.slot palette_low palette_high (blocks_of b.is_wide)
 
 -- one of some ranges has an address of a space
-abbrev pub HasAddress : List ToldRange → Space → ℕ → Type 0
-HasAddress ranges space a = Any (λ r. Holds r space a) ranges
+abbrev pub HasRangeWithAddress : List ToldRange → Space → ℕ → Type 0
+HasRangeWithAddress ranges space a = Any (λ r. Holds r space a) ranges
 
 -- bridges by slot, none of which is below the one before it
 pub record AreBySlot (bridges : List LegacyBridge) : Type 0 where
@@ -57,16 +57,16 @@ pub record AreBySlot (bridges : List LegacyBridge) : Type 0 where
 -- ---- in the order of slots
 
 -- Two lists by rising keys as one. Where keys are the same, what is of the first list stands first.
-abbrev pub merged : {X : Type 0} → (X → ℕ) → List X → List X → List X
-merged key [] ys = ys
-merged key (x ∷ xs) [] = x ∷ xs
-merged key (x ∷ xs) (y ∷ ys) =
-    if nat_le (key x) (key y) then x ∷ merged key xs (y ∷ ys) else y ∷ merged key (x ∷ xs) ys
+abbrev pub merged_by_key : {X : Type 0} → (X → ℕ) → List X → List X → List X
+merged_by_key key [] ys = ys
+merged_by_key key (x ∷ xs) [] = x ∷ xs
+merged_by_key key (x ∷ xs) (y ∷ ys) =
+    if nat_le (key x) (key y) then x ∷ merged_by_key key xs (y ∷ ys) else y ∷ merged_by_key key (x ∷ xs) ys
 
 -- the held ranges of bridges with legacy parts and of bridges with palette parts, by slot
 abbrev pub claim_lines : List LegacyBridge → List LegacyBridge → List ToldRange
 claim_lines legacy palette =
-    merged (λ r. slot_number r.slot) (flat_map (part_lines Legacy) legacy)
+    merged_by_key (λ r. slot_number r.slot) (flat_map (part_lines Legacy) legacy)
     (flat_map (part_lines Palette) palette)
 
 -- a range, and where it comes from: from a part of a bridge, from the user's line of a number, or from a device's register
@@ -91,31 +91,31 @@ line_key l = slot_number l.range.slot
 
 -- the user's lines with those of devices among them
 abbrev pub own_lines : List ToldRange → List Line → List Line
-own_lines ranges devices = merged line_key (told_lines 1 ranges) devices
+own_lines ranges devices = merged_by_key line_key (told_lines 1 ranges) devices
 
 -- lines with the held ranges of bridges among them
 abbrev pub joined : List Line → List ToldRange → List Line
-joined lines claims = merged line_key lines (map claim_line claims)
+joined lines claims = merged_by_key line_key lines (map claim_line claims)
 
-abbrev pub ranges_of : List Line → List ToldRange
-ranges_of lines = map (λ l. l.range) lines
+abbrev pub line_ranges : List Line → List ToldRange
+line_ranges lines = map (λ l. l.range) lines
 
 abbrev pub lines_with : List Line → List ToldRange → List ToldRange
-lines_with lines claims = ranges_of (joined lines claims)
+lines_with lines claims = line_ranges (joined lines claims)
 
 -- ---- where they come from
 
 -- ranges, and where each line of them comes from, from line 0 on, which is no line
-pub record Kept : Type 0 where
+pub record LinesWithOrigins : Type 0 where
   pub told : List ToldRange
   pub origins : List Origin
 
-abbrev pub kept_lines : List Line → List ToldRange → Kept
+abbrev pub kept_lines : List Line → List ToldRange → LinesWithOrigins
 kept_lines lines claims = record {
   told = lines_with lines claims;
   origins = Bridge ∷ map (λ l. l.origin) (joined lines claims);
 }
 
 -- where a line of these comes from: one that isn't there comes from no user and from no device
-abbrev pub origin_of : Kept → ℕ → Origin
+abbrev pub origin_of : LinesWithOrigins → ℕ → Origin
 origin_of kept line = slice_index_or kept.origins line Bridge

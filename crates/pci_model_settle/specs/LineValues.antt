@@ -9,7 +9,7 @@ use Rattle.pci_model_settle.specs.declared.claim_lines.Line.{Line as CodeLine}
 use Rattle.pci_model_settle.specs.declared.claim_lines.Origin.TheVariants.{Bridge}
 use Rattle.pci_model_settle.specs.declared.off_devices.Shown.{Shown}
 use Rattle.pci_model_settle.specs.OffDevices.{ShownPart}
-use Rattle.pci_model_settle.specs.ClaimLines.{Line, Kept, claim_line}
+use Rattle.pci_model_settle.specs.ClaimLines.{Line, LinesWithOrigins, claim_line}
 
 abbrev pub line_value : CodeLine → Line
 line_value l = record {
@@ -40,8 +40,8 @@ abbrev pub key_of : CodeLine → ℕ
 key_of l = slot_number l.slot
 
 -- the ranges of lines
-abbrev pub ranges_in : List CodeLine → List ToldRange
-ranges_in lines = map (λ l. (line_value l).range) lines
+abbrev pub code_line_ranges : List CodeLine → List ToldRange
+code_line_ranges lines = map (λ l. (line_value l).range) lines
 
 -- some lines are put behind others
 abbrev pub AddsLines : List CodeLine → List CodeLine → List Line → Type 0
@@ -59,9 +59,9 @@ is_next (x ∷ xs) (y ∷ ys) = nat_le (key_of x) (key_of y)
 
 -- their ranges can be told one by one, and stand in the order of slots
 pub record AreToldInOrder (lines : List CodeLine) : Type 0 where
-  pub each : All IsToldRange (ranges_in lines)
-  pub order : AreInSlotOrder (ranges_in lines)
+  pub each : All IsToldRange (code_line_ranges lines)
+  pub order : AreInSlotOrder (code_line_ranges lines)
 
 -- lines as they are kept
-abbrev pub kept_of : List CodeLine → Kept
-kept_of lines = record { told = ranges_in lines; origins = Bridge ∷ map (λ l. l.origin) lines }
+abbrev pub kept_code_lines : List CodeLine → LinesWithOrigins
+kept_code_lines lines = record { told = code_line_ranges lines; origins = Bridge ∷ map (λ l. l.origin) lines }

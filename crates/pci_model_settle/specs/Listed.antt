@@ -8,14 +8,14 @@ use Rattle.pci_spec.specs.Machine.{Write}
 use Rattle.judge_spec.specs.Windows.{with_number}
 
 -- Command of the function at a slot; 0 where none is there
-abbrev pub command_at : List Block → Slot → ℕ
-command_at [] slot = 0
-command_at (b ∷ blocks) slot = if same_slot b.slot slot then command b.image else command_at blocks slot
+abbrev pub listed_command : List Block → Slot → ℕ
+listed_command [] slot = 0
+listed_command (b ∷ blocks) slot = if same_slot b.slot slot then command b.image else listed_command blocks slot
 
 -- A write of Command sets its bits 0 and 1, and leaves all others as the dump has them (PCI 3.0, 6.2.2).
 abbrev pub listed_write : List Block → Write → Write
 listed_write blocks w =
-    if w.offset == COMMAND then record w { value = command_at blocks w.slot / 4 * 4 + w.value % 4 }
+    if w.offset == COMMAND then record w { value = listed_command blocks w.slot / 4 * 4 + w.value % 4 }
     else w
 
 -- a function's block after a write

@@ -92,8 +92,8 @@ abbrev pub is_prefetchable_in : Space → Bool → Bool
 is_prefetchable_in Io prefetchable = false
 is_prefetchable_in Memory prefetchable = prefetchable
 
-abbrev pub shown_bar : Slot → DecodedBar → ShownPart
-shown_bar slot bar = record {
+abbrev pub shown_bar_part : Slot → DecodedBar → ShownPart
+shown_bar_part slot bar = record {
   slot = slot;
   register = bar.register;
   space = kind_space bar.kind;
@@ -111,7 +111,7 @@ shown_rom slot (Some rom) =
 
 -- the parts of a device, in the order of their registers
 abbrev pub shown_parts : Record → List ShownPart
-shown_parts r = map (shown_bar r.slot) r.bars ++ shown_rom r.slot r.rom
+shown_parts r = map (shown_bar_part r.slot) r.bars ++ shown_rom r.slot r.rom
 
 -- what is told of a function at one of some slots
 abbrev pub lines_of : List Slot → Record → List Line

@@ -11,8 +11,8 @@ ghost use Rattle.judge_spec.specs.Words.{VgaWord as WordValue, legacy_bridges, p
 ghost use Rattle.pci_claims.specs.Values.{legacy_value};
 ghost use Rattle.pci_claims.specs.declared.legacy.FixedPart.{FixedPart as FixedPartValue};
 ghost use Rattle.pci_claims.specs.Legacy.{blocks_of, part_holds};
-ghost use Rattle.pci_model_settle.specs.ClaimLines.{AreBySlot, HasAddress, claim_line, claim_lines, held, joined, kept_lines, lines_with, merged, origin_of, own_lines, part_lines, port_lines, told_line_of, told_lines};
-ghost use Rattle.pci_model_settle.specs.LineValues.{AddsClaims, AreToldInOrder, is_next, kept_of, key_of, line_value, ranges_in};
+ghost use Rattle.pci_model_settle.specs.ClaimLines.{AreBySlot, HasRangeWithAddress, claim_line, claim_lines, held, joined, kept_lines, lines_with, merged_by_key, origin_of, own_lines, part_lines, port_lines, told_line_of, told_lines};
+ghost use Rattle.pci_model_settle.specs.LineValues.{AddsClaims, AreToldInOrder, is_next, kept_code_lines, key_of, line_value, code_line_ranges};
 
 use arrayvec::ArrayVec;
 use pci_base::memory::{OutOfMemory, Refused};
@@ -101,9 +101,9 @@ pub struct KeptLines<A: Allocator> {
 }
 
 impl<A: Allocator> Model for KeptLines<A> {
-    ghost use Rattle.pci_model_settle.specs.ClaimLines.{Kept};
+    ghost use Rattle.pci_model_settle.specs.ClaimLines.{LinesWithOrigins};
 
-    ghost Value = { Kept };
+    ghost Value = { LinesWithOrigins };
 
     ghost view = { λ k. record { told = k.told; origins = k.origins.items } };
 }
@@ -278,7 +278,7 @@ fn merged<A: Allocator>(
     second: &[Line],
 ) -> Result<Vec<Line, A>, OutOfMemory>
     requires { length first.now + length second.now ≤ 4096 }
-    ensures { IfOk result (λ v. v.items ≡ merged key_of first.now second.now) }
+    ensures { IfOk result (λ v. v.items ≡ merged_by_key key_of first.now second.now) }
 {
     let mut out = Vec::new(alloc);
     let (mut i, mut j) = (0, 0);
@@ -327,8 +327,8 @@ fn is_room(lines: u64, legacy: &[LegacyBridge], palette: &[LegacyBridge]) -> boo
 
 /// The ranges of lines, and where they come from.
 fn kept<A: Allocator + Copy>(alloc: A, lines: &[Line]) -> Result<KeptLines<A>, OutOfMemory>
-    requires { IsTold (ranges_in lines.now) }
-    ensures { IfOk result (λ k. k ≡ kept_of lines.now) }
+    requires { IsTold (code_line_ranges lines.now) }
+    ensures { IfOk result (λ k. k ≡ kept_code_lines lines.now) }
 {
     let mut ranges = Vec::new(alloc);
     let mut origins = Vec::new(alloc);
@@ -375,7 +375,7 @@ pub fn lines_with_devices<A: Allocator + Copy>(
     // so that the list is in the order of slots, too
     requires devices { AreToldInOrder devices.now }
     ensures lines { IfOk result (λ v. map line_value v.items ≡ own_lines ranges.now (map line_value devices.now)) }
-    ensures can_be_told { IfOk result (λ v. IsTold (ranges_in v.items)) }
+    ensures can_be_told { IfOk result (λ v. IsTold (code_line_ranges v.items)) }
     // both ways: lines that are no more are refused for want of memory alone
     ensures fault { (result ≡ Err (Refused.Fault (record {})))
         ↔ 4096 < length (own_lines ranges.now (map line_value devices.now)) }
@@ -404,7 +404,7 @@ pub fn lines_with_claims<A: Allocator + Copy>(
     legacy: &[LegacyBridge],
     palette: &[LegacyBridge],
 ) -> Result<KeptLines<A>, Refused<TooManyLines>>
-    requires told { IsTold (ranges_in lines.now) }
+    requires told { IsTold (code_line_ranges lines.now) }
     // so that the list is in the order of slots, too
     requires legacy { AreBySlot (map legacy_value legacy.now) }
     requires palette { AreBySlot (map legacy_value palette.now) }
@@ -431,7 +431,7 @@ pub fn lines_with_claims<A: Allocator + Copy>(
 /// Laws of held ranges: one of a part's has an address just where the part has it; and the bridges of a system stand by slot.
 pub fn claim_line_laws()
     ensures addresses { (part : FixedPartValue) (bridge : BridgeValue) (space : SpaceValue) (a : ℕ)
-        → HasAddress (part_lines part bridge) space a ↔ IsTrue (part_holds part bridge.is_wide space a) }
+        → HasRangeWithAddress (part_lines part bridge) space a ↔ IsTrue (part_holds part bridge.is_wide space a) }
     ensures legacy { (word : WordValue) (s : System) → IsSystem s → AreBySlot (legacy_bridges word s) }
     ensures palette { (word : Option WordValue) (s : System) → IsSystem s → AreBySlot (palette_bridges word s) }
 {}

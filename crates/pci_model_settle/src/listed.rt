@@ -5,7 +5,7 @@ ghost use Rattle.pci_spec.specs.Slot.{IsRising, slot_number};
 ghost use Rattle.pci_spec.specs.Text.{IsDump, slots_of};
 ghost use Rattle.judge_spec.specs.Windows.{with_number};
 ghost use Rattle.pci_plan.specs.Writes.{write_value};
-ghost use Rattle.pci_model_settle.specs.Listed.{block_after, blocks_after, command_at, listed_write};
+ghost use Rattle.pci_model_settle.specs.Listed.{block_after, blocks_after, listed_command, listed_write};
 
 use pci_base::image::{IMAGE_LEN, Image};
 use pci_base::memory::OutOfMemory;
@@ -32,7 +32,7 @@ fn first_not_below(blocks: &[Block], slot: Slot) -> usize
 fn command_at(blocks: &[Block], slot: Slot) -> u16
     // its block is found by halving
     requires { IsDump blocks.now }
-    ensures { result ≡ command_at blocks.now slot }
+    ensures { result ≡ listed_command blocks.now slot }
 {
     let index = first_not_below(blocks, slot);
     if index == blocks.len() {

@@ -10,7 +10,7 @@ ghost use Rattle.pci_image.specs.Bars.{decoded_bar_of};
 ghost use Rattle.pci_image.specs.Roms.{decoded_rom_of};
 ghost use Rattle.std.specs.Option.{option_map};
 ghost use Rattle.pci_model_settle.specs.LineValues.{AddsLines, AreToldInOrder, line_value, shown_value};
-ghost use Rattle.pci_model_settle.specs.OffDevices.{block_without, blocks_without, device_lines, is_left_out, is_off_device, left_out, lines_of, lines_of_part, part_line, shown_bar, shown_parts, shown_rom};
+ghost use Rattle.pci_model_settle.specs.OffDevices.{block_without, blocks_without, device_lines, is_left_out, is_off_device, left_out, lines_of, lines_of_part, part_line, shown_bar_part, shown_parts, shown_rom};
 ghost use Rattle.pci_model_settle.specs.SleepTables.{IsSlotTable};
 
 use crate::claim_lines::{Line, Origin};
@@ -135,7 +135,7 @@ struct Shown {
 
 /// What a BAR shows.
 fn shown_bar(slot: Slot, bar: Bar) -> Shown
-    ensures { shown_value result ≡ shown_bar slot (decoded_bar_of bar) }
+    ensures { shown_value result ≡ shown_bar_part slot (decoded_bar_of bar) }
 {
     let space = bar.kind.space();
     Shown {

@@ -5,21 +5,21 @@ use Rattle.std.proofs.lemmas.Bool.{eqb-true}
 use Rattle.pci_number.specs.Access.{IsByteRead, IsByteWritten}
 use Rattle.pci_number.specs.Board.{Board}
 use Rattle.pci_spec.specs.Slot.{Slot}
-use Rattle.pci_number.specs.Logs.{TrueLog, AreTrueFrom, IsTrueOf, accesses_then, board_then, boards_stood, is_a_write, is_same, is_write, last_made, last_then, slot_of, stood_then, write_of, writes_made, writes_then}
+use Rattle.pci_number.specs.Logs.{TrueLog, AreTrueFrom, IsAccessTrueOf, accesses_then, board_then, boards_stood, is_a_write, is_same, is_write, last_made, last_then, slot_of_access, stood_then, write_of_access, writes_made, writes_then}
 use Rattle.pci_number.specs.Stops.{number_write}
 use Rattle.pci_number.specs.declared.access.Access.{Access}
 
 true_from : (boards : ℕ → Board) (n : ℕ) (log : List Access) → AreTrueFrom boards n log → (k : ℕ) (a : Access) → slice_get log k ≡ Some a
-    → IsTrueOf (boards (n + k)) a (boards (suc (n + k)))
+    → IsAccessTrueOf (boards (n + k)) a (boards (suc (n + k)))
 true_from boards n [] are k a e = absurd (let no : ⊥ = cc in no)
 true_from boards n (b ∷ log) are zero a e =
-    subst (λ m. IsTrueOf (boards m) a (boards (suc m))) (let same : n ≡ n + 0 = omega arith in same)
-    (subst (λ x. IsTrueOf (boards n) x (boards (suc n))) (let same : b ≡ a = cc in same) are.0)
+    subst (λ m. IsAccessTrueOf (boards m) a (boards (suc m))) (let same : n ≡ n + 0 = omega arith in same)
+    (subst (λ x. IsAccessTrueOf (boards n) x (boards (suc n))) (let same : b ≡ a = cc in same) are.0)
 true_from boards n (b ∷ log) are (suc k) a e =
-    subst (λ m. IsTrueOf (boards m) a (boards (suc m))) (let same : suc n + k ≡ n + suc k = omega arith in same) (true_from boards (suc n) log are.1 k a e)
+    subst (λ m. IsAccessTrueOf (boards m) a (boards (suc m))) (let same : suc n + k ≡ n + suc k = omega arith in same) (true_from boards (suc n) log are.1 k a e)
 
-true_at : (world : TrueLog) (k : ℕ) (a : Access) → slice_get world.log k ≡ Some a → IsTrueOf (world.boards k) a (world.boards (suc k))
-true_at world k a e = subst (λ m. IsTrueOf (world.boards m) a (world.boards (suc m))) (let same : 0 + k ≡ k = omega arith in same) (true_from world.boards 0 world.log world.are_true k a e)
+true_at : (world : TrueLog) (k : ℕ) (a : Access) → slice_get world.log k ≡ Some a → IsAccessTrueOf (world.boards k) a (world.boards (suc k))
+true_at world k a e = subst (λ m. IsAccessTrueOf (world.boards m) a (world.boards (suc m))) (let same : 0 + k ≡ k = omega arith in same) (true_from world.boards 0 world.log world.are_true k a e)
 
 -- ---- the access at a place of the log
 
@@ -29,12 +29,12 @@ pub stands : (world : TrueLog) (log : List Access) (k : ℕ) (here : Option Acce
 stands world log k here a same there is = ap (λ l. slice_get l k) (sym same) ∙ sym there ∙ is
 
 pub record IsRead (a : Access) (s : Slot) (offset : ℕ) : Type 0 where
-  pub slot : slot_of a ≡ s
+  pub slot : slot_of_access a ≡ s
   pub byte : a.offset ≡ offset
   pub kind : a.kind ≡ 0
 
 pub record IsWritten (a : Access) (s : Slot) (offset value : ℕ) : Type 0 where
-  pub slot : slot_of a ≡ s
+  pub slot : slot_of_access a ≡ s
   pub byte : a.offset ≡ offset
   pub kind : a.kind ≡ 1
   pub number : a.value ≡ value
@@ -78,14 +78,14 @@ module _ (a wanted : Access) (same : is_same a wanted ≡ true) where
   of_value : (wanted.kind == 0 || a.value == wanted.value) ≡ true
   of_value = parts.4
 
-  at_slot : (s : Slot) → slot_of wanted ≡ s → slot_of a ≡ s
+  at_slot : (s : Slot) → slot_of_access wanted ≡ s → slot_of_access a ≡ s
   at_slot s is = ap (λ (n : ℕ). let made : Slot = record { bus = n; device = a.place / 8; function = a.place % 8 } in made) at_bus
       ∙ ap (λ (n : ℕ). let made : Slot = record { bus = wanted.bus; device = n / 8; function = n % 8 } in made) at_place ∙ is
 
-  pub read_again : (s : Slot) (offset : ℕ) → slot_of wanted ≡ s → wanted.offset ≡ offset → wanted.kind ≡ 0 → IsRead a s offset
+  pub read_again : (s : Slot) (offset : ℕ) → slot_of_access wanted ≡ s → wanted.offset ≡ offset → wanted.kind ≡ 0 → IsRead a s offset
   read_again s offset slot byte kind = record { slot = at_slot s slot; byte = at_offset ∙ byte; kind = of_kind ∙ kind }
 
-  pub written_again : (s : Slot) (offset value : ℕ) → slot_of wanted ≡ s → wanted.offset ≡ offset → wanted.kind ≡ 1 → wanted.value ≡ value
+  pub written_again : (s : Slot) (offset value : ℕ) → slot_of_access wanted ≡ s → wanted.offset ≡ offset → wanted.kind ≡ 1 → wanted.value ≡ value
       → IsWritten a s offset value
   written_again s offset value slot byte kind number =
       record { slot = at_slot s slot; byte = at_offset ∙ byte; kind = of_kind ∙ kind; number = one_value wanted.kind a.value wanted.value kind of_value ∙ number }
@@ -106,7 +106,7 @@ module _ (world : TrueLog) (k : ℕ) (a : Access) (there : slice_get world.log k
     pub byte_read : IsByteRead (world.boards k) s offset a.value
     byte_read =
         subst (λ x. IsByteRead (world.boards k) x offset a.value) is.slot
-        (subst (λ n. IsByteRead (world.boards k) (slot_of a) n a.value) is.byte ((true_at world k a there).shown (no_write a is.kind)))
+        (subst (λ n. IsByteRead (world.boards k) (slot_of_access a) n a.value) is.byte ((true_at world k a there).shown (no_write a is.kind)))
 
     pub board_stays : world.boards (k + 1) ≡ world.boards k
     board_stays = ap world.boards (sym is_next) ∙ (true_at world k a there).same (no_write a is.kind)
@@ -118,7 +118,7 @@ module _ (world : TrueLog) (k : ℕ) (a : Access) (there : slice_get world.log k
     none_stood = ap (boards_stood world) (sym is_next) ∙ ap (λ b. cond b (world.boards (suc k) ∷ boards_stood world k) (boards_stood world k)) reads_here
 
     pub none_last : last_made world.log (k + 1) ≡ last_made world.log k
-    none_last = ap (last_made world.log) (sym is_next) ∙ ap (λ b. cond b (write_of (slice_get world.log k)) (last_made world.log k)) reads_here
+    none_last = ap (last_made world.log) (sym is_next) ∙ ap (λ b. cond b (write_of_access (slice_get world.log k)) (last_made world.log k)) reads_here
 
     pub none_made : writes_made world.log (k + 1) ≡ writes_made world.log k
     none_made = ap (writes_made world.log) (sym is_next) ∙ ap (λ b. cond b (writes_made world.log k + 1) (writes_made world.log k)) reads_here
@@ -130,7 +130,7 @@ module _ (world : TrueLog) (k : ℕ) (a : Access) (there : slice_get world.log k
     byte_written =
         subst (λ m. IsByteWritten (world.boards k) s offset (world.boards m)) is_next
         (subst (λ x. IsByteWritten (world.boards k) x offset (world.boards (suc k))) is.slot
-        (subst (λ n. IsByteWritten (world.boards k) (slot_of a) n (world.boards (suc k))) is.byte ((true_at world k a there).written (one_write a is.kind))))
+        (subst (λ n. IsByteWritten (world.boards k) (slot_of_access a) n (world.boards (suc k))) is.byte ((true_at world k a there).written (one_write a is.kind))))
 
     is_one : is_a_write (slice_get world.log k) ≡ true
     is_one = ap is_a_write there ∙ one_write a is.kind
@@ -142,7 +142,7 @@ module _ (world : TrueLog) (k : ℕ) (a : Access) (there : slice_get world.log k
 
     pub one_last : last_made world.log (k + 1) ≡ Some (number_write s offset value)
     one_last =
-        ap (last_made world.log) (sym is_next) ∙ ap (λ b. cond b (write_of (slice_get world.log k)) (last_made world.log k)) is_one ∙ ap write_of there
+        ap (last_made world.log) (sym is_next) ∙ ap (λ b. cond b (write_of_access (slice_get world.log k)) (last_made world.log k)) is_one ∙ ap write_of_access there
         ∙ ap (λ (x : Slot). Some (number_write x a.offset a.value)) is.slot ∙ ap (λ n. Some (number_write s n a.value)) is.byte ∙ ap (λ n. Some (number_write s offset n)) is.number
 
     pub one_made : writes_made world.log (k + 1) ≡ writes_made world.log k + 1

@@ -6,7 +6,7 @@ use Rattle.pci_number.specs.Accesses.{most_accesses}
 use Rattle.pci_number.specs.Answer.{AnswersWhereReady, Keeps}
 use Rattle.pci_number.specs.Access.{nodes_behind}
 use Rattle.pci_number.specs.Few.{IsFew}
-use Rattle.pci_number.specs.Logs.{TrueLog, accesses_then, board_then, is_access, is_new, last_then, stood_then, writes_then}
+use Rattle.pci_number.specs.Logs.{TrueLog, accesses_then, board_then, is_read_or_write, is_new, last_then, stood_then, writes_then}
 use Rattle.pci_number.specs.Numberings.{IsSteppedTo}
 use Rattle.pci_number.specs.Ready.{IsReady}
 use Rattle.pci_number.specs.Single.{IsSingleThroughout, ClosedOrStopped, EndsSingle}
@@ -22,7 +22,7 @@ use Rattle.pci_number.specs.declared.stop.Stop.TheVariants.{Port, Stuck}
 -- what numbering has left of a port that answers by a log
 pub record IsReplayed (world : TrueLog) (root last spare : ℕ) (at : ℕ) (next : Option Access) (outcome : Result Numbering Stop) : Type 0 where
   pub within : at ≤ length world.log
-  pub kinds : is_access next ≡ true
+  pub kinds : is_read_or_write next ≡ true
   pub new : is_new (slice_get world.log at) next ≡ true
   pub answer : IfOk outcome (λ numbering. AnswersWhereReady spare (world.boards 0) root last numbering (board_then world at next))
   pub kept : Keeps (world.boards 0) root last (board_then world at next)

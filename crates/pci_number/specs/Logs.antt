@@ -9,23 +9,23 @@ use Rattle.pci_number.specs.Stops.{number_write}
 use Rattle.pci_number.specs.declared.access.Access.{Access}
 
 -- the slot of a bus and a place: eight times the device, and the function
-abbrev pub slot_of : Access → Slot
-slot_of a = record { bus = a.bus; device = a.place / 8; function = a.place % 8 }
+abbrev pub slot_of_access : Access → Slot
+slot_of_access a = record { bus = a.bus; device = a.place / 8; function = a.place % 8 }
 
 -- an access of the kind 1 is a write, any other one a read
 abbrev pub is_write : Access → Bool
 is_write a = a.kind == 1
 
 -- what an access shows of the board before it, and what it leaves
-pub record IsTrueOf (before : Board) (a : Access) (after : Board) : Type 0 where
-  pub shown : is_write a ≡ false → IsByteRead before (slot_of a) a.offset a.value
+pub record IsAccessTrueOf (before : Board) (a : Access) (after : Board) : Type 0 where
+  pub shown : is_write a ≡ false → IsByteRead before (slot_of_access a) a.offset a.value
   pub same : is_write a ≡ false → after ≡ before
-  pub written : is_write a ≡ true → IsByteWritten before (slot_of a) a.offset after
+  pub written : is_write a ≡ true → IsByteWritten before (slot_of_access a) a.offset after
 
 -- each access of a log is true of the board before it and the one after it, from the n-th board on
 abbrev pub AreTrueFrom : (ℕ → Board) → ℕ → List Access → Type 0
 AreTrueFrom boards n [] = Unit {0}
-AreTrueFrom boards n (a ∷ log) = IsTrueOf (boards n) a (boards (suc n)) × AreTrueFrom boards (suc n) log
+AreTrueFrom boards n (a ∷ log) = IsAccessTrueOf (boards n) a (boards (suc n)) × AreTrueFrom boards (suc n) log
 
 -- A log, the boards that stood before each of its accesses and after the last one, and what one write more leaves of each.
 pub record TrueLog : Type 0 where
@@ -47,9 +47,9 @@ no_log =
     }
 
 -- an access that is wanted is a read or a write
-abbrev pub is_access : Option Access → Bool
-is_access None = true
-is_access (Some a) = nat_le a.kind 1
+abbrev pub is_read_or_write : Option Access → Bool
+is_read_or_write None = true
+is_read_or_write (Some a) = nat_le a.kind 1
 
 -- an access of a log is the one that is wanted; of a read it doesn't count what it showed
 abbrev pub is_same : Access → Access → Bool
@@ -69,9 +69,9 @@ abbrev pub is_a_write : Option Access → Bool
 is_a_write None = false
 is_a_write (Some a) = is_write a
 
-abbrev pub write_of : Option Access → Option Write
-write_of None = None
-write_of (Some a) = Some (number_write (slot_of a) a.offset a.value)
+abbrev pub write_of_access : Option Access → Option Write
+write_of_access None = None
+write_of_access (Some a) = Some (number_write (slot_of_access a) a.offset a.value)
 
 -- how many writes they are
 abbrev pub writes_made : List Access → ℕ → ℕ
@@ -81,7 +81,7 @@ writes_made log (suc n) = if is_a_write (slice_get log n) then writes_made log n
 -- the last write
 abbrev pub last_made : List Access → ℕ → Option Write
 last_made log zero = None
-last_made log (suc n) = if is_a_write (slice_get log n) then write_of (slice_get log n) else last_made log n
+last_made log (suc n) = if is_a_write (slice_get log n) then write_of_access (slice_get log n) else last_made log n
 
 -- the boards that stood after each write, the last one first
 abbrev pub boards_stood : TrueLog → ℕ → List Board
@@ -93,13 +93,13 @@ boards_stood world (suc n) =
 
 abbrev pub board_then : TrueLog → ℕ → Option Access → Board
 board_then world n None = world.boards n
-board_then world n (Some a) = if is_write a then world.left_by n (slot_of a) a.offset a.value else world.boards n
+board_then world n (Some a) = if is_write a then world.left_by n (slot_of_access a) a.offset a.value else world.boards n
 
 abbrev pub stood_then : TrueLog → ℕ → Option Access → List Board
 stood_then world n wanted = if is_a_write wanted then board_then world n wanted ∷ boards_stood world n else boards_stood world n
 
 abbrev pub last_then : List Access → ℕ → Option Access → Option Write
-last_then log n wanted = if is_a_write wanted then write_of wanted else last_made log n
+last_then log n wanted = if is_a_write wanted then write_of_access wanted else last_made log n
 
 abbrev pub writes_then : List Access → ℕ → Option Access → ℕ
 writes_then log n wanted = if is_a_write wanted then writes_made log n + 1 else writes_made log n

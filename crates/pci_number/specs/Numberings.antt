@@ -12,7 +12,7 @@ use Rattle.pci_number.specs.declared.access.Stepped.{Stepped}
 use Rattle.pci_number.specs.Answer.{AnswersWhereReady, Keeps}
 use Rattle.pci_number.specs.Few.{IsFew}
 use Rattle.pci_number.specs.Accesses.{most_accesses}
-use Rattle.pci_number.specs.Logs.{TrueLog, accesses_then, board_then, is_access, is_new, last_made, stood_then, writes_then}
+use Rattle.pci_number.specs.Logs.{TrueLog, accesses_then, board_then, is_read_or_write, is_new, last_made, stood_then, writes_then}
 use Rattle.pci_number.specs.Single.{IsSingleThroughout, EndsSingle}
 use Rattle.pci_number.specs.Stood.{board_moment}
 use Rattle.pci_number.specs.Stops.{IsNumberingStop}
@@ -34,7 +34,7 @@ asked_by (Stuck told) = None
 pub record IsSteppedTo (world : TrueLog) (root last spare : ℕ) (stepped : Stepped) : Type 0 where
   pub within : stepped.used ≤ length world.log
   -- an access that is asked for is a read or a write, and the log ends there, or has another one
-  pub asked : is_access (asked_by stepped.step) ≡ true
+  pub asked : is_read_or_write (asked_by stepped.step) ≡ true
   pub new : is_new (slice_get world.log stepped.used) (asked_by stepped.step) ≡ true
   -- at the end the bridges have their numbers, or the first one without a number is named
   pub answer : IfOk (outcome_of stepped.step)

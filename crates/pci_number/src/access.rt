@@ -1,6 +1,6 @@
 //! One access of a numbering, as a log has it.
 ghost use Rattle.std.specs.Prelude.{◌≡◌, ◌+◌, ◌*◌, ◌==◌, ◌&&◌};
-ghost use Rattle.pci_number.specs.Logs.{is_same, slot_of};
+ghost use Rattle.pci_number.specs.Logs.{is_same, slot_of_access};
 
 use crate::number::Numbering;
 use crate::stop::NotTaken;
@@ -48,7 +48,7 @@ pub struct Stepped {
 impl Access {
     /// An access to a function's byte.
     pub fn to(slot: Slot, offset: u8, kind: u8, value: u8) -> Access
-        ensures slot { slot_of result ≡ slot }
+        ensures slot { slot_of_access result ≡ slot }
         ensures offset { result.offset ≡ offset }
         ensures kind { result.kind ≡ kind }
         ensures value { result.value ≡ value }

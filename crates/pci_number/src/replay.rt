@@ -2,7 +2,7 @@
 //! showed it follows which one is the next.
 ghost use Rattle.std.specs.Prelude.{◌≡◌, ◌≤◌, true, nat_lt, is_some, length};
 ghost use Rattle.std.specs.List.{slice_get};
-ghost use Rattle.pci_number.specs.Logs.{TrueLog, no_log, is_access, is_new};
+ghost use Rattle.pci_number.specs.Logs.{TrueLog, no_log, is_read_or_write, is_new};
 ghost use Rattle.pci_number.specs.Numberings.{IsSteppedTo};
 
 use crate::access::{Access, READ, Step, Stepped, WRITE};
@@ -39,7 +39,7 @@ struct Replay<'a, W: World> {
     ghost within: { at ≤ length log.now },
     // an access fails only once one is wanted
     ghost wants: { nat_lt 0 failed.count ≡ true → is_some next ≡ true },
-    ghost kinds: { is_access next ≡ true },
+    ghost kinds: { is_read_or_write next ≡ true },
     ghost new: { is_new (slice_get log.now at) next ≡ true },
 }
 

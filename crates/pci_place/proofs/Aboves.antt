@@ -18,7 +18,7 @@ use Rattle.pci_tree.proofs.Lifting.{same_bridge}
 use Rattle.pci_tree.proofs.RegionParts.{same_bridge_of}
 use Rattle.pci_place.specs.declared.above.Above.{Above}
 use Rattle.pci_place.specs.Above.{IsAbove, AreAboves, is_wide_in}
-use Rattle.pci_place.specs.Records.{IsRecordOf}
+use Rattle.pci_place.specs.Records.{IsRecordInSystem}
 use Rattle.pci_place.proofs.BusTables.{AreTo, none_yet, of_bus, same_after, put_after, whole_table}
 
 -- below no bridge
@@ -55,7 +55,7 @@ abbrev pub AreAbovesTo : List ℕ → System → ℕ → List Above → Type 0
 AreAbovesTo roots s k aboves = AreTo (IsAbove s) roots s k aboves
 
 -- the bus behind a bridge has a place in the table
-pub secondary_small : (s : System) → IsSystem s → (f : Function) (r : Record) (bridge : Bridge) → IsRecordOf s f r → r.bridge ≡ Some bridge → bridge.secondary < 256
+pub secondary_small : (s : System) → IsSystem s → (f : Function) (r : Record) (bridge : Bridge) → IsRecordInSystem s f r → r.bridge ≡ Some bridge → bridge.secondary < 256
 secondary_small s system f r bridge is there =
     let to : bridge.secondary ≡ secondary f = ap (λ (x : decoded.Bridge). x.secondary) (same_bridge_of r f bridge is.value there) in
     let small = (All-contains IsFunction s f system.each is.listed).image.bytes 0x19 in
@@ -74,7 +74,7 @@ module _ (roots : List ℕ) (s : System) (system : IsSystem s) (nested : IsNeste
 
   -- ---- the next function
 
-  module _ (k : ℕ) (f : Function) (r : Record) (at : slice_get s k ≡ Some f) (is : IsRecordOf s f r) (aboves : List Above) (was : AreAbovesTo roots s k aboves) where
+  module _ (k : ℕ) (f : Function) (r : Record) (at : slice_get s k ≡ Some f) (is : IsRecordInSystem s f r) (aboves : List Above) (was : AreAbovesTo roots s k aboves) where
     -- what is above its bus is known
     pub above_of : (d : Above) → IsAbove s f.slot.bus (get_or aboves f.slot.bus d)
     above_of = of_bus (IsAbove s) roots s system nested k f at aboves was

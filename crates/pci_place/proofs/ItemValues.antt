@@ -47,9 +47,9 @@ use Rattle.pci_place.specs.Pools.{pools_value}
 use Rattle.pci_place.specs.Above.{IsAbove, AreAboves}
 use Rattle.pci_place.specs.Classes.{bar_class}
 use Rattle.pci_place.specs.Needs.{AreNeeds}
-use Rattle.pci_place.specs.Records.{IsRecordOf}
+use Rattle.pci_place.specs.Records.{IsRecordInSystem}
 use Rattle.pci_place.specs.Sizes.{span}
-use Rattle.pci_place.specs.Items.{IsBar, owned, bar_item, bar_items, window_items, rom_items, record_items, no_function, function_in, item_value, IsPartOf, IsItemIn, AreItems}
+use Rattle.pci_place.specs.Items.{IsBar, owned, bar_item, bar_items, window_items, rom_items, record_items, no_function, function_in, item_value, IsItemPartOf, IsItemIn, AreItems}
 use Rattle.pci_place.proofs.Mapped.{filter-map, kept_same}
 use Rattle.pci_place.proofs.Parts.{bars_in, bars_of, rom_of, bar_span, rom_there, rom_span}
 use Rattle.pci_place.proofs.ClassOf.{class_is}
@@ -76,7 +76,7 @@ in_one false x y has = absurd (in_nil y has)
 register_place : (register n : ℕ) → register ≡ bar_register n → (register - 0x10) / 4 ≡ n
 register_place register n at = omega (arith, at)
 
-module _ (s : System) (f : Function) (r : Record) (is : IsRecordOf s f r) (o : Owner) (here : function_in s o.function ≡ f) (c : WindowKind) (pools : Pools) where
+module _ (s : System) (f : Function) (r : Record) (is : IsRecordInSystem s f r) (o : Owner) (here : function_in s o.function ≡ f) (c : WindowKind) (pools : Pools) where
   abbrev is_of : Part → Bool
   is_of part = same_class c (class_of s (pools_value pools) f part)
 
@@ -163,11 +163,11 @@ module _ (s : System) (f : Function) (r : Record) (is : IsRecordOf s f r) (o : O
   -- ---- each of them
 
   module _ (roots : List ℕ) (inside : o.function < length s) (grouped : o.group ≡ group_of roots f.slot.bus) where
-    owned_in : (part : CodePart) (size : ℕ) → IsPartOf f part → IsItemIn roots s (owned o part size)
+    owned_in : (part : CodePart) (size : ℕ) → IsItemPartOf f part → IsItemIn roots s (owned o part size)
     owned_in part size of = record {
       within = inside;
       group = grouped ∙ ap (λ (g : Function). group_of roots g.slot.bus) (sym here);
-      part = subst (λ g. IsPartOf g part) (sym here) of;
+      part = subst (λ g. IsItemPartOf g part) (sym here) of;
     }
 
     bar_in : (above : Above) (i : CodeItem) → Contains (bar_items o c above pools r.bars.items) i → IsItemIn roots s i
@@ -206,7 +206,7 @@ module _ (s : System) (f : Function) (r : Record) (is : IsRecordOf s f r) (o : O
 -- ---- the items of all records so far
 
 -- a BAR of a lawful record has a register and some address
-pub bars_fine : (s : System) (f : Function) (r : Record) → IsRecordOf s f r → IsLawful r → All IsBar r.bars.items
+pub bars_fine : (s : System) (f : Function) (r : Record) → IsRecordInSystem s f r → IsLawful r → All IsBar r.bars.items
 bars_fine s f r is lawful k d l =
     let bar = get_or r.bars.items k d in
     let at : (n : ℕ) × IsBarAt f bar n = bar_at_register r f bar is.value (Contains-get_or r.bars.items k d l) in

@@ -27,17 +27,17 @@ use Rattle.plan_spec.proofs.Planning.InPool.{IsInPool, in_pool}
 use Rattle.pci_place.specs.declared.item.Item.{Item as CodeItem}
 use Rattle.pci_place.specs.declared.item.Part.{Part as CodePart}
 use Rattle.pci_place.specs.declared.item.Part.TheVariants as parts
-use Rattle.pci_place.specs.Items.{part_value, IsPart, function_in, item_value, IsPartOf, IsItemIn}
+use Rattle.pci_place.specs.Items.{part_value, IsPart, function_in, item_value, IsItemPartOf, IsItemIn}
 use Rattle.pci_place.specs.Walks.{Walk, IsOpened}
 use Rattle.pci_place.proofs.SortedItems.{AreSorted}
 
-part_of : (f : Function) (p : CodePart) → IsPartOf f p → IsPart p
+part_of : (f : Function) (p : CodePart) → IsItemPartOf f p → IsPart p
 part_of f (parts.Bar n) is = is
 part_of f parts.Rom is = tt
 part_of f (parts.Window bus) is = tt
 
 -- the code's part for a window is that of what is behind its bridge
-window_part : (c : WindowKind) (f : Function) (p : CodePart) → IsPartOf f p → part_value c p ≡ Window c → p ≡ parts.Window (secondary f)
+window_part : (c : WindowKind) (f : Function) (p : CodePart) → IsItemPartOf f p → part_value c p ≡ Window c → p ≡ parts.Window (secondary f)
 window_part c f (parts.Bar n) is e = cc
 window_part c f parts.Rom is e = cc
 window_part c f (parts.Window bus) is e = ap parts.Window (sym is.1)
@@ -170,7 +170,7 @@ module _ (roots : List ℕ) (s : System) (pools : Pools) (c : WindowKind) (syste
   window_start i bus has window =
       let f = function_in s i.function in
       let of = of_part i has in
-      let is = subst (IsPartOf f) window (is_in i has).part in
+      let is = subst (IsItemPartOf f) window (is_in i has).part in
       let whole : window_item s pools c f ≡ item_value s c i =
       ap (item_of s pools f) (sym (ap (part_value c) window)) ∙ of.whole in
       let up = order_of roots s nested f (listed_function i has) is.0 in

@@ -29,8 +29,8 @@ use Rattle.pci_place.specs.declared.pools.Pools.{Pools}
 use Rattle.pci_place.specs.declared.need.Tally.{Tally}
 use Rattle.pci_place.specs.Pools.{pools_value}
 use Rattle.pci_place.specs.Above.{IsAbove, AreAboves}
-use Rattle.pci_place.specs.Records.{IsRecordOf}
-use Rattle.pci_place.specs.Sizes.{own_sizes, window_sizes, IsTallyOf}
+use Rattle.pci_place.specs.Records.{IsRecordInSystem}
+use Rattle.pci_place.specs.Sizes.{record_own_sizes, window_sizes, IsTallyOf}
 use Rattle.pci_place.proofs.Aboves.{secondary_small}
 use Rattle.pci_place.proofs.Owned.{sizes_are}
 use Rattle.pci_place.proofs.Records.{FunctionAt, function_at, same_count}
@@ -83,7 +83,7 @@ module _ (roots : List ℕ) (s : System) (system : IsSystem s) (nested : IsNeste
 
   -- ---- the next function
 
-  module _ (k : ℕ) (f : Function) (r : Record) (at : slice_get s k ≡ Some f) (is : IsRecordOf s f r) (above : Above) (at_bus : IsAbove s f.slot.bus above)
+  module _ (k : ℕ) (f : Function) (r : Record) (at : slice_get s k ≡ Some f) (is : IsRecordInSystem s f r) (above : Above) (at_bus : IsAbove s f.slot.bus above)
       (of_bus : List ℕ) (most : ℕ) (was : AreNeedsFrom roots s value c (k + 1) of_bus most) where
     positive : (n : ℕ) → nat_lt 0 (limited n) ≡ nat_lt 0 n
     positive n = elim (cases_lt 0 n) [
@@ -109,7 +109,7 @@ module _ (roots : List ℕ) (s : System) (system : IsSystem s) (nested : IsNeste
         ∙ ap (λ t. cond t (window_size c (limited n) ∷ []) []) (positive n)
         ∙ sym (ap (λ t. cond (t && nat_lt 0 n) (window_size c (limited n) ∷ []) []) bridge)
 
-    pub added_sizes : own_sizes c above pools r ++ window_sizes c of_bus r.bridge ≡ function_sizes s value c f
+    pub added_sizes : record_own_sizes c above pools r ++ window_sizes c of_bus r.bridge ≡ function_sizes s value c f
     added_sizes =
         ap (λ xs. xs ++ window_sizes c of_bus r.bridge) (sizes_are s f r is above at_bus pools c)
         ∙ ap (λ xs. plan.sizes_in s value c f ++ xs) (window_is r.bridge refl)
@@ -119,7 +119,7 @@ module _ (roots : List ℕ) (s : System) (system : IsSystem s) (nested : IsNeste
         let within = slice_get_within s k f at in
         drop_more s k f within ∙ ap (λ g. g ∷ drop (k + 1) s) (get_or_from_slice_get s k f f at)
 
-    module _ (t : Tally) (tally : IsTallyOf (own_sizes c above pools r ++ window_sizes c of_bus r.bridge) t) where
+    module _ (t : Tally) (tally : IsTallyOf (record_own_sizes c above pools r ++ window_sizes c of_bus r.bridge) t) where
       total_is : t.sum ≡ limited (added s value c f (need_behind s value c f))
       total_is = tally.total ∙ ap (λ xs. limited (sum xs)) added_sizes ∙ ap limited (sum_of_function s value c f)
 
@@ -190,7 +190,7 @@ module _ (roots : List ℕ) (s : System) (system : IsSystem s) (nested : IsNeste
   pub needs_step : (records : List Record) → HasRecords s (map record_value records) → (aboves : List Above) → AreAboves s aboves
       → (done : ℕ) (r : Record) → done < length records → r ≡ get_or records (length records - 1 - done) r
       → (of_bus : List ℕ) (most : ℕ) → AreNeedsFrom roots s value c (length s - done) of_bus most
-      → (bus : ℕ) (d : Above) → bus ≡ r.slot.bus → (t : Tally) → IsTallyOf (own_sizes c (get_or aboves bus d) pools r ++ window_sizes c of_bus r.bridge) t
+      → (bus : ℕ) (d : Above) → bus ≡ r.slot.bus → (t : Tally) → IsTallyOf (record_own_sizes c (get_or aboves bus d) pools r ++ window_sizes c of_bus r.bridge) t
       → (next_need next_most : ℕ) → next_need ≡ min (2 ^ 65) (get_or of_bus bus 0 + t.sum)
       → (is_root roots bus ≡ true → next_most ≡ max t.greatest most) → (is_root roots bus ≡ false → next_most ≡ most)
       → AreNeedsFrom roots s value c (length s - (done + 1)) (set of_bus bus next_need) next_most

@@ -20,9 +20,9 @@ use Rattle.pci_place.specs.declared.above.Above.{Above}
 use Rattle.pci_place.specs.declared.pools.Pools.{Pools}
 use Rattle.pci_place.specs.Pools.{pools_value}
 use Rattle.pci_place.specs.Above.{IsAbove}
-use Rattle.pci_place.specs.Records.{IsRecordOf}
+use Rattle.pci_place.specs.Records.{IsRecordInSystem}
 use Rattle.pci_place.specs.Classes.{is_io_kind, bar_class}
-use Rattle.pci_place.specs.Sizes.{span, bar_sizes, rom_sizes, own_sizes}
+use Rattle.pci_place.specs.Sizes.{span, bar_sizes, rom_sizes, record_own_sizes}
 use Rattle.pci_place.proofs.Mapped.{filter-map, list_any-map, any_fails, any_same, kept_same}
 use Rattle.pci_place.proofs.Parts.{bars_in, rom_in, parts_of, bars_of, rom_of, bar_span, rom_there, rom_span}
 use Rattle.pci_place.proofs.ClassOf.{kind_io, class_is}
@@ -35,7 +35,7 @@ pub no_rom : (there : Bool) (y : DecodedRom) → None ≡ (if there then Some y 
 no_rom true y e = cc
 no_rom false y e = refl
 
-module _ (s : System) (f : Function) (r : Record) (is : IsRecordOf s f r) where
+module _ (s : System) (f : Function) (r : Record) (is : IsRecordInSystem s f r) where
   -- ---- I/O BARs
 
   no_io_rom : (b : Bool) → list_any (is_io_part f) (if b then Rom ∷ [] else []) ≡ false
@@ -88,7 +88,7 @@ module _ (s : System) (f : Function) (r : Record) (is : IsRecordOf s f r) where
           ∙ sym (ap (λ b. map (size_of f) (filter is_of (cond b (Rom ∷ []) []))) (rom_there (has_rom f.image f.probe) (decoded_rom_of rom) _ e).0)
 
       -- the sizes of a class that a record has are those that its function has
-      pub sizes_are : own_sizes c above pools r ≡ sizes_in s (pools_value pools) c f
+      pub sizes_are : record_own_sizes c above pools r ≡ sizes_in s (pools_value pools) c f
       sizes_are =
           let bars : map (size_of f) (filter is_of (map Bar (bars_in f))) ≡ map (λ n. size_of f (Bar n)) (filter (λ n. is_of (Bar n)) (bars_in f)) =
           ap (map (size_of f)) (filter-map is_of Bar (bars_in f)) ∙ map_twice (size_of f) Bar (filter (λ n. is_of (Bar n)) (bars_in f)) in

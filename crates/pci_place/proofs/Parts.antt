@@ -18,7 +18,7 @@ use Rattle.pci_image.specs.declared.rom.Rom.{Rom as CodeRom}
 use Rattle.pci_image.specs.Bars.{decoded_bar_of}
 use Rattle.pci_image.specs.Roms.{decoded_rom_of}
 use Rattle.pci_function.specs.declared.record.Record.{Record}
-use Rattle.pci_place.specs.Records.{IsRecordOf}
+use Rattle.pci_place.specs.Records.{IsRecordInSystem}
 use Rattle.pci_place.specs.Sizes.{span}
 use Rattle.pci_place.proofs.Mapped.{filter-map}
 
@@ -37,10 +37,10 @@ parts_of f =
     ∙ ap (λ xs. xs ++ rom_in f) (filter-map (is_implemented f) Bar (range_with_len 0 (bar_count (layout f.image))))
 
 -- the BARs of a record are decoded at those registers
-pub bars_of : (s : System) (f : Function) (r : Record) → IsRecordOf s f r → map decoded_bar_of r.bars.items ≡ map (decoded_bar f.image f.probe) (bars_in f)
+pub bars_of : (s : System) (f : Function) (r : Record) → IsRecordInSystem s f r → map decoded_bar_of r.bars.items ≡ map (decoded_bar f.image f.probe) (bars_in f)
 bars_of s f r is = ap (λ (x : decoded.Record). x.bars) is.value
 
-pub rom_of : (s : System) (f : Function) (r : Record) → IsRecordOf s f r → option_map decoded_rom_of r.rom ≡ decoded_rom f.image f.probe
+pub rom_of : (s : System) (f : Function) (r : Record) → IsRecordInSystem s f r → option_map decoded_rom_of r.rom ≡ decoded_rom f.image f.probe
 rom_of s f r is = ap (λ (x : decoded.Record). x.rom) is.value
 
 -- ---- sizes

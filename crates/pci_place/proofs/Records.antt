@@ -10,7 +10,7 @@ use Rattle.pci_spec.specs.Decoded.{IsDecodable, HasRecords, record_of}
 use Rattle.pci_spec.specs.Decoded as decoded
 use Rattle.pci_function.specs.Values.{record_value}
 use Rattle.pci_function.specs.declared.record.Record.{Record}
-use Rattle.pci_place.specs.Records.{IsRecordOf}
+use Rattle.pci_place.specs.Records.{IsRecordInSystem}
 
 -- the records that an outline lends are those of the system
 pub lent : (s : System) (records : List Record) {values : List decoded.Record} → map record_value records ≡ values → HasRecords s values → HasRecords s (map record_value records)
@@ -24,7 +24,7 @@ same_count s records is = sym (length-map s record_of) ∙ ap length is.same ∙
 pub record FunctionAt (s : System) (r : Record) (k : ℕ) : Type 0 where
   pub f : Function
   pub at : slice_get s k ≡ Some f
-  pub is : IsRecordOf s f r
+  pub is : IsRecordInSystem s f r
 
 pub function_at : (s : System) (records : List Record) → HasRecords s (map record_value records) → (k : ℕ) (r : Record) → slice_get records k ≡ Some r → FunctionAt s r k
 function_at s records is k r at =

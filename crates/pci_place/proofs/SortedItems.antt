@@ -17,7 +17,7 @@ use Rattle.plan_spec.proofs.Planning.Order.{before_larger, before_by}
 use Rattle.pci_place.specs.declared.item.Item.{Item as CodeItem}
 use Rattle.pci_place.specs.declared.item.Part.{Part as CodePart}
 use Rattle.pci_place.specs.declared.item.Part.TheVariants as parts
-use Rattle.pci_place.specs.Items.{part_value, function_in, item_value, IsPartOf, IsItemIn, AreItems}
+use Rattle.pci_place.specs.Items.{part_value, function_in, item_value, IsItemPartOf, IsItemIn, AreItems}
 use Rattle.pci_place.specs.Sorting.{IsPlacedBefore}
 
 -- all items of a class, in the order in which they are placed
@@ -39,7 +39,7 @@ low_rom kind = elim (cases_Bool (kind == 1)) [
   | inr off ↦ (let e : rom_register kind ≡ 0x30 = ap (λ b. if b then 0x38 else 0x30) off in omega (arith, e))
 ]
 
-low_register : (c : WindowKind) (f : Function) (p : CodePart) → IsPartOf f p → register_of f (part_value c p) < 256
+low_register : (c : WindowKind) (f : Function) (p : CodePart) → IsItemPartOf f p → register_of f (part_value c p) < 256
 low_register c f (parts.Bar n) is = omega (arith, is)
 low_register c f parts.Rom is = low_rom (layout f.image)
 low_register c f (parts.Window bus) is = low_window c

@@ -84,15 +84,15 @@ item_value s c i =
     record { function = function_in s i.function; part = part_value c i.part; size = i.size }
 
 -- a window is that around what is behind its bridge
-abbrev pub IsPartOf : Function → CodePart → Type 0
-IsPartOf f (parts.Bar n) = n < 6
-IsPartOf f parts.Rom = Unit {0}
-IsPartOf f (parts.Window bus) = IsTrue (is_bridge f) × (secondary f ≡ bus)
+abbrev pub IsItemPartOf : Function → CodePart → Type 0
+IsItemPartOf f (parts.Bar n) = n < 6
+IsItemPartOf f parts.Rom = Unit {0}
+IsItemPartOf f (parts.Window bus) = IsTrue (is_bridge f) × (secondary f ≡ bus)
 
 pub record IsItemIn (roots : List ℕ) (s : System) (i : CodeItem) : Type 0 where
   pub within : i.function < length s
   pub group : i.group ≡ group_of roots (function_in s i.function).slot.bus
-  pub part : IsPartOf (function_in s i.function) i.part
+  pub part : IsItemPartOf (function_in s i.function) i.part
 
 -- a lawful system below roots that are named once
 pub record IsRooted (roots : List ℕ) (s : System) : Type 0 where

@@ -7,7 +7,7 @@ use Rattle.pci_function.specs.Values.{record_value}
 use Rattle.pci_function.specs.declared.record.Record.{Record}
 
 -- a function of the system, and its record
-pub record IsRecordOf (s : System) (f : Function) (r : Record) : Type 0 where
+pub record IsRecordInSystem (s : System) (f : Function) (r : Record) : Type 0 where
   pub listed : Contains s f
   pub decodable : IsDecodable f
   pub value : record_value r ≡ record_of f

@@ -29,8 +29,8 @@ rom_sizes c None = []
 rom_sizes c (Some rom) = if same_class c MemoryWindow then span rom.first rom.last ∷ [] else []
 
 -- the sizes of a function's own BARs and ROM of a class
-abbrev pub own_sizes : WindowKind → Above → Pools → Record → List ℕ
-own_sizes c above pools r = bar_sizes c above pools r.bars.items ++ rom_sizes c r.rom
+abbrev pub record_own_sizes : WindowKind → Above → Pools → Record → List ℕ
+record_own_sizes c above pools r = bar_sizes c above pools r.bars.items ++ rom_sizes c r.rom
 
 -- the size of the window of a bridge with something behind it, by what the buses need
 abbrev pub window_sizes : WindowKind → List ℕ → Option Bridge → List ℕ

@@ -7,7 +7,7 @@ ghost use Rattle.pci_tree.specs.Regions.{IsLawful};
 ghost use Rattle.pci_base.specs.WindowKinds.{kind_value};
 ghost use Rattle.pci_place.specs.Pools.{pools_value};
 ghost use Rattle.pci_place.specs.Above.{AreAboves, system_in};
-ghost use Rattle.pci_place.specs.Sizes.{span, own_sizes, window_sizes, IsTallyOf};
+ghost use Rattle.pci_place.specs.Sizes.{span, record_own_sizes, window_sizes, IsTallyOf};
 
 use super::pools::Pools;
 use crate::above::Above;
@@ -108,7 +108,7 @@ pub fn window_size_of(class: WindowKind, need: u128) -> u128
 /// The sizes of a function's own BARs and ROM of a class.
 fn own_tally(record: &Record, class: WindowKind, above: Above, pools: &Pools) -> Tally
     requires { IsLawful «record».now }
-    ensures { IsTallyOf (own_sizes (kind_value class) above pools.now «record».now) result }
+    ensures { IsTallyOf (record_own_sizes (kind_value class) above pools.now «record».now) result }
 {
     let mut tally = Tally::NONE;
     for bar in record.bars.as_slice() {
@@ -132,7 +132,7 @@ fn tally_of(
 ) -> Tally
     requires lawful { IsLawful «record».now }
     requires limited { All (λ need. need ≤ 2 ^ 65) of_bus.now }
-    ensures { IsTallyOf (own_sizes (kind_value class) above pools.now «record».now
+    ensures { IsTallyOf (record_own_sizes (kind_value class) above pools.now «record».now
         ++ window_sizes (kind_value class) of_bus.now «record».now.bridge) result }
 {
     let tally = own_tally(record, class, above, pools);

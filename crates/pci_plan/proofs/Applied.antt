@@ -37,7 +37,7 @@ use Rattle.pci_plan.specs.Plans.{PlanValue, final_of}
 use Rattle.pci_plan.specs.Moves.{IsRegisterWrite, IsMove}
 use Rattle.pci_plan.specs.Comparing.{ShowsAll, IsChangedAt, StartsAs, IsStartFault, moment}
 use Rattle.pci_plan.specs.Making.{IsAccessible, AreReadBack, AreWritesMade, IsApplyStop}
-use Rattle.pci_plan.specs.Applying.{ShowsSystem, AreSoundTargets, writes_before, writes_made, AreReadBackUntil, ReadBackBy, HasImages, AreSoundWhileReadBack, IsApplyFault}
+use Rattle.pci_plan.specs.Applying.{ShowsSystem, AreSoundTargets, writes_before, writes_applied, AreReadBackUntil, ReadBackBy, HasImages, AreSoundWhileReadBack, IsApplyFault}
 use Rattle.pci_plan.proofs.Compares.{register_access}
 use Rattle.plan_spec.proofs.Planning.Whole.{moved_system}
 use Rattle.pci_plan.proofs.Ended.{writes_end}
@@ -309,7 +309,7 @@ module _ (p : PlanValue) (is : IsMove p) where
 
   pub made_by : {T : Type 0} (r : Result T ApplyFault) (items : List CodeWrite) (before : List Target) (failures : ℕ) (after : List Target) (failures_after : ℕ) → map write_value items ≡ p.writes
       → OnOk r (AreWritesMade before (map write_value items) (length items) after) → IfErr r (IsApplyStop (moment before failures) (map write_value items) (moment after failures_after))
-      → after ≡ after_writes before (take (writes_made p.writes r) p.writes)
+      → after ≡ after_writes before (take (writes_applied p.writes r) p.writes)
   made_by (Ok x) items before failures after failures_after same made stop = (all_made items before after same made).made
   made_by (Err fault) items before failures after failures_after same made stop =
       stop_made before failures after failures_after fault (subst (λ ws. IsApplyStop (moment before failures) ws (moment after failures_after) fault) same stop)
@@ -322,7 +322,7 @@ module _ (p : PlanValue) (is : IsMove p) where
       stop_read_back before failures after failures_after fault (subst (λ ws. IsApplyStop (moment before failures) ws (moment after failures_after) fault) same stop)
 
   pub ok_on_machine : {T : Type 0} (r : Result T ApplyFault) (before : List Target) (failures : ℕ) (after : List Target) (failures_after : ℕ)
-      → after ≡ after_writes before (take (writes_made p.writes r) p.writes) → IfErr r (IsApplyFault (moment before failures) s p.writes (moment after failures_after))
+      → after ≡ after_writes before (take (writes_applied p.writes r) p.writes) → IfErr r (IsApplyFault (moment before failures) s p.writes (moment after failures_after))
       → before ≡ map target_of s → failures_after ≡ failures → IsOk r
   ok_on_machine (Ok x) before failures after failures_after made reason start quiet = refl
   ok_on_machine (Err fault) before failures after failures_after made reason start quiet = absurd (none_on_machine before failures after failures_after fault start quiet made reason)

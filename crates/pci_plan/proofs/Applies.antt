@@ -15,7 +15,7 @@ use Rattle.pci_plan.specs.Plans.{PlanValue, final_of}
 use Rattle.pci_plan.specs.Moves.{IsMove}
 use Rattle.pci_plan.specs.Comparing.{IsStartFault, moment}
 use Rattle.pci_plan.specs.Making.{IsAccessible, AreWritesMade, IsApplyStop}
-use Rattle.pci_plan.specs.Applying.{ShowsSystem, AreSoundTargets, writes_made, ReadBackBy, IsApplyFault}
+use Rattle.pci_plan.specs.Applying.{ShowsSystem, AreSoundTargets, writes_applied, ReadBackBy, IsApplyFault}
 use Rattle.pci_plan.proofs.Applied.{accesses, shows_start, start_fault, start_made, start_read_back, stop_fault, stop_made, stop_read_back, all_made, shows_final, ok_on_machine, left_sound}
 use Rattle.pci_plan.specs.Steps.{all_shown}
 use Rattle.pci_plan.specs.Going.{IsWritable, AreAllShown, IsCompareStop, AreStopped}
@@ -56,7 +56,7 @@ module _ (p : PlanValue) (is : IsMove p) (compares : List Write) (start : compar
   ran_ended (Ok x) run = shows_final p is before after (shows run.compared) (all_made p is items before after same run.made)
   ran_ended (Err fault) run = tt
 
-  pub ran_made : (r : Result (Unit {0}) ApplyFault) → Ran r → after ≡ after_writes before (take (writes_made p.writes r) p.writes)
+  pub ran_made : (r : Result (Unit {0}) ApplyFault) → Ran r → after ≡ after_writes before (take (writes_applied p.writes r) p.writes)
   ran_made (Ok x) run = (all_made p is items before after same run.made).made
   ran_made (Err fault) run = elim run.stopped [
     | inl stop ↦ start_made p is before after failures failures_after fault (reason_of fault stop) stop.same
@@ -80,6 +80,6 @@ module _ (p : PlanValue) (is : IsMove p) (compares : List Write) (start : compar
   pub ran_own_machine : (r : Result (Unit {0}) ApplyFault) → Ran r → before ≡ map target_of (system_in p.start) → failures_after ≡ failures → IsOk r
   ran_own_machine r run = ok_on_machine p is r before failures after failures_after (ran_made r run) (ran_fault r run)
 
-  pub ran_sound : (r : Result (Unit {0}) ApplyFault) → Ran r → before ≡ map target_of (system_in p.start) → IsSound p.start.roots (system_in p.start) ⊎ (p.safe_from ≤ writes_made p.writes r)
+  pub ran_sound : (r : Result (Unit {0}) ApplyFault) → Ran r → before ≡ map target_of (system_in p.start) → IsSound p.start.roots (system_in p.start) ⊎ (p.safe_from ≤ writes_applied p.writes r)
       → AreSoundTargets p.start.roots after
-  ran_sound r run machine from = left_sound p is (writes_made p.writes r) before after machine (ran_made r run) from
+  ran_sound r run machine from = left_sound p is (writes_applied p.writes r) before after machine (ran_made r run) from

@@ -11,7 +11,7 @@ use Rattle.pci_plan.specs.declared.apply_fault.ApplyFault.{ApplyFault}
 use Rattle.pci_plan.specs.declared.apply_fault.ApplyFault.TheVariants.{Changed, Port, Stuck}
 use Rattle.pci_plan.specs.declared.step.Kind.{Kind}
 use Rattle.pci_plan.specs.declared.step.Kind.TheVariants.{Compare, Make, ReadBack}
-use Rattle.pci_plan.specs.Steps.{Step, unless_same, judged}
+use Rattle.pci_plan.specs.Steps.{AccessStep, unless_same, judged}
 use Rattle.pci_plan.specs.Going.{StepAnswers, StepIsDone, IsStepFault}
 
 -- ---- a number that is shown beside the wanted one
@@ -34,7 +34,7 @@ fault_where_err shown wanted fault f e = elim (cases_Bool (shown == wanted)) [
 -- ---- where the next one follows
 
 module _ (before : List Target) (failures : ℕ) (w : Write) (done : ℕ) (after : List Target) (failures_after : ℕ) where
-  abbrev step_of : Kind → Step
+  abbrev step_of : Kind → AccessStep
   step_of kind = record { kind = kind; register = w; done = done }
 
   pub goes_on : (kind : Kind) (shown : Option ℕ) (r : Result (Unit {0}) ApplyFault) → StepAnswers kind (moment before failures) w shown (moment after failures_after) → r ≡ judged (step_of kind) shown

@@ -4,7 +4,7 @@ use Rattle.std.specs.List.{slice_get}
 use Rattle.std.specs.Option.{option_map}
 use Rattle.std.proofs.lemmas.Option.{same_Some, slice_get_cases, slice_get_past}
 use Rattle.pci_spec.specs.Machine.{Write}
-use Rattle.pci_plan.specs.Steps.{Step, compare_step, make_step, read_back_step, write_steps, steps_of}
+use Rattle.pci_plan.specs.Steps.{AccessStep, compare_step, make_step, read_back_step, write_steps, steps_of}
 
 -- ---- steps by the lists that they are for
 
@@ -61,27 +61,27 @@ step_none cs ws n past = slice_get_past (steps_of cs ws) n (let l = length_steps
 
 -- ---- what a step is for
 
-pub record IsCompareAt (cs : List Write) (n : ℕ) (step : Step) : Type 0 where
+pub record IsCompareAt (cs : List Write) (n : ℕ) (step : AccessStep) : Type 0 where
   pub register : Write
   pub within : n < length cs
   pub listed : slice_get cs n ≡ Some register
   pub is : step ≡ compare_step register
 
-pub record IsMakeAt (cs ws : List Write) (n : ℕ) (step : Step) : Type 0 where
+pub record IsMakeAt (cs ws : List Write) (n : ℕ) (step : AccessStep) : Type 0 where
   pub register : Write
   pub index : ℕ
   pub listed : slice_get ws index ≡ Some register
   pub place : n ≡ length cs + (index + index)
   pub is : step ≡ make_step index register
 
-pub record IsReadBackAt (cs ws : List Write) (n : ℕ) (step : Step) : Type 0 where
+pub record IsReadBackAt (cs ws : List Write) (n : ℕ) (step : AccessStep) : Type 0 where
   pub register : Write
   pub index : ℕ
   pub listed : slice_get ws index ≡ Some register
   pub place : n ≡ length cs + (index + index + 1)
   pub is : step ≡ read_back_step index register
 
-abbrev pub IsStepAt : List Write → List Write → ℕ → Step → Type 0
+abbrev pub IsStepAt : List Write → List Write → ℕ → AccessStep → Type 0
 IsStepAt cs ws n step = IsCompareAt cs n step ⊎ (IsMakeAt cs ws n step ⊎ IsReadBackAt cs ws n step)
 
 -- an even or an odd number
@@ -95,7 +95,7 @@ half (suc m) =
       | inr odd ↦ (suc i, inl (omega (arith, odd)))
     ]
 
-pub step_at_cases : (cs ws : List Write) (n : ℕ) (step : Step) → slice_get (steps_of cs ws) n ≡ Some step → IsStepAt cs ws n step
+pub step_at_cases : (cs ws : List Write) (n : ℕ) (step : AccessStep) → slice_get (steps_of cs ws) n ≡ Some step → IsStepAt cs ws n step
 step_at_cases cs ws n step at = elim (slice_get_cases cs n).1 [
   | inl (w, within, here, is) ↦
       inl record { register = w; within = within; listed = here; is = same_Some step (compare_step w) (sym at ∙ step_compare cs ws n w here) }

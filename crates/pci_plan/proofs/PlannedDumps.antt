@@ -31,7 +31,7 @@ use Rattle.pci_place.specs.declared.place.Places.{Places}
 use Rattle.pci_plan.specs.declared.numbers.Filling.{Filling}
 use Rattle.pci_place.specs.Needs.{AreAllNeeds}
 use Rattle.pci_place.specs.Places.{first_in, HasPlaces}
-use Rattle.pci_place.specs.Records.{IsRecordOf}
+use Rattle.pci_place.specs.Records.{IsRecordInSystem}
 use Rattle.pci_plan.specs.Fillings.{FillingOf}
 use Rattle.pci_place.proofs.Records.{same_count, function_at}
 
@@ -122,7 +122,7 @@ module _ (roots : List ℕ) (dump probe : List Block) (pools : Pools) (needs : B
     (plannable : IsPlannable roots (system_of dump probe) pools) (tables : (c : WindowKind) → IsTable roots (system_of dump probe) pools c (place_at roots (system_of dump probe) pools))
     (all : AreAllNeeds roots (system_of dump probe) pools needs) (placed : (c : WindowKind) → HasPlaces roots (system_of dump probe) pools c places) where
   -- a filling with the record, the image and the places of the function at a place
-  abbrev pub filling_at : (filling : Filling) (i : ℕ) (f : Function) (d : Places) → slice_get (system_of dump probe) i ≡ Some f → IsRecordOf (system_of dump probe) f filling.record.now
+  abbrev pub filling_at : (filling : Filling) (i : ℕ) (f : Function) (d : Places) → slice_get (system_of dump probe) i ≡ Some f → IsRecordInSystem (system_of dump probe) f filling.record.now
       → filling.image.now.0 ≡ f.image → filling.places.now ≡ slice_index_or places i d → filling.needs.now ≡ needs → FillingOf filling
   filling_at filling i f d at recorded image place same = record {
     roots = roots;
@@ -140,7 +140,7 @@ module _ (roots : List ℕ) (dump probe : List Block) (pools : Pools) (needs : B
 -- the function of the blocks at a place, with its record
 pub function_here : (dump probe : List Block) (records : List Record) (i : ℕ) (b p : Block) (r : Record) → slots_of dump ≡ slots_of probe → HasRecords (system_of dump probe) (map record_value records)
     → i < length dump → b ≡ get_or dump i b → p ≡ get_or probe i p → r ≡ get_or records i r
-    → (slice_get (system_of dump probe) i ≡ Some (function_of b p)) × IsRecordOf (system_of dump probe) (function_of b p) r
+    → (slice_get (system_of dump probe) i ≡ Some (function_of b p)) × IsRecordInSystem (system_of dump probe) (function_of b p) r
 function_here dump probe records i b p r same is inside b_at p_at r_at =
     let s = system_of dump probe in
     let count = same_length dump probe same in
@@ -152,7 +152,7 @@ function_here dump probe records i b p r same is inside b_at p_at r_at =
     let found = function_at s records is i r (slice_get-get_or records i r (omega (arith, size, many, inside)) ∙ ap Some (sym r_at)) in
     let there : slice_get s i ≡ Some found.f = found.at in
     let one : found.f ≡ function_of b p = cc in
-    (at, subst (λ (f : Function). IsRecordOf s f r) one found.is)
+    (at, subst (λ (f : Function). IsRecordInSystem s f r) one found.is)
 
 -- ---- what can be planned
 

@@ -12,7 +12,7 @@ use Rattle.pci_plan.specs.declared.apply_fault.ApplyFault.TheVariants.{Changed, 
 use Rattle.pci_plan.specs.Comparing.{IsRefusedAt, moment}
 use Rattle.pci_plan.specs.Making.{AreWritesMade, IsApplyStop}
 use Rattle.pci_plan.proofs.Makes.{fold_more, has_after, has_after_one}
-use Rattle.pci_plan.specs.Steps.{Step, steps_of}
+use Rattle.pci_plan.specs.Steps.{AccessStep, steps_of}
 use Rattle.pci_plan.specs.Going.{TakesRead, IsWritable, TakesStep, StepIsDone, ReadShows, IsStepFault, IsNumberFault, IsWriteFault, IsReadBackFault, AreFirstShown, AreAllShown, AreStopped}
 use Rattle.pci_plan.proofs.Places.{IsStepAt, length_steps}
 
@@ -101,9 +101,9 @@ module _ (before : List Target) (cs ws : List Write) where
     phase = compared_to (n + 1) after (omega (arith, within)) (went.0 ∙ same);
   }
 
-  pub goes : (n : ℕ) (step : Step) (now after : List Target) → IsGoing n now → IsStepAt cs ws n step → StepIsDone now step.kind step.register after → IsGoing (n + 1) after
+  pub goes : (n : ℕ) (step : AccessStep) (now after : List Target) → IsGoing n now → IsStepAt cs ws n step → StepIsDone now step.kind step.register after → IsGoing (n + 1) after
   goes n step now after going (inl c) went =
-      let went_so : ReadShows now c.register after = subst (λ (s : Step). StepIsDone now s.kind s.register after) c.is went in
+      let went_so : ReadShows now c.register after = subst (λ (s : AccessStep). StepIsDone now s.kind s.register after) c.is went in
       let within = c.within in
       elim going.phase [
         | inl (less, same) ↦ compare_goes n now after c.register within c.listed going.shown same went_so
@@ -111,7 +111,7 @@ module _ (before : List Target) (cs ws : List Write) where
         | inr (inr w) ↦ (let place = w.place in absurd (let bad : ⊥ = omega (arith, place, within) in bad))
       ]
   goes n step now after going (inr (inl m)) went =
-      let went_so = subst (λ (s : Step). StepIsDone now s.kind s.register after) m.is went in
+      let went_so = subst (λ (s : AccessStep). StepIsDone now s.kind s.register after) m.is went in
       let at = m.place in
       elim going.phase [
         | inl (less, same) ↦ absurd (let bad : ⊥ = omega (arith, at, less) in bad)
@@ -134,7 +134,7 @@ module _ (before : List Target) (cs ws : List Write) where
         | inr (inr w) ↦ (let place = w.place in absurd (let bad : ⊥ = omega (arith, place, at) in bad))
       ]
   goes n step now after going (inr (inr r)) went =
-      let went_so : ReadShows now r.register after = subst (λ (s : Step). StepIsDone now s.kind s.register after) r.is went in
+      let went_so : ReadShows now r.register after = subst (λ (s : AccessStep). StepIsDone now s.kind s.register after) r.is went in
       let at = r.place in
       elim going.phase [
         | inl (less, same) ↦ absurd (let bad : ⊥ = omega (arith, at, less) in bad)
@@ -210,10 +210,10 @@ module _ (before : List Target) (cs ws : List Write) where
         otherwise = record { shows = otherwise.shows; shown = subst (λ ts. ShowsNumber ts w.slot w.offset w.width otherwise.shows) (sym same) otherwise.shown; differs = otherwise.differs };
       }
 
-  pub stops : (failures failures_after n : ℕ) (step : Step) (now after : List Target) (fault : ApplyFault) → IsGoing n now → IsStepAt cs ws n step → after ≡ now
+  pub stops : (failures failures_after n : ℕ) (step : AccessStep) (now after : List Target) (fault : ApplyFault) → IsGoing n now → IsStepAt cs ws n step → after ≡ now
       → IsStepFault step.kind (moment now failures) step.register step.done failures_after fault → AreStopped (moment before failures) cs ws (moment after failures_after) fault
   stops failures failures_after n step now after fault going (inl c) same reason =
-      let reason_so : IsNumberFault (moment now failures) c.register 0 failures_after fault = subst (λ (s : Step). IsStepFault s.kind (moment now failures) s.register s.done failures_after fault) c.is reason in
+      let reason_so : IsNumberFault (moment now failures) c.register 0 failures_after fault = subst (λ (s : AccessStep). IsStepFault s.kind (moment now failures) s.register s.done failures_after fault) c.is reason in
       let within = c.within in
       elim going.phase [
         | inl (less, start) ↦ inl record {
@@ -228,7 +228,7 @@ module _ (before : List Target) (cs ws : List Write) where
         | inr (inr w) ↦ (let place = w.place in absurd (let bad : ⊥ = omega (arith, place, within) in bad))
       ]
   stops failures failures_after n step now after fault going (inr (inl m)) same reason =
-      let reason_so : IsWriteFault (moment now failures) m.register m.index failures_after fault = subst (λ (s : Step). IsStepFault s.kind (moment now failures) s.register s.done failures_after fault) m.is reason in
+      let reason_so : IsWriteFault (moment now failures) m.register m.index failures_after fault = subst (λ (s : AccessStep). IsStepFault s.kind (moment now failures) s.register s.done failures_after fault) m.is reason in
       let at = m.place in
       elim going.phase [
         | inl (less, start) ↦ absurd (let bad : ⊥ = omega (arith, at, less) in bad)
@@ -242,7 +242,7 @@ module _ (before : List Target) (cs ws : List Write) where
         | inr (inr w) ↦ (let place = w.place in absurd (let bad : ⊥ = omega (arith, place, at) in bad))
       ]
   stops failures failures_after n step now after fault going (inr (inr r)) same reason =
-      let reason_so : IsReadBackFault (moment now failures) r.register (suc r.index) failures_after fault = subst (λ (s : Step). IsStepFault s.kind (moment now failures) s.register s.done failures_after fault) r.is reason in
+      let reason_so : IsReadBackFault (moment now failures) r.register (suc r.index) failures_after fault = subst (λ (s : AccessStep). IsStepFault s.kind (moment now failures) s.register s.done failures_after fault) r.is reason in
       let at = r.place in
       elim going.phase [
         | inl (less, start) ↦ absurd (let bad : ⊥ = omega (arith, at, less) in bad)
@@ -278,10 +278,10 @@ module _ (before : List Target) (cs ws : List Write) where
   -- ---- a port takes each
 
   module _ (readable : (w : Write) → Contains cs w → TakesRead w) (writable : (w : Write) → Contains ws w → IsWritable w) where
-    pub is_taken : (n : ℕ) (step : Step) → IsStepAt cs ws n step → TakesStep step.kind step.register
-    is_taken n step (inl c) = subst (λ (s : Step). TakesStep s.kind s.register) (sym c.is) (readable c.register (n, c.within, get_or_from_slice_get cs n c.register c.register c.listed))
+    pub is_taken : (n : ℕ) (step : AccessStep) → IsStepAt cs ws n step → TakesStep step.kind step.register
+    is_taken n step (inl c) = subst (λ (s : AccessStep). TakesStep s.kind s.register) (sym c.is) (readable c.register (n, c.within, get_or_from_slice_get cs n c.register c.register c.listed))
     is_taken n step (inr (inl m)) =
-        subst (λ (s : Step). TakesStep s.kind s.register) (sym m.is) (writable m.register (m.index, slice_get_within ws m.index m.register m.listed, get_or_from_slice_get ws m.index m.register m.register m.listed))
+        subst (λ (s : AccessStep). TakesStep s.kind s.register) (sym m.is) (writable m.register (m.index, slice_get_within ws m.index m.register m.listed, get_or_from_slice_get ws m.index m.register m.register m.listed))
     is_taken n step (inr (inr r)) =
-        subst (λ (s : Step). TakesStep s.kind s.register) (sym r.is)
+        subst (λ (s : AccessStep). TakesStep s.kind s.register) (sym r.is)
         (readable_too r.register (writable r.register (r.index, slice_get_within ws r.index r.register r.listed, get_or_from_slice_get ws r.index r.register r.register r.listed)))

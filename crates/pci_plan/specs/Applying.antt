@@ -25,9 +25,9 @@ writes_before (Changed slot offset) = 0
 writes_before (Port done) = done
 writes_before (Stuck done) = done
 
-abbrev pub writes_made : {T : Type 0} → List Write → Result T ApplyFault → ℕ
-writes_made writes (Ok x) = length writes
-writes_made writes (Err fault) = writes_before fault
+abbrev pub writes_applied : {T : Type 0} → List Write → Result T ApplyFault → ℕ
+writes_applied writes (Ok x) = length writes
+writes_applied writes (Err fault) = writes_before fault
 
 -- which writes read back as they were written, each before the next one was made: those before the one that sticks, and
 -- those before an access that failed, where it wasn't one of comparing

@@ -14,7 +14,7 @@ use Rattle.pci_function.specs.declared.record.Record.{Record}
 use Rattle.pci_plan.specs.declared.numbers.Filling.{Filling}
 use Rattle.pci_place.specs.Needs.{AreAllNeeds}
 use Rattle.pci_place.specs.Places.{first_in}
-use Rattle.pci_place.specs.Records.{IsRecordOf}
+use Rattle.pci_place.specs.Records.{IsRecordInSystem}
 
 -- A filling is that of a function of a system that can be planned: it has the function's record, its image, and the place of
 -- each part that has one.
@@ -25,7 +25,7 @@ pub record FillingOf (filling : Filling) : Type 0 where
   pub function : Function
   pub plannable : IsPlannable roots system pools
   pub tables : (c : WindowKind) → IsTable roots system pools c (place_at roots system pools)
-  pub recorded : IsRecordOf system function filling.record.now
+  pub recorded : IsRecordInSystem system function filling.record.now
   pub image : filling.image.now.0 ≡ function.image
   pub places : (part : Part)
       → IsTrue (is_placed system pools (class_of system pools function part) function part)

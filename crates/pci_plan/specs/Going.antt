@@ -10,9 +10,9 @@ use Rattle.pci_plan.specs.Writes.{write_value}
 use Rattle.pci_plan.specs.declared.step.Kind.{Kind}
 use Rattle.pci_plan.specs.declared.step.Kind.TheVariants.{Compare, Make, ReadBack}
 use Rattle.pci_plan.specs.declared.step.Step.{Step as CodeStep}
-use Rattle.pci_plan.specs.Steps.{Step}
+use Rattle.pci_plan.specs.Steps.{AccessStep}
 
-abbrev pub code_step : CodeStep → Step
+abbrev pub code_step : CodeStep → AccessStep
 code_step s = record { kind = s.kind; register = write_value s.register; done = s.done }
 
 -- a port takes a read of the register; and a write of the number
@@ -31,7 +31,7 @@ TakesStep ReadBack w = TakesRead w
 -- ---- one step
 
 -- a register that is read shows this, or the access failed; nothing has changed
-pub record Reads (before : Moment) (w : Write) (shown : Option ℕ) (after : Moment) : Type 0 where
+pub record ReadsRegister (before : Moment) (w : Write) (shown : Option ℕ) (after : Moment) : Type 0 where
   pub same : after.targets ≡ before.targets
   pub shows : MatchOption shown (IsRefusedAt before w.slot after.failures)
       (λ n. ShowsNumber before.targets w.slot w.offset w.width n
@@ -52,9 +52,9 @@ Writes before w shown after =
 
 -- the access of a step showed this
 abbrev pub StepAnswers : Kind → Moment → Write → Option ℕ → Moment → Type 0
-StepAnswers Compare before w shown after = Reads before w shown after
+StepAnswers Compare before w shown after = ReadsRegister before w shown after
 StepAnswers Make before w shown after = Writes before w shown after
-StepAnswers ReadBack before w shown after = Reads before w shown after
+StepAnswers ReadBack before w shown after = ReadsRegister before w shown after
 
 -- a register that is read shows its number, and nothing has changed
 abbrev pub ReadShows : List Target → Write → List Target → Type 0

@@ -25,29 +25,29 @@ all_shown blocks = flat_map shown_writes blocks
 
 -- an access: what it is for, the register with the number that it is to show or to take, and how many writes stand where
 -- it is the last
-pub record Step : Type 0 where
+pub record AccessStep : Type 0 where
   pub kind : Kind
   pub register : Write
   pub done : ℕ
 
-abbrev pub compare_step : Write → Step
+abbrev pub compare_step : Write → AccessStep
 compare_step w = record { kind = Compare; register = w; done = 0 }
 
 -- a write after `done` others
-abbrev pub make_step : ℕ → Write → Step
+abbrev pub make_step : ℕ → Write → AccessStep
 make_step done w = record { kind = Make; register = w; done = done }
 
 -- it is read back
-abbrev pub read_back_step : ℕ → Write → Step
+abbrev pub read_back_step : ℕ → Write → AccessStep
 read_back_step done w = record { kind = ReadBack; register = w; done = suc done }
 
 -- the steps of writes after `done` others: each is made, and read back before the next one
-abbrev pub write_steps : ℕ → List Write → List Step
+abbrev pub write_steps : ℕ → List Write → List AccessStep
 write_steps done [] = []
 write_steps done (w ∷ ws) = make_step done w ∷ read_back_step done w ∷ write_steps (suc done) ws
 
 -- all steps: first each register is compared
-abbrev pub steps_of : List Write → List Write → List Step
+abbrev pub steps_of : List Write → List Write → List AccessStep
 steps_of compares writes = map compare_step compares ++ write_steps 0 writes
 
 -- a register that shows a number goes on where that is the wanted one, else it ends with a fault
@@ -61,6 +61,6 @@ judged_by Make w done shown = Ok tt
 judged_by ReadBack w done shown = unless_same shown w.value (Stuck done)
 
 -- what follows from a step, of which nothing is known where its access failed
-abbrev pub judged : Step → Option ℕ → Result (Unit {0}) ApplyFault
+abbrev pub judged : AccessStep → Option ℕ → Result (Unit {0}) ApplyFault
 judged step None = Err (Port step.done)
 judged step (Some shown) = judged_by step.kind step.register step.done shown

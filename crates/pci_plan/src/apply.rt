@@ -5,7 +5,7 @@ ghost use Rattle.pci_spec.specs.Machine.{target_of, after_writes};
 ghost use Rattle.pci_place.specs.Above.{system_in};
 ghost use Rattle.pci_plan.specs.Comparing.{moment};
 ghost use Rattle.pci_plan.specs.Plans.{final_of};
-ghost use Rattle.pci_plan.specs.Applying.{ShowsSystem, AreSoundTargets, writes_made, ReadBackBy, HasImages, AreSoundWhileReadBack, IsApplyFault};
+ghost use Rattle.pci_plan.specs.Applying.{ShowsSystem, AreSoundTargets, writes_applied, ReadBackBy, HasImages, AreSoundWhileReadBack, IsApplyFault};
 
 use super::apply_fault::ApplyFault;
 use super::compare::compare;
@@ -35,7 +35,7 @@ pub fn apply<P: ConfigPort, A: Allocator>(
     // on any machine, also one that writes other bits than the probe tells: the fault's count is exact
     ensures made { P.targets port.new
         ≡ after_writes (P.targets port.old)
-        (take (writes_made moving.now.writes result) moving.now.writes) }
+        (take (writes_applied moving.now.writes result) moving.now.writes) }
     // no promise is asked of a machine beforehand: an Ok says that it was the right one
     ensures started { OnOk result (ShowsSystem (P.targets port.old) (system_in moving.now.start)) }
     ensures ended { OnOk result (ShowsSystem (P.targets port.new) (final_of moving.now)) }
@@ -52,7 +52,7 @@ pub fn apply<P: ConfigPort, A: Allocator>(
     // what a write leaves hangs on the bits that can be written, so these have to be the probe's
     ensures sound { P.targets port.old ≡ map target_of (system_in moving.now.start)
         → IsSound moving.now.start.roots (system_in moving.now.start)
-        ⊎ (moving.now.safe_from ≤ writes_made moving.now.writes result)
+        ⊎ (moving.now.safe_from ≤ writes_applied moving.now.writes result)
         → AreSoundTargets moving.now.start.roots (P.targets port.new) }
     // but for writes that read back it makes no difference which bits can be written
     ensures sound_images { HasImages (P.targets port.old) (system_in moving.now.start)

@@ -6,7 +6,7 @@ ghost use Rattle.pci_place.specs.Above.{system_in};
 ghost use Rattle.pci_plan.specs.Comparing.{moment};
 ghost use Rattle.pci_plan.specs.Plans.{final_of};
 ghost use Rattle.pci_plan.specs.Writes.{write_value};
-ghost use Rattle.pci_plan.specs.Applying.{ShowsSystem, AreSoundTargets, writes_made, ReadBackBy, HasImages, AreSoundWhileReadBack, IsApplyFault};
+ghost use Rattle.pci_plan.specs.Applying.{ShowsSystem, AreSoundTargets, writes_applied, ReadBackBy, HasImages, AreSoundWhileReadBack, IsApplyFault};
 ghost use Rattle.pci_plan.specs.Steps.{all_shown};
 
 use super::apply_fault::ApplyFault;
@@ -31,7 +31,7 @@ pub fn apply_by_steps<P: ConfigPort, A: Allocator>(
     requires { map write_value compares.now ≡ all_shown moving.now.start.dump }
     ensures made { P.targets port.new
         ≡ after_writes (P.targets port.old)
-        (take (writes_made moving.now.writes result) moving.now.writes) }
+        (take (writes_applied moving.now.writes result) moving.now.writes) }
     ensures started { OnOk result (ShowsSystem (P.targets port.old) (system_in moving.now.start)) }
     ensures ended { OnOk result (ShowsSystem (P.targets port.new) (final_of moving.now)) }
     ensures read_back { ReadBackBy (moment (P.targets port.old) (P.failures port.old))
@@ -44,7 +44,7 @@ pub fn apply_by_steps<P: ConfigPort, A: Allocator>(
         → P.failures port.new ≡ P.failures port.old → IsOk result }
     ensures sound { P.targets port.old ≡ map target_of (system_in moving.now.start)
         → IsSound moving.now.start.roots (system_in moving.now.start)
-        ⊎ (moving.now.safe_from ≤ writes_made moving.now.writes result)
+        ⊎ (moving.now.safe_from ≤ writes_applied moving.now.writes result)
         → AreSoundTargets moving.now.start.roots (P.targets port.new) }
     ensures sound_images { HasImages (P.targets port.old) (system_in moving.now.start)
         → AreSoundWhileReadBack moving.now.start.roots (system_in moving.now.start)

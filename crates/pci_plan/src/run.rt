@@ -5,7 +5,7 @@ ghost use Rattle.pci_spec.specs.Machine.{Write as WriteValue};
 ghost use Rattle.pci_plan.specs.Comparing.{moment};
 ghost use Rattle.pci_plan.specs.Writes.{write_value};
 ghost use Rattle.pci_plan.specs.Making.{AreWritesMade};
-ghost use Rattle.pci_plan.specs.Going.{TakesRead, IsWritable, TakesStep, Reads, Writes, StepAnswers, StepIsDone, IsStepFault, AreAllShown, AreStopped};
+ghost use Rattle.pci_plan.specs.Going.{TakesRead, IsWritable, TakesStep, ReadsRegister, Writes, StepAnswers, StepIsDone, IsStepFault, AreAllShown, AreStopped};
 
 use super::apply_fault::ApplyFault;
 use super::write::Write;
@@ -16,7 +16,7 @@ use pci_machine::port::ConfigPort;
 /// What a register shows. `None` where the access failed.
 fn read<P: ConfigPort>(port: &mut P, register: &Write) -> Option<u32>
     requires { TakesRead (write_value register.now) }
-    ensures { Reads (moment (P.targets port.old) (P.failures port.old)) (write_value register.now)
+    ensures { ReadsRegister (moment (P.targets port.old) (P.failures port.old)) (write_value register.now)
         result (moment (P.targets port.new) (P.failures port.new)) }
 {
     match port.read(register.slot, register.off, register.width) {

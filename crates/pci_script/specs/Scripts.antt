@@ -33,17 +33,17 @@ value_text Setpci w = hex_number (if w.width == 2 then 4 else 8) w.value
 value_text Grub w = digits 16 false w.value
 
 -- a word, function, register and value
-abbrev pub register_text : Form → List ℕ → Write → List ℕ
-register_text form word w =
+abbrev pub register_and_value : Form → List ℕ → Write → List ℕ
+register_and_value form word w =
     word ++ slot_field w.slot ++ field (register_name w) ++ field (value_text form w)
 
 abbrev pub compare_line : Form → Write → List ℕ
-compare_line form w = register_text form (codes "compare") w ++ 10 ∷ []
+compare_line form w = register_and_value form (codes "compare") w ++ 10 ∷ []
 
 -- the line of a write, with its number
 abbrev pub put_line : Form → ℕ → Write → List ℕ
 put_line form number w =
-    register_text form (codes "put") w ++ field (decimal number) ++ 10 ∷ []
+    register_and_value form (codes "put") w ++ field (decimal number) ++ 10 ∷ []
 
 -- a line for each write, from this number on
 abbrev pub put_lines : Form → ℕ → List Write → List ℕ
@@ -57,12 +57,12 @@ abbrev pub head_of : Form → List ℕ
 head_of Setpci = SETPCI_HEAD.now
 head_of Grub = GRUB_HEAD.now
 
-abbrev pub end_of : Form → List ℕ
-end_of Setpci = SETPCI_END.now
-end_of Grub = GRUB_END.now
+abbrev pub script_end : Form → List ℕ
+script_end Setpci = SETPCI_END.now
+script_end Grub = GRUB_END.now
 
 -- registers are compared, then writes are made
 abbrev pub script : Form → List Block → List Write → List ℕ
 script form dump writes =
     head_of form ++ flat_map (compare_line form) (compared_with dump writes)
-    ++ put_lines form 1 writes ++ end_of form
+    ++ put_lines form 1 writes ++ script_end form

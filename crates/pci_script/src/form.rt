@@ -1,6 +1,6 @@
 //! The forms of a script.
 ghost use Rattle.std.specs.Prelude.{◌≡◌};
-ghost use Rattle.pci_script.specs.Scripts.{end_of, head_of};
+ghost use Rattle.pci_script.specs.Scripts.{script_end, head_of};
 
 use crate::texts::{GRUB_END, GRUB_HEAD, SETPCI_END, SETPCI_HEAD};
 
@@ -26,7 +26,7 @@ impl Form {
 
     /// What stands after them: it is reached where all writes were made.
     pub fn end(self) -> &'static str
-        ensures { result.now ≡ end_of self }
+        ensures { result.now ≡ script_end self }
     {
         match self {
             Form::Setpci => SETPCI_END,

@@ -3,7 +3,7 @@ ghost use Rattle.std.specs.Prelude.{◌≡◌, ◌++◌, OnOk, map};
 ghost use Rattle.std.specs.List.{flat_map};
 ghost use Rattle.std.specs.String.{string_bytes};
 ghost use Rattle.pci_plan.specs.Writes.{write_value};
-ghost use Rattle.pci_script.specs.Scripts.{compare_line, put_line, put_lines, register_text, value_text};
+ghost use Rattle.pci_script.specs.Scripts.{compare_line, put_line, put_lines, register_and_value, value_text};
 
 use crate::form::Form;
 use pci_listing::hex_text::{end_line, push_byte, push_hex, push_slot};
@@ -39,7 +39,7 @@ fn push_register<A: Allocator>(
     register: &Write,
 ) -> Result<(), AllocError>
     ensures { OnOk result (string_bytes text.new
-        ≡ string_bytes text.old ++ register_text form word.now (write_value register.now)) }
+        ≡ string_bytes text.old ++ register_and_value form word.now (write_value register.now)) }
 {
     text.push_str(word)?;
     text.push(' ')?;

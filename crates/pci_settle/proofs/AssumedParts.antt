@@ -17,7 +17,7 @@ use Rattle.pci_image.specs.Bars.{decoded_bar_of}
 use Rattle.pci_image.specs.Roms.{decoded_rom_of}
 use Rattle.pci_function.specs.declared.record.Record.{Record}
 use Rattle.pci_tree.proofs.Lifting.{same_bridge, same_slot_of}
-use Rattle.pci_place.specs.Records.{IsRecordOf}
+use Rattle.pci_place.specs.Records.{IsRecordInSystem}
 use Rattle.pci_place.proofs.Parts.{bars_in, bars_of, rom_of, rom_there}
 use Rattle.pci_place.proofs.Owned.{no_rom}
 use Rattle.pci_settle_places.specs.Claims.{is_rom_on}
@@ -48,7 +48,7 @@ one_of : {X Z : Type 0} (value : X → Z) (b : Bool) (x : X) → option_map valu
 one_of value true x = refl
 one_of value false x = refl
 
-module _ (named : List AssumedRegister) (s : System) (f : Function) (r : Record) (is : IsRecordOf s f r) where
+module _ (named : List AssumedRegister) (s : System) (f : Function) (r : Record) (is : IsRecordInSystem s f r) where
   abbrev lacks : Part → Bool
   lacks part = is_assumed_part named f part
 

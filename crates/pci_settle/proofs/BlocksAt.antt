@@ -21,7 +21,7 @@ use Rattle.pci_base.specs.Space.{is_on}
 use Rattle.pci_tree.specs.Admission.{Admission, IsAdmitted}
 use Rattle.pci_place.specs.Above.{system_in}
 use Rattle.pci_settle.specs.Dumps.{IsSettledDump}
-use Rattle.pci_settle.specs.ToldEndings.{is_enabled_in, AreFlagsThen}
+use Rattle.pci_settle.specs.ToldEndings.{is_enabled_in_blocks, AreFlagsThen}
 
 abbrev number_of : Block → ℕ
 number_of b = slot_number b.slot
@@ -56,19 +56,19 @@ space_is b p Io = refl
 space_is b p Memory = refl
 
 -- where the probe has as many blocks
-pub enabled_is : (slot : Slot) (space : Space) (dump probe : List Block) → length dump ≡ length probe → is_enabled_in dump slot space ≡ is_enabled_at (system_of dump probe) slot space
+pub enabled_is : (slot : Slot) (space : Space) (dump probe : List Block) → length dump ≡ length probe → is_enabled_in_blocks dump slot space ≡ is_enabled_at (system_of dump probe) slot space
 enabled_is slot space [] probe same = refl
 enabled_is slot space (b ∷ dump) [] same = absurd (let no : ⊥ = omega (arith, same) in no)
 enabled_is slot space (b ∷ dump) (p ∷ probe) same =
-    ap (λ on. (same_slot b.slot slot && on) || is_enabled_in dump slot space) (space_is b p space)
+    ap (λ on. (same_slot b.slot slot && on) || is_enabled_in_blocks dump slot space) (space_is b p space)
     ∙ ap (λ rest. (same_slot b.slot slot && is_space_on (function_of b p) space) || rest) (enabled_is slot space dump probe (let e : length dump ≡ length probe = omega (arith, same) in e))
 
 -- so flags by the settled dump are those by the settled system
 pub flags_of : (q : Request) (keep : Kept) (a : Admission) (dump : List Block) → IsAdmitted a → IsSettledDump q keep a dump
-    → AreFlagsThen q (system_in a) keep (map (λ r. is_enabled_in dump r.slot r.space) q.told.ranges)
+    → AreFlagsThen q (system_in a) keep (map (λ r. is_enabled_in_blocks dump r.slot r.space) q.told.ranges)
 flags_of q keep a dump admitted settled n r at =
-    get_or-map (λ r. is_enabled_in dump r.slot r.space) q.told.ranges n r false (slice_get_within q.told.ranges n r at)
-    ∙ ap (λ x. is_enabled_in dump x.slot x.space) (get_or_from_slice_get q.told.ranges n r r at)
+    get_or-map (λ r. is_enabled_in_blocks dump r.slot r.space) q.told.ranges n r false (slice_get_within q.told.ranges n r at)
+    ∙ ap (λ x. is_enabled_in_blocks dump x.slot x.space) (get_or_from_slice_get q.told.ranges n r r at)
     ∙ enabled_is r.slot r.space dump a.probe (same_length dump a.probe (settled.slots ∙ admitted.slots))
     ∙ ap (λ s. is_enabled_at s r.slot r.space) settled.system
 

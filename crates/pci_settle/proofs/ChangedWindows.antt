@@ -15,11 +15,11 @@ use Rattle.pci_function.specs.declared.record.Bridge.{Bridge}
 use Rattle.pci_function.specs.declared.record.Record.{Record}
 use Rattle.pci_tree.specs.Passes.{range_in}
 use Rattle.pci_tree.proofs.Lifting.{same_bridge}
-use Rattle.pci_place.specs.Records.{IsRecordOf}
+use Rattle.pci_place.specs.Records.{IsRecordInSystem}
 use Rattle.pci_kept.proofs.OfRecord.{window_is as shown_window}
-use Rattle.pci_settle_places.specs.Images.{is_window_kept}
+use Rattle.pci_settle_places.specs.Images.{is_staying_window}
 use Rattle.pci_settle.specs.declared.way.ByClass.{ByClass}
-use Rattle.pci_settle.specs.Shut.{in_class, by_class, is_window_changed, changed_window}
+use Rattle.pci_settle.specs.Shut.{in_class, flags_by_class, is_window_changed, changed_window}
 use Rattle.pci_settle.proofs.Moving.{window_is}
 
 some_if : {X : Type 0} (b : Bool) (x : X) → is_some (cond b (Some x) None) ≡ b
@@ -31,18 +31,18 @@ and_false true = refl
 and_false false = refl
 
 -- what holds of each class
-pub class_of_test : (test : WindowKind → Bool) (c : WindowKind) → in_class (by_class test) c ≡ test c
+pub class_of_test : (test : WindowKind → Bool) (c : WindowKind) → in_class (flags_by_class test) c ≡ test c
 class_of_test test IoWindow = refl
 class_of_test test MemoryWindow = refl
 class_of_test test PrefetchWindow = refl
 
-pub same_classes : (o : ByClass) (test : WindowKind → Bool) → ((c : WindowKind) → in_class o c ≡ test c) → o ≡ by_class test
+pub same_classes : (o : ByClass) (test : WindowKind → Bool) → ((c : WindowKind) → in_class o c ≡ test c) → o ≡ flags_by_class test
 same_classes o test same =
     let made : Bool → Bool → Bool → ByClass = λ io memory prefetchable. record { io = io; memory = memory; prefetchable = prefetchable } in
     ap (λ b. made b o.memory o.prefetchable) (same IoWindow) ∙ ap (λ b. made (test IoWindow) b o.prefetchable) (same MemoryWindow)
     ∙ ap (made (test IoWindow) (test MemoryWindow)) (same PrefetchWindow)
 
-module _ (q : Request) (s : System) (keep : Kept) (f : Function) (r : Record) (is : IsRecordOf s f r) (old plain new : List ℕ)
+module _ (q : Request) (s : System) (keep : Kept) (f : Function) (r : Record) (is : IsRecordInSystem s f r) (old plain new : List ℕ)
     (old_is : old ≡ f.image) (plain_is : plain ≡ (settled_function q s (unwished keep) f).image) (new_is : new ≡ (settled_function q s keep f).image) where
   -- those of a bridge change as the definitions say
   pub changed_there : (b : Bridge) → r.bridge ≡ Some b → (c : WindowKind) → changed_window (Some b) old plain new c ≡ changes_window q s keep c f
@@ -55,14 +55,14 @@ module _ (q : Request) (s : System) (keep : Kept) (f : Function) (r : Record) (i
       ∙ ap (λ x. changes && (not x || more)) (ap is_some (shown_window s f r b is some c) ∙ some_if (is_open f c) _)
 
   -- those that are closed are replaced
-  pub closed_there : (kept : ByKind Bool) → (is_bridge f ≡ true → (c : WindowKind) → is_window_kept kept c ≡ keep.stays (window_part c f))
-      → (c : WindowKind) → (not (is_window_kept kept c) && changed_window r.bridge old plain new c) ≡ is_replaced q s keep f c
+  pub closed_there : (kept : ByKind Bool) → (is_bridge f ≡ true → (c : WindowKind) → is_staying_window kept c ≡ keep.stays (window_part c f))
+      → (c : WindowKind) → (not (is_staying_window kept c) && changed_window r.bridge old plain new c) ≡ is_replaced q s keep f c
   closed_there kept kept_is c = by r.bridge refl
     where
-      by : (o : Option Bridge) → r.bridge ≡ o → (not (is_window_kept kept c) && changed_window o old plain new c) ≡ is_replaced q s keep f c
+      by : (o : Option Bridge) → r.bridge ≡ o → (not (is_staying_window kept c) && changed_window o old plain new c) ≡ is_replaced q s keep f c
       by None e =
           let off : is_bridge f ≡ false = sym (same_bridge r f is.value) ∙ ap is_some e in
-          and_false (not (is_window_kept kept c)) ∙ sym (ap (λ b. b && not (keep.stays (window_part c f)) && changes_window q s keep c f) off)
+          and_false (not (is_staying_window kept c)) ∙ sym (ap (λ b. b && not (keep.stays (window_part c f)) && changes_window q s keep c f) off)
       by (Some b) e =
           let bridge : is_bridge f ≡ true = sym (same_bridge r f is.value) ∙ ap is_some e in
           ap (λ k. not k && changed_window (Some b) old plain new c) (kept_is bridge c)

@@ -19,15 +19,15 @@ use Rattle.pci_function.specs.declared.record.Bridge.{Bridge}
 use Rattle.pci_function.specs.declared.record.Record.{Record}
 use Rattle.pci_tree.proofs.Lifting.{same_bridge}
 use Rattle.pci_tree.proofs.RegionParts.{same_bridge_of}
-use Rattle.pci_place.specs.Records.{IsRecordOf}
+use Rattle.pci_place.specs.Records.{IsRecordInSystem}
 use Rattle.pci_place.proofs.BusTables.{AreTo, none_yet, of_bus, same_after, put_after}
-use Rattle.pci_settle_places.specs.Images.{is_window_kept}
+use Rattle.pci_settle_places.specs.Images.{is_staying_window}
 use Rattle.pci_settle.specs.declared.closed.Closing.{Closing}
 use Rattle.pci_settle.specs.declared.shut.Around.{Around}
 use Rattle.pci_settle.specs.declared.way.BySpace.{BySpace}
 use Rattle.pci_settle.specs.declared.way.ByClass.{ByClass}
 use Rattle.pci_settle.specs.declared.way.Way.{Way}
-use Rattle.pci_settle.specs.Shut.{IsWay, IsAround, in_space, in_class, by_class, changed_window, is_shut_by, closing_by, closing_in, AreClosings}
+use Rattle.pci_settle.specs.Shut.{IsWay, IsAroundFunction, flag_in_space, in_class, flags_by_class, changed_window, is_shut_by, closing_by, closing_in, AreClosings}
 use Rattle.pci_settle.specs.ToldEndings.{AreClearAbove}
 use Rattle.pci_settle.specs.Stages.{AreOf, AreSettledBlocks}
 use Rattle.pci_settle.proofs.StagedWrites.{same_at, kept_window}
@@ -59,7 +59,7 @@ module _ (q : Request) (roots : List ℕ) (s : System) (keep : Kept) (system : I
 
   -- ---- the next function
 
-  module _ (k : ℕ) (f : Function) (r : Record) (at : slice_get s k ≡ Some f) (is : IsRecordOf s f r) where
+  module _ (k : ℕ) (f : Function) (r : Record) (at : slice_get s k ≡ Some f) (is : IsRecordInSystem s f r) where
     -- its blocks show its images
     pub start_image : (start : List Block) (b : Block) → b ≡ get_or start k b → AreOf s start → b.image ≡ f.image
     start_image start b b_at of = same_at (λ (x : Block). x.image) (λ (x : Function). x.image) start s of.images k b f (slice_get_within s k f at) b_at (sym (get_or_from_slice_get s k f f at))
@@ -72,12 +72,12 @@ module _ (q : Request) (roots : List ℕ) (s : System) (keep : Kept) (system : I
     pub way_at : (ways : List Way) (closings : List Closing) → AreClosedTo q roots s keep k ways closings → (d : Way) → IsWay q s keep f.slot.bus (get_or ways f.slot.bus d)
     way_at ways closings was d = of_bus (IsWay q s keep) roots s system nested k f at ways was.marks d
 
-    module _ (o : Around) (around : IsAround q s keep f o) (old plain new : List ℕ)
+    module _ (o : Around) (around : IsAroundFunction q s keep f o) (old plain new : List ℕ)
         (old_is : old ≡ f.image) (plain_is : plain ≡ (settled_function q s (unwished keep) f).image) (new_is : new ≡ (settled_function q s keep f).image)
-        (itself shut : BySpace) (itself_by : (x : Space) → in_space itself x ≡ is_shut_by o x old new r) (shut_by : (x : Space) → in_space shut x ≡ (in_space itself x || not (in_space o.way.clear x)))
-        (changed windows : ByClass) (changed_by : changed ≡ by_class (changed_window r.bridge old plain new)) (windows_by : (c : WindowKind) → in_class windows c ≡ (not (is_window_kept o.kept.now.windows c) && in_class changed c))
+        (itself shut : BySpace) (itself_by : (x : Space) → flag_in_space itself x ≡ is_shut_by o x old new r) (shut_by : (x : Space) → flag_in_space shut x ≡ (flag_in_space itself x || not (flag_in_space o.way.clear x)))
+        (changed windows : ByClass) (changed_by : changed ≡ flags_by_class (changed_window r.bridge old plain new)) (windows_by : (c : WindowKind) → in_class windows c ≡ (not (is_staying_window o.kept.now.windows c) && in_class changed c))
         (ways : List Way) (closings cs : List Closing) (was : AreClosedTo q roots s keep k ways closings) (cs_is : cs ≡ closings ++ record { command = closing_by o r shut; windows = windows } ∷ []) where
-      itself_same : (x : Space) → in_space itself x ≡ is_shut_itself q s keep x f
+      itself_same : (x : Space) → flag_in_space itself x ≡ is_shut_itself q s keep x f
       itself_same x = itself_by x ∙ itself_is q s keep f r is o around old new old_is new_is x
 
       changed_same : (c : WindowKind) → in_class changed c ≡ changed_window r.bridge old plain new c
@@ -89,10 +89,10 @@ module _ (q : Request) (roots : List ℕ) (s : System) (keep : Kept) (system : I
 
       closing_same : made (closing_by o r shut) windows ≡ closing_in q s keep f
       closing_same =
-          let kept : is_bridge f ≡ true → (c : WindowKind) → is_window_kept o.kept.now.windows c ≡ keep.stays (window_part c f) = λ bridge c. kept_window o.kept.now c ∙ around.kept (Window c) bridge in
+          let kept : is_bridge f ≡ true → (c : WindowKind) → is_staying_window o.kept.now.windows c ≡ keep.stays (window_part c f) = λ bridge c. kept_window o.kept.now c ∙ around.kept (Window c) bridge in
           ap (λ n. made n windows) (closing_is q s keep f r is o around shut (shut_is q s keep f r is o around itself shut itself_same shut_by))
           ∙ ap (made (closing_command q s keep f)) (same_classes windows (is_replaced q s keep f)
-          (λ c. windows_by c ∙ ap (λ x. not (is_window_kept o.kept.now.windows c) && x) (changed_same c) ∙ closed_there q s keep f r is old plain new old_is plain_is new_is o.kept.now.windows kept c))
+          (λ c. windows_by c ∙ ap (λ x. not (is_staying_window o.kept.now.windows c) && x) (changed_same c) ∙ closed_there q s keep f r is old plain new old_is plain_is new_is o.kept.now.windows kept c))
 
       values_more : cs ≡ map (closing_in q s keep) (take (k + 1) s)
       values_more =
@@ -109,7 +109,7 @@ module _ (q : Request) (roots : List ℕ) (s : System) (keep : Kept) (system : I
           record { marks = same_after (IsWay q s keep) roots s system nested k f at ways was.marks off; values = values_more }
 
       pub closed_more : (b : Bridge) → r.bridge ≡ Some b → (to : ℕ) → to ≡ b.secondary → (next : Way)
-          → ((x : Space) → in_space next.on x ≡ (in_space o.way.on x && is_on r.command x)) → ((x : Space) → in_space next.clear x ≡ (in_space o.way.clear x && not (in_space itself x)))
+          → ((x : Space) → flag_in_space next.on x ≡ (flag_in_space o.way.on x && is_on r.command x)) → ((x : Space) → flag_in_space next.clear x ≡ (flag_in_space o.way.clear x && not (flag_in_space itself x)))
           → ((c : WindowKind) → in_class next.same c ≡ (in_class o.way.same c && not (in_class changed c))) → AreClosedTo q roots s keep (k + 1) (set ways to next) cs
       closed_more b some to to_is next on clear stay =
           let bridge : is_bridge f ≡ true = sym (same_bridge r f is.value) ∙ ap is_some some in

@@ -24,7 +24,7 @@ use Rattle.pci_tree.specs.Passes.{range_in}
 use Rattle.pci_tree.proofs.Lifting.{same_bridge, same_slot_of}
 use Rattle.pci_place.specs.declared.above.Above.{Above}
 use Rattle.pci_place.specs.Above.{IsAbove}
-use Rattle.pci_place.specs.Records.{IsRecordOf}
+use Rattle.pci_place.specs.Records.{IsRecordInSystem}
 use Rattle.pci_place.proofs.Parts.{bars_in, bars_of, rom_of}
 use Rattle.pci_first_fit.specs.declared.own.Terms.{Terms}
 use Rattle.pci_first_fit.specs.Slots.{demand_of}
@@ -57,7 +57,7 @@ first_of_four value false false true d x y z w = refl
 first_of_four value false false false true x y z w = refl
 first_of_four value false false false false x y z w = refl
 
-module _ (q : Request) (s : System) (f : Function) (r : Record) (is : IsRecordOf s f r) (above : Above) (over : IsAbove s f.slot.bus above) (t : Terms) (terms : AreTerms (demand_of q) t) (told : Kept) (test : FunctionPart → Bool) where
+module _ (q : Request) (s : System) (f : Function) (r : Record) (is : IsRecordInSystem s f r) (above : Above) (over : IsAbove s f.slot.bus above) (t : Terms) (terms : AreTerms (demand_of q) t) (told : Kept) (test : FunctionPart → Bool) where
   abbrev region : Part → FunctionPart
   region part = record { function = f; part = part }
 

@@ -18,7 +18,7 @@ use Rattle.pci_first_fit.specs.declared.kept.Kept.{Kept}
 use Rattle.pci_settle.specs.declared.lack.SettleFault.{SettleFault}
 use Rattle.pci_settle.specs.Told.{IsTableOf}
 use Rattle.pci_settle.specs.Denied.{IsSpared}
-use Rattle.pci_settle.specs.Ended.{Ended, IsEnded}
+use Rattle.pci_settle.specs.Ended.{Ended, IsEndOfSettling}
 use Rattle.pci_settle.specs.Endings.{kept_after, IsEndedAfter, HasLarge}
 use Rattle.pci_settle.specs.Alike.{PassesPartsOnly}
 use Rattle.pci_settle.specs.Sparing.{IsWishedFor, HaveSpares}
@@ -32,8 +32,8 @@ module _ (a : Admission) (q : Request) (fine : are_bad_lists q.roots q.lists ≡
   s = system_in a
 
   -- what the code compares is what stays with slots
-  module _ (o : Ended) (is : IsEnded q (kept_after q s) a o) where
-    abbrev last : IsEnded q (finally_kept q s) a o
+  module _ (o : Ended) (is : IsEndOfSettling q (kept_after q s) a o) where
+    abbrev last : IsEndOfSettling q (finally_kept q s) a o
     last = ended a q fine o is
 
     pub alike_told : (have : Bool) (table : List Kept) → table ≡ o.staying
@@ -58,14 +58,14 @@ no_elements [] b is empty = refl
 no_elements (x ∷ xs) b is empty = absurd (let none = eqb-true (length (x ∷ xs)) 0 (sym is ∙ empty) in let no : ⊥ = omega (arith, none) in no)
 
 module _ (a : Admission) (admitted : IsAdmitted a) (q : Request) (roots_are : q.roots ≡ a.roots) (fine : are_bad_lists q.roots q.lists ≡ false)
-    (high : (r : RootRange) → Contains q.lists.prefetch r → r.range.last < 2 ^ 64) (o : Ended) (is : IsEnded (without_slots q) (kept_after (without_slots q) (system_in a)) a o) where
+    (high : (r : RootRange) → Contains q.lists.prefetch r → r.range.last < 2 ^ 64) (o : Ended) (is : IsEndOfSettling (without_slots q) (kept_after (without_slots q) (system_in a)) a o) where
   abbrev here : System
   here = system_in a
 
   abbrev w : Request
   w = without_slots q
 
-  abbrev alone : IsEnded w (finally_kept w here) a o
+  abbrev alone : IsEndOfSettling w (finally_kept w here) a o
   alone = ended a w fine o is
 
   settled_alone : is_settled (settle_growing w here) ≡ true
@@ -75,7 +75,7 @@ module _ (a : Admission) (admitted : IsAdmitted a) (q : Request) (roots_are : q.
   have_by have told = told (finally_kept w here) alone.tells.stays_are (λ r stays. stands_part w here r (alone.tells.standing r stays))
 
   module _ (dump : List Block) (writes : List Write) (count : ℕ) (denied : List (Slot × ℕ)) where
-    pub with_them : HaveSpares a q o.staying true → (sparing : Ended) → IsEnded q (kept_after q here) a sparing → IsWishedFor q q.slots (finally_kept q here) a dump writes count denied → IsSpared q a dump writes count denied
+    pub with_them : HaveSpares a q o.staying true → (sparing : Ended) → IsEndOfSettling q (kept_after q here) a sparing → IsWishedFor q q.slots (finally_kept q here) a dump writes count denied → IsSpared q a dump writes count denied
     with_them told sparing ends wished = spared a admitted q roots_are fine high q.slots sparing ends dump writes count denied wished
         (elim (have_by true told) [
           | inl have ↦ inl (ap (λ b. cond b q w) have)

@@ -26,7 +26,7 @@ use Rattle.pci_first_fit.specs.Keeping.{TellsKept}
 use Rattle.pci_first_fit.specs.Over.{AreOpenOver}
 use Rattle.pci_first_fit.proofs.AsItStands.{stands_told}
 use Rattle.pci_grow.specs.Growing.{Grown, AreGrown}
-use Rattle.pci_kept.specs.Known.{asked_by}
+use Rattle.pci_kept.specs.Known.{asked_by_rules}
 use Rattle.pci_kept.specs.Passing.{AreStanding}
 use Rattle.pci_kept.specs.declared.rules.Rules.{Rules}
 use Rattle.pci_kept.specs.Boards.{IsTree}
@@ -91,60 +91,60 @@ module _ (a : Admission) (l : Demand) where
     }
 
   -- where something may stay
-  pub asked_is : (rules : Rules) → IsAskedOf (asked_by a.roots l rules) a.roots l
+  pub asked_is : (rules : Rules) → IsAskedOf (asked_by_rules a.roots l rules) a.roots l
   asked_is rules = record { roots_are = refl; demands_are = refl }
 
   module _ (rules : Rules) (table : List Kept) {made : List Kept} (is : table ≡ made) where
-    pub table_stand : AreStanding (asked_by a.roots l rules) (system_in a) made → IsTableOf (system_in a) (stands (asked_by a.roots l rules) (system_in a)) table
-    table_stand stand = subst (IsTableOf (system_in a) (stands (asked_by a.roots l rules) (system_in a))) (sym is) record { count = stand.count; each = stand.each }
+    pub table_stand : AreStanding (asked_by_rules a.roots l rules) (system_in a) made → IsTableOf (system_in a) (stands (asked_by_rules a.roots l rules) (system_in a)) table
+    table_stand stand = subst (IsTableOf (system_in a) (stands (asked_by_rules a.roots l rules) (system_in a))) (sym is) record { count = stand.count; each = stand.each }
 
-    pub table_stay : (holds : FunctionPart → Bool) → AreStayingBy (asked_by a.roots l rules) (system_in a) holds made
-        → IsTableOf (system_in a) (stays_by (asked_by a.roots l rules) (system_in a) holds) table
+    pub table_stay : (holds : FunctionPart → Bool) → AreStayingBy (asked_by_rules a.roots l rules) (system_in a) holds made
+        → IsTableOf (system_in a) (stays_by (asked_by_rules a.roots l rules) (system_in a) holds) table
     table_stay holds stay =
-        subst (IsTableOf (system_in a) (stays_by (asked_by a.roots l rules) (system_in a) holds)) (sym is) (table_of_staying (asked_by a.roots l rules) (system_in a) holds made stay)
+        subst (IsTableOf (system_in a) (stays_by (asked_by_rules a.roots l rules) (system_in a) holds)) (sym is) (table_of_staying (asked_by_rules a.roots l rules) (system_in a) holds made stay)
 
   module _ (rules : Rules) (admitted : IsAdmitted a) (records : List Record) {values : List decoded.Record} (same : map record_value records ≡ values) (has : HasRecords (system_in a) values)
       (left : Left) (opened : (q : Request) (s : System) → IsTree q s records → q.anew ≡ rules.anew → AreOpenOver q s left.over.now) (staying : List Kept) {stayed : List Kept} (stayed_is : staying ≡ stayed) where
-    overs : AreOpenOver (asked_by a.roots l rules) (system_in a) left.over.now
-    overs = opened (asked_by a.roots l rules) (system_in a) (tree_of a l rules admitted records same has) refl
+    overs : AreOpenOver (asked_by_rules a.roots l rules) (system_in a) left.over.now
+    overs = opened (asked_by_rules a.roots l rules) (system_in a) (tree_of a l rules admitted records same has) refl
 
     -- as it stands
-    module _ (kept_is : left.kept.now ≡ stayed) (none_grown : left.grown.now ≡ []) (stay : AreStaying (asked_by a.roots l rules) (system_in a) stayed) where
-      pub leaving_rest : IsLeaving (asked_by a.roots l rules) (as_it_stands (asked_by a.roots l rules) (system_in a)) a.roots (system_in a) l left
+    module _ (kept_is : left.kept.now ≡ stayed) (none_grown : left.grown.now ≡ []) (stay : AreStaying (asked_by_rules a.roots l rules) (system_in a) stayed) where
+      pub leaving_rest : IsLeaving (asked_by_rules a.roots l rules) (as_it_stands (asked_by_rules a.roots l rules) (system_in a)) a.roots (system_in a) l left
       leaving_rest = record {
         rooted = refl;
         demands = refl;
         overs_are = overs;
-        keeps_is = stands_told (asked_by a.roots l rules) (system_in a) left none_grown
+        keeps_is = stands_told (asked_by_rules a.roots l rules) (system_in a) left none_grown
             (λ k f part at there. ap (λ t. kept_of (slice_index_or t k nothing_kept) part) kept_is ∙ stay.each k f part at there);
       }
 
       pub rest_can_be_left : CanBeLeft a.roots (system_in a) l left
-      rest_can_be_left = record { request = asked_by a.roots l rules; keep = as_it_stands (asked_by a.roots l rules) (system_in a); leaving = leaving_rest }
+      rest_can_be_left = record { request = asked_by_rules a.roots l rules; keep = as_it_stands (asked_by_rules a.roots l rules) (system_in a); leaving = leaving_rest }
 
-      pub told_rest : AreFixedKept (asked_by a.roots l rules) (system_in a) (as_it_stands (asked_by a.roots l rules) (system_in a))
-          → AreAskedFor (asked_by a.roots l rules) (as_it_stands (asked_by a.roots l rules) (system_in a)) a l left staying
+      pub told_rest : AreFixedKept (asked_by_rules a.roots l rules) (system_in a) (as_it_stands (asked_by_rules a.roots l rules) (system_in a))
+          → AreAskedFor (asked_by_rules a.roots l rules) (as_it_stands (asked_by_rules a.roots l rules) (system_in a)) a l left staying
       told_rest kept = record {
         asked = asked_is rules;
         leaving = leaving_rest;
         kept = kept;
-        stay = table_stay rules staying stayed_is (has_room_behind (asked_by a.roots l rules) (system_in a)) stay;
+        stay = table_stay rules staying stayed_is (has_room_behind (asked_by_rules a.roots l rules) (system_in a)) stay;
         none = refl;
       }
 
     -- where windows grow
-    module _ (grown : Grown) (stays_are : grown.stays ≡ stayed) (are : AreGrown (asked_by a.roots l rules) (system_in a) grown)
-        (tells : TellsKept (asked_by a.roots l rules) (system_in a) (growing (asked_by a.roots l rules) (system_in a)) left) where
-      pub leaving_grown : IsLeaving (asked_by a.roots l rules) (growing (asked_by a.roots l rules) (system_in a)) a.roots (system_in a) l left
+    module _ (grown : Grown) (stays_are : grown.stays ≡ stayed) (are : AreGrown (asked_by_rules a.roots l rules) (system_in a) grown)
+        (tells : TellsKept (asked_by_rules a.roots l rules) (system_in a) (growing (asked_by_rules a.roots l rules) (system_in a)) left) where
+      pub leaving_grown : IsLeaving (asked_by_rules a.roots l rules) (growing (asked_by_rules a.roots l rules) (system_in a)) a.roots (system_in a) l left
       leaving_grown = record { rooted = refl; demands = refl; overs_are = overs; keeps_is = tells }
 
       pub grown_can_be_left : CanBeLeft a.roots (system_in a) l left
-      grown_can_be_left = record { request = asked_by a.roots l rules; keep = growing (asked_by a.roots l rules) (system_in a); leaving = leaving_grown }
+      grown_can_be_left = record { request = asked_by_rules a.roots l rules; keep = growing (asked_by_rules a.roots l rules) (system_in a); leaving = leaving_grown }
 
-      pub table_grown : IsTableOf (system_in a) (stays_growing (asked_by a.roots l rules) (system_in a)) staying
-      table_grown = table_stay rules staying stayed_is (is_kept (asked_by a.roots l rules) (system_in a))
-          (subst (AreStayingBy (asked_by a.roots l rules) (system_in a) (is_kept (asked_by a.roots l rules) (system_in a))) stays_are are.stay)
+      pub table_grown : IsTableOf (system_in a) (stays_growing (asked_by_rules a.roots l rules) (system_in a)) staying
+      table_grown = table_stay rules staying stayed_is (is_kept (asked_by_rules a.roots l rules) (system_in a))
+          (subst (AreStayingBy (asked_by_rules a.roots l rules) (system_in a) (is_kept (asked_by_rules a.roots l rules) (system_in a))) stays_are are.stay)
 
-      pub told_grown : AreFixedKept (asked_by a.roots l rules) (system_in a) (growing (asked_by a.roots l rules) (system_in a))
-          → AreAskedFor (asked_by a.roots l rules) (growing (asked_by a.roots l rules) (system_in a)) a l left staying
+      pub told_grown : AreFixedKept (asked_by_rules a.roots l rules) (system_in a) (growing (asked_by_rules a.roots l rules) (system_in a))
+          → AreAskedFor (asked_by_rules a.roots l rules) (growing (asked_by_rules a.roots l rules) (system_in a)) a l left staying
       told_grown kept = record { asked = asked_is rules; leaving = leaving_grown; kept = kept; stay = table_grown; none = refl }

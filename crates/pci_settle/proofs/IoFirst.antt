@@ -10,7 +10,7 @@ use Rattle.plan_spec.specs.Plan.{same_class}
 use Rattle.plan_spec.proofs.Planning.PlacedItems.{same_class_is}
 use Rattle.settle_spec.specs.FirstPlace.{Extent}
 use Rattle.settle_spec.specs.Lists.{Request}
-use Rattle.settle_spec.specs.Items.{Item, Placing, AllPlaced, Lacks}
+use Rattle.settle_spec.specs.Items.{PlacingItem, Placing, AllPlaced, Lacks}
 use Rattle.settle_spec.specs.Places.{first_lack}
 use Rattle.settle_spec.specs.Kept.{Kept, as_it_stands}
 use Rattle.settle_spec.specs.Keeping.Places.{placing_on, space_items, lacking_on, lacking}
@@ -38,25 +38,25 @@ use Rattle.settle_spec.specs.Writes.{or_lack}
 use Rattle.pci_settle_places.specs.Spaces.{space_lack}
 use Rattle.pci_settle.proofs.Lacking.{first_cases, space_has}
 
-of_space : (q : Request) (s : System) (keep : Kept) (space : Space) (bus : ℕ) (i : Item) → Contains (space_items q s keep space bus) i → window_space i.class ≡ space
+of_space : (q : Request) (s : System) (keep : Kept) (space : Space) (bus : ℕ) (i : PlacingItem) → Contains (space_items q s keep space bus) i → window_space i.class ≡ space
 of_space q s keep space bus i listed = each_in q s keep space bus (λ x. window_space x.class ≡ space) (λ c of f on part is. of) (λ c of f on is. of) i listed
 
-lack_space : (q : Request) (s : System) (keep : Kept) (space : Space) (root : ℕ) (i : Item) → first_lack (placing_on q s keep space root) None ≡ Some i → window_space i.class ≡ space
+lack_space : (q : Request) (s : System) (keep : Kept) (space : Space) (root : ℕ) (i : PlacingItem) → first_lack (placing_on q s keep space root) None ≡ Some i → window_space i.class ≡ space
 lack_space q s keep space root i e = elim (first_cases (placing_on q s keep space root) None i e) [
   | inl lacks ↦ of_space q s keep space root i (space_has q s keep space root i lacks)
   | inr none ↦ absurd (none-some i none)
 ]
 
-only : (p : Placing) (other : Option Item) (i : Item) → first_lack p None ≡ Some i → first_lack p other ≡ Some i
+only : (p : Placing) (other : Option PlacingItem) (i : PlacingItem) → first_lack p None ≡ Some i → first_lack p other ≡ Some i
 only (AllPlaced placed) other i some = absurd (none-some i some)
 only (Lacks j) other i some = some
 
-none_first : (p : Placing) (other : Option Item) → first_lack p other ≡ None → first_lack p None ≡ None
+none_first : (p : Placing) (other : Option PlacingItem) → first_lack p other ≡ None → first_lack p None ≡ None
 none_first (AllPlaced placed) other none = refl
 none_first (Lacks j) other none = none
 
 module _ (q : Request) (s : System) (keep : Kept) where
-  io_lacks : (roots : List ℕ) (i : Item) → space_lack q s keep Io roots ≡ Some i → (lacking_on q s keep roots ≡ Some i) × (window_space i.class ≡ Io)
+  io_lacks : (roots : List ℕ) (i : PlacingItem) → space_lack q s keep Io roots ≡ Some i → (lacking_on q s keep roots ≡ Some i) × (window_space i.class ≡ Io)
   io_lacks [] i e = absurd (none-some i e)
   io_lacks (root ∷ roots) i e = (only (placing_on q s keep Io root) (first_lack (placing_on q s keep Memory root) None) i e, lack_space q s keep Io root i e)
 
@@ -65,7 +65,7 @@ module _ (q : Request) (s : System) (keep : Kept) where
   io_has (root ∷ roots) none = none_first (placing_on q s keep Io root) (first_lack (placing_on q s keep Memory root) None) none
 
   -- the first item that lacks a place is of I/O
-  io_is : (roots : List ℕ) (i : Item) → lacking_on q s keep roots ≡ Some i → window_space i.class ≡ Io → space_lack q s keep Io roots ≡ Some i
+  io_is : (roots : List ℕ) (i : PlacingItem) → lacking_on q s keep roots ≡ Some i → window_space i.class ≡ Io → space_lack q s keep Io roots ≡ Some i
   io_is [] i e io = absurd (none-some i e)
   io_is (root ∷ roots) i e io = elim (first_cases (placing_on q s keep Io root) (first_lack (placing_on q s keep Memory root) None) i e) [
     | inl lacks ↦ ap (λ p. first_lack p None) lacks
@@ -73,14 +73,14 @@ module _ (q : Request) (s : System) (keep : Kept) where
   ]
 
   -- it isn't
-  io_free_by : (roots : List ℕ) (i : Item) → lacking_on q s keep roots ≡ Some i → (window_space i.class ≡ Io → ⊥) → (o : Option Item) → space_lack q s keep Io roots ≡ o → space_lack q s keep Io roots ≡ None
+  io_free_by : (roots : List ℕ) (i : PlacingItem) → lacking_on q s keep roots ≡ Some i → (window_space i.class ≡ Io → ⊥) → (o : Option PlacingItem) → space_lack q s keep Io roots ≡ o → space_lack q s keep Io roots ≡ None
   io_free_by roots i e memory None at = at
   io_free_by roots i e memory (Some j) at =
       let is = io_lacks roots j at in
       let same : i ≡ j = same_Some i j (sym e ∙ is.0) in
-      absurd (memory (ap (λ (x : Item). window_space x.class) same ∙ is.1))
+      absurd (memory (ap (λ (x : PlacingItem). window_space x.class) same ∙ is.1))
 
-  io_free : (roots : List ℕ) (i : Item) → lacking_on q s keep roots ≡ Some i → (window_space i.class ≡ Io → ⊥) → space_lack q s keep Io roots ≡ None
+  io_free : (roots : List ℕ) (i : PlacingItem) → lacking_on q s keep roots ≡ Some i → (window_space i.class ≡ Io → ⊥) → space_lack q s keep Io roots ≡ None
   io_free roots i e memory = io_free_by roots i e memory (space_lack q s keep Io roots) refl
 
 module _ (q : Request) (s : System) where
@@ -101,10 +101,10 @@ module _ (q : Request) (s : System) where
   pub alone_placed : lacking (io_alone q) s alone ≡ None → space_lack q s all Io q.roots ≡ None
   alone_placed none = alone_free (io_has (io_alone q) s alone q.roots none)
 
-  pub alone_memory : (i : Item) → lacking (io_alone q) s alone ≡ Some i → (window_space i.class ≡ Io → ⊥) → space_lack q s all Io q.roots ≡ None
+  pub alone_memory : (i : PlacingItem) → lacking (io_alone q) s alone ≡ Some i → (window_space i.class ≡ Io → ⊥) → space_lack q s all Io q.roots ≡ None
   alone_memory i e memory = alone_free (io_free (io_alone q) s alone q.roots i e memory)
 
-  pub alone_lacks : (i : Item) → lacking (io_alone q) s alone ≡ Some i → window_space i.class ≡ Io → lacking q s all ≡ Some i
+  pub alone_lacks : (i : PlacingItem) → lacking (io_alone q) s alone ≡ Some i → window_space i.class ≡ Io → lacking q s all ≡ Some i
   alone_lacks i e io = (io_lacks q s all q.roots i (sym (space_alone q.roots) ∙ io_is (io_alone q) s alone q.roots i e io)).0
 
 -- a new window of I/O is as large by all lists

@@ -15,10 +15,10 @@ use Rattle.pci_function.specs.declared.record.Bridge.{Bridge}
 use Rattle.pci_function.specs.declared.record.Record.{Record}
 use Rattle.pci_tree.proofs.Lifting.{same_bridge}
 use Rattle.pci_tree.proofs.RegionParts.{same_bridge_of}
-use Rattle.pci_place.specs.Records.{IsRecordOf}
+use Rattle.pci_place.specs.Records.{IsRecordInSystem}
 use Rattle.pci_place.proofs.BusTables.{AreTo, none_yet, of_bus, same_after, put_after}
 use Rattle.pci_first_fit.specs.declared.kept.Kept.{Kept}
-use Rattle.pci_settle_places.specs.Images.{is_window_kept}
+use Rattle.pci_settle_places.specs.Images.{is_staying_window}
 use Rattle.pci_settle.specs.declared.way.ByClass.{ByClass}
 use Rattle.pci_settle.specs.Shut.{in_class}
 use Rattle.pci_settle.specs.Told.{IsTableOf}
@@ -49,17 +49,17 @@ module _ (roots : List ℕ) (s : System) (keep : Keeping) (system : IsSystem s) 
     behind = λ b d c listed bridge. to.behind b d (subst (λ fs. Contains fs b) (sym (take_all k s done)) listed) bridge c;
   }
 
-  module _ (table : List Kept) (told : IsTableOf s keep.stays table) (k : ℕ) (f : Function) (r : Record) (at : slice_get s k ≡ Some f) (is : IsRecordOf s f r) (ways : List ByClass) (was : AreTo (IsKeptAbove s keep) roots s k ways) where
+  module _ (table : List Kept) (told : IsTableOf s keep.stays table) (k : ℕ) (f : Function) (r : Record) (at : slice_get s k ≡ Some f) (is : IsRecordInSystem s f r) (ways : List ByClass) (was : AreTo (IsKeptAbove s keep) roots s k ways) where
     pub same_ways : r.bridge ≡ None → AreTo (IsKeptAbove s keep) roots s (k + 1) ways
     same_ways none =
         let off : is_bridge f ≡ false = sym (same_bridge r f is.value) ∙ ap is_some none in
         same_after (IsKeptAbove s keep) roots s system nested k f at ways was off
 
     pub more_ways : (b : Bridge) → r.bridge ≡ Some b → (to : ℕ) → to ≡ b.secondary → (d next : ByClass) (n : Kept)
-        → ((c : WindowKind) → in_class next c ≡ (in_class (get_or ways f.slot.bus d) c && is_window_kept (get_or table k n).windows c)) → AreTo (IsKeptAbove s keep) roots s (k + 1) (set ways to next)
+        → ((c : WindowKind) → in_class next c ≡ (in_class (get_or ways f.slot.bus d) c && is_staying_window (get_or table k n).windows c)) → AreTo (IsKeptAbove s keep) roots s (k + 1) (set ways to next)
     more_ways b some to to_is d next n both =
         let bridge : is_bridge f ≡ true = sym (same_bridge r f is.value) ∙ ap is_some some in
         let leads : to ≡ secondary f = to_is ∙ ap (λ (x : decoded.Bridge). x.secondary) (same_bridge_of r f b is.value some) in
         put_after (IsKeptAbove s keep) roots s system nested k f at ways was to next bridge leads
-        (λ c. one_more roots s system nested f is.listed bridge (λ g. keep.stays (window_part c g)) (in_class (get_or ways f.slot.bus d) c) (is_window_kept (get_or table k n).windows c) (in_class next c)
+        (λ c. one_more roots s system nested f is.listed bridge (λ g. keep.stays (window_part c g)) (in_class (get_or ways f.slot.bus d) c) (is_staying_window (get_or table k n).windows c) (in_class next c)
         (of_bus (IsKeptAbove s keep) roots s system nested k f at ways was d c) (kept_window (get_or table k n) c ∙ told.each k f n (Window c) at bridge) (both c))

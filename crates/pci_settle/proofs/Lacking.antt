@@ -12,7 +12,7 @@ use Rattle.pci_spec.specs.Decoded.{Range}
 use Rattle.pci_spec.specs.System.{System, Function, Space, Io, Memory, IsFunction, IsSystem, is_bridge, has_part, register_of}
 use Rattle.settle_spec.specs.Lines.{taken_for}
 use Rattle.settle_spec.specs.Lists.{Request}
-use Rattle.settle_spec.specs.Items.{Item, Placing, AllPlaced, Lacks, and_placed, place_next, taken_by, place_each}
+use Rattle.settle_spec.specs.Items.{PlacingItem, Placing, AllPlaced, Lacks, and_placed, place_next, taken_by, place_each}
 use Rattle.settle_spec.specs.Places.{placed_of, first_lack}
 use Rattle.settle_spec.specs.Kept.{Kept}
 use Rattle.settle_spec.specs.Keeping.Places.{space_items, taken_at, place_of_item, placing_within, placing_on, lacking_on, lacking}
@@ -23,7 +23,7 @@ use Rattle.pci_base.specs.WindowKinds.{kind_value}
 use Rattle.pci_function.specs.declared.record.Record.{Record}
 use Rattle.pci_tree.proofs.Lifting.{same_bridge, same_slot_of}
 use Rattle.pci_place.specs.Items.{no_function, function_in}
-use Rattle.pci_place.specs.Records.{IsRecordOf}
+use Rattle.pci_place.specs.Records.{IsRecordInSystem}
 use Rattle.pci_first_fit.specs.declared.item.Part.{Part as CodePart}
 use Rattle.pci_first_fit.specs.declared.item.Part.TheVariants as parts
 use Rattle.pci_first_fit.specs.Own.{class_part}
@@ -35,40 +35,40 @@ use Rattle.pci_settle.specs.Lacks.{part_register, lack_by, no_room}
 
 -- ---- what lacks a place is one of the items
 
-lacks_if : (i j : Item) (a : ℕ) (items : List Item) (rest : Placing) → (rest ≡ Lacks j → Contains items j) → and_placed i a rest ≡ Lacks j → Contains (i ∷ items) j
+lacks_if : (i j : PlacingItem) (a : ℕ) (items : List PlacingItem) (rest : Placing) → (rest ≡ Lacks j → Contains items j) → and_placed i a rest ≡ Lacks j → Contains (i ∷ items) j
 lacks_if i j a items (AllPlaced placed) of e = absurd (let no : ⊥ = cc in no)
 lacks_if i j a items (Lacks k) of e = in_tail i items j (of e)
 
-lacks_next : (i j : Item) (o : Option ℕ) (items : List Item) (rest : ℕ → Placing) → ((a : ℕ) → rest a ≡ Lacks j → Contains items j) → place_next i o rest ≡ Lacks j → Contains (i ∷ items) j
+lacks_next : (i j : PlacingItem) (o : Option ℕ) (items : List PlacingItem) (rest : ℕ → Placing) → ((a : ℕ) → rest a ≡ Lacks j → Contains items j) → place_next i o rest ≡ Lacks j → Contains (i ∷ items) j
 lacks_next i j None items rest of e = let same : i ≡ j = cc in subst (λ x. Contains (i ∷ items) x) same (in_head i items)
 lacks_next i j (Some a) items rest of e = lacks_if i j a items (rest a) (of a) e
 
-lacks_in : (find : Item → List Range → Option ℕ) (taken : List Range) (items : List Item) (j : Item) → place_each find taken items ≡ Lacks j → Contains items j
+lacks_in : (find : PlacingItem → List Range → Option ℕ) (taken : List Range) (items : List PlacingItem) (j : PlacingItem) → place_each find taken items ≡ Lacks j → Contains items j
 lacks_in find taken [] j e = absurd (let no : ⊥ = cc in no)
 lacks_in find taken (i ∷ items) j e =
     lacks_next i j (find i taken) items (λ a. place_each find (taken_by i a ∷ taken) items)
     (λ a. lacks_in find (taken_by i a ∷ taken) items j) e
 
 -- an item of a bus in a space
-pub record IsItem (q : Request) (s : System) (keep : Kept) (i : Item) : Type 0 where
+pub record IsItem (q : Request) (s : System) (keep : Kept) (i : PlacingItem) : Type 0 where
   pub space : Space
   pub bus : ℕ
   pub has : Contains (space_items q s keep space bus) i
 
-pub first_cases : (p : Placing) (other : Option Item) (i : Item) → first_lack p other ≡ Some i → (p ≡ Lacks i) ⊎ (other ≡ Some i)
+pub first_cases : (p : Placing) (other : Option PlacingItem) (i : PlacingItem) → first_lack p other ≡ Some i → (p ≡ Lacks i) ⊎ (other ≡ Some i)
 first_cases (AllPlaced placed) other i e = inr e
 first_cases (Lacks j) other i e = inl cc
 
 module _ (q : Request) (s : System) (keep : Kept) where
-  pub space_has : (space : Space) (bus : ℕ) (i : Item) → placing_on q s keep space bus ≡ Lacks i → Contains (space_items q s keep space bus) i
+  pub space_has : (space : Space) (bus : ℕ) (i : PlacingItem) → placing_on q s keep space bus ≡ Lacks i → Contains (space_items q s keep space bus) i
   space_has space bus i e =
       lacks_in (λ x xs. place_of_item q s keep (λ over. placed_of (placing_within q s keep space 255 over)) x (taken_for q x.region xs)) (taken_at q s keep space bus) (space_items q s keep space bus) i
       (sym (placing_step q s keep space 255 bus) ∙ e)
 
-  on_bus : (space : Space) (bus : ℕ) (i : Item) → placing_on q s keep space bus ≡ Lacks i → IsItem q s keep i
+  on_bus : (space : Space) (bus : ℕ) (i : PlacingItem) → placing_on q s keep space bus ≡ Lacks i → IsItem q s keep i
   on_bus space bus i e = record { space = space; bus = bus; has = space_has space bus i e }
 
-  on_roots : (roots : List ℕ) (i : Item) → lacking_on q s keep roots ≡ Some i → IsItem q s keep i
+  on_roots : (roots : List ℕ) (i : PlacingItem) → lacking_on q s keep roots ≡ Some i → IsItem q s keep i
   on_roots [] i e = absurd (let no : ⊥ = cc in no)
   on_roots (root ∷ roots) i e = elim (first_cases (placing_on q s keep Io root) (first_lack (placing_on q s keep Memory root) None) i e) [
     | inl io ↦ on_bus Io root i io
@@ -78,7 +78,7 @@ module _ (q : Request) (s : System) (keep : Kept) where
     ]
   ]
 
-  lack_is_item : (i : Item) → lacking q s keep ≡ Some i → IsItem q s keep i
+  lack_is_item : (i : PlacingItem) → lacking q s keep ≡ Some i → IsItem q s keep i
   lack_is_item i e = on_roots q.roots i e
 
 -- ---- it is of a function, and one of its parts
@@ -128,7 +128,7 @@ register_by f r bridge x (parts.Bar n) = refl
 register_by f r bridge x parts.Rom = sym (ap rom_place bridge)
 register_by f r bridge x parts.Window = refl
 
-pub lack_is : (s : System) (x : Candidate) (f : Function) (r : Record) → slice_get s x.item.function ≡ Some f → IsRecordOf s f r → (other : Settling) → or_lack (Some (candidate_value s x)) other ≡ no_room (lack_by r x)
+pub lack_is : (s : System) (x : Candidate) (f : Function) (r : Record) → slice_get s x.item.function ≡ Some f → IsRecordInSystem s f r → (other : Settling) → or_lack (Some (candidate_value s x)) other ≡ no_room (lack_by r x)
 lack_is s x f r at is other =
     let c = kind_value x.class in
     let here : function_in s x.item.function ≡ f = get_or_from_slice_get s x.item.function f no_function at in

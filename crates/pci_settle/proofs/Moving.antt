@@ -29,7 +29,7 @@ use Rattle.pci_image.specs.Bars.{decoded_bar_of}
 use Rattle.pci_function.specs.declared.record.Record.{Record}
 use Rattle.pci_tree.proofs.Lifting.{same_bridge, same_slot_of}
 use Rattle.pci_place.specs.Classes.{is_wide_kind}
-use Rattle.pci_place.specs.Records.{IsRecordOf}
+use Rattle.pci_place.specs.Records.{IsRecordInSystem}
 use Rattle.pci_place.proofs.ClassOf.{kind_wide}
 use Rattle.pci_place.proofs.Parts.{rom_of}
 use Rattle.pci_first_fit.specs.Kept.{kept_of}
@@ -42,7 +42,7 @@ use Rattle.pci_settle_places.proofs.PlacedImages.{register_place}
 use Rattle.pci_settle_places.proofs.KeptClaims.{any_map, any_filter, any_bar, on_is, bar_space, left_is, left_are, rom_on_is, kept_are}
 use Rattle.pci_settle.specs.declared.shut.Around.{Around}
 use Rattle.pci_settle.specs.declared.way.BySpace.{BySpace}
-use Rattle.pci_settle.specs.Shut.{IsAround, in_space, in_class, differs_in, window_registers, is_window_changed, is_bar_changed, is_moving_bar, has_moving_rom, has_moving_by, has_own_by, is_cut_off_by, is_shut_by, closing_by}
+use Rattle.pci_settle.specs.Shut.{IsAroundFunction, flag_in_space, in_class, differs_in, window_registers, is_window_changed, is_bar_changed, is_moving_bar, has_moving_rom, has_moving_by, has_own_around, is_cut_off_by, is_shut_by, closing_by}
 use Rattle.pci_settle.proofs.Ways.{not_all, not_none}
 
 -- ---- tests
@@ -90,7 +90,7 @@ module _ (q : Request) (s : System) (keep : Kept) (f : Function) (old new : List
 
 -- ---- of a record
 
-module _ (q : Request) (s : System) (keep : Kept) (f : Function) (r : Record) (is : IsRecordOf s f r) (o : Around) (at : IsAround q s keep f o) where
+module _ (q : Request) (s : System) (keep : Kept) (f : Function) (r : Record) (is : IsRecordInSystem s f r) (o : Around) (at : IsAroundFunction q s keep f o) where
   above_is : (c : WindowKind) → not (in_class o.way.same c) ≡ changes_above q s keep c f.slot.bus
   above_is c = ap not (at.way.same c) ∙ not_none (changes_window q s keep c) (bridges_above s f.slot.bus)
 
@@ -179,7 +179,7 @@ module _ (q : Request) (s : System) (keep : Kept) (f : Function) (r : Record) (i
 
       -- ---- what is shut
 
-      own_is : has_own_by o space r ≡ has_own q s space f
+      own_is : has_own_around o space r ≡ has_own q s space f
       own_is =
           let ranges = o.answering.told.ranges.now in
           let standing = o.answering.standing.now in
@@ -189,20 +189,20 @@ module _ (q : Request) (s : System) (keep : Kept) (f : Function) (r : Record) (i
 
       cut_is : is_cut_off_by o space r ≡ is_cut_off_in q s f space
       cut_is =
-          ap (λ b. b && has_own_by o space r && not (in_space o.way.on space)) (on_is s f r is space)
-          ∙ ap (λ b. is_space_on f space && b && not (in_space o.way.on space)) own_is
+          ap (λ b. b && has_own_around o space r && not (flag_in_space o.way.on space)) (on_is s f r is space)
+          ∙ ap (λ b. is_space_on f space && b && not (flag_in_space o.way.on space)) own_is
           ∙ ap (λ b. is_space_on f space && has_own q s space f && b) (ap not (at.way.on space) ∙ not_all (λ b. is_space_on b space) (bridges_above s f.slot.bus))
 
       pub itself_is : is_shut_by o space old new r ≡ is_shut_itself q s keep space f
       itself_is = ap (λ b. b || is_cut_off_by o space r) moving_are ∙ ap (λ b. has_moving q s keep space f || b) cut_is
 
-  pub shut_is : (itself shut : BySpace) → ((x : Space) → in_space itself x ≡ is_shut_itself q s keep x f) → ((x : Space) → in_space shut x ≡ (in_space itself x || not (in_space o.way.clear x)))
-      → (x : Space) → in_space shut x ≡ is_shut q s keep x f
+  pub shut_is : (itself shut : BySpace) → ((x : Space) → flag_in_space itself x ≡ is_shut_itself q s keep x f) → ((x : Space) → flag_in_space shut x ≡ (flag_in_space itself x || not (flag_in_space o.way.clear x)))
+      → (x : Space) → flag_in_space shut x ≡ is_shut q s keep x f
   shut_is itself shut same by x =
-      by x ∙ ap (λ b. b || not (in_space o.way.clear x)) (same x)
+      by x ∙ ap (λ b. b || not (flag_in_space o.way.clear x)) (same x)
       ∙ ap (λ b. is_shut_itself q s keep x f || b) (ap not (at.way.clear x) ∙ not_none (is_shut_itself q s keep x) (bridges_above s f.slot.bus))
 
-  pub closing_is : (shut : BySpace) → ((x : Space) → in_space shut x ≡ is_shut q s keep x f) → closing_by o r shut ≡ closing_command q s keep f
+  pub closing_is : (shut : BySpace) → ((x : Space) → flag_in_space shut x ≡ is_shut q s keep x f) → closing_by o r shut ≡ closing_command q s keep f
   closing_is shut same =
       let holds : r.command ≡ command f.image = ap (λ (x : decoded.Record). x.command) is.value in
       let left : Bool = has_left_bar r o.over.above o.answering.terms in

@@ -31,8 +31,8 @@ use Rattle.pci_settle.specs.Lacks.{is_too_large, IsSettleFaultOf, too_large, no_
 use Rattle.pci_settle.specs.Fixed.{fixed_part}
 use Rattle.pci_settle.specs.ToldEndings.{told_fault, first_told}
 use Rattle.pci_settle.specs.Bounded.{or_other, kept_fault}
-use Rattle.pci_settle.specs.Ended.{Ended, IsEnded}
-use Rattle.pci_settle.specs.Endings.{after_lists, AreFixedKept, AreKeptStaying, IsEndedBy, IsRefused, IsRefusedGrowing, HasLarge, IsNotGrown, kept_after, EndsAfter, IsEndedAfter, HasNoAssumed, EndsWith, IsRefusal}
+use Rattle.pci_settle.specs.Ended.{Ended, IsEndOfSettling}
+use Rattle.pci_settle.specs.Endings.{after_lists, AreFixedKept, AreKeptStaying, IsEndedBy, IsNothingSettled, IsRefusedGrowing, HasLarge, IsNotGrown, kept_after, EndsAfter, IsEndedAfter, HasNoAssumed, EndsWith, IsRefusal}
 use Rattle.pci_settle.proofs.Endings.{ends_fine}
 
 -- ---- what is fixed and stays also stands
@@ -78,16 +78,16 @@ abbrev grown_rest : Admission → Request → Settling
 grown_rest a q =
     or_lack (lacking q (system_in a) (growing q (system_in a))) (or_written q (system_in a) (growing q (system_in a)) (Settled (settle_writes q (system_in a) (growing q (system_in a)))))
 
-refused_after : (o : Option FunctionPart) (x : Settling) → IsRefused x → IsRefused (or_fixed o x)
+refused_after : (o : Option FunctionPart) (x : Settling) → IsNothingSettled x → IsNothingSettled (or_fixed o x)
 refused_after None x is = is
 refused_after (Some r) x is = tt
 
-refused_told : (o : Option ToldRegion) (x : Settling) → IsRefused x → IsRefused (or_told o x)
+refused_told : (o : Option ToldRegion) (x : Settling) → IsNothingSettled x → IsNothingSettled (or_told o x)
 refused_told None x is = is
 refused_told (Some x) other is = tt
 
 -- something that is told or fixed doesn't stay where windows grow
-unstaying_refused : (a : Admission) (q : Request) → IsRefused (or_not_staying q (system_in a) (growing q (system_in a)) (grown_rest a q)) → IsRefusedGrowing a q
+unstaying_refused : (a : Admission) (q : Request) → IsNothingSettled (or_not_staying q (system_in a) (growing q (system_in a)) (grown_rest a q)) → IsRefusedGrowing a q
 unstaying_refused a q is =
     let s = system_in a in
     let staying : Settling = or_not_staying q s (growing q s) (grown_rest a q) in
@@ -98,7 +98,7 @@ refused_fixed a q r at =
     let s = system_in a in
     let keep = growing q s in
     unstaying_refused a q (refused_told (earliest q (does_not_stay q s keep)) (or_fixed (fixed_without keep.stays q s) (grown_rest a q))
-    (subst (λ o. IsRefused (or_fixed o (grown_rest a q))) (sym at) tt))
+    (subst (λ o. IsNothingSettled (or_fixed o (grown_rest a q))) (sym at) tt))
 
 pub refused_by : (a : Admission) (q : Request) (f : SettleFault) (o : Option FunctionPart) → fixed_without (growing q (system_in a)).stays q (system_in a) ≡ o → Some f ≡ option_map fixed_part o → IsRefusedGrowing a q
 refused_by a q f None at e = absurd (none-some f (sym e))
@@ -125,7 +125,7 @@ module _ (a : Admission) (q : Request) where
   cut_grown_by : (f : SettleFault) (o : Option ToldRegion) → earliest q (does_not_stay q s (growing q s)) ≡ o → Some f ≡ option_map told_fault o → IsNotGrown a q (refused.Fault f)
   cut_grown_by f None at e = absurd (none-some f (sym e))
   cut_grown_by f (Some x) at e = subst (λ y. IsNotGrown a q (refused.Fault y)) (sym (same_Some f (told_fault x) e))
-      (unstaying_refused a q (subst (λ o. IsRefused (or_told o (or_fixed (fixed_without (growing q s).stays q s) (grown_rest a q)))) (sym at) tt))
+      (unstaying_refused a q (subst (λ o. IsNothingSettled (or_told o (or_fixed (fixed_without (growing q s).stays q s) (grown_rest a q)))) (sym at) tt))
 
   unkept_grown_by : (f : SettleFault) (o : Option SettleFault) → first_told q (does_not_stay q s (growing q s)) ≡ o
       → Some f ≡ or_other o (option_map fixed_part (fixed_without (growing q s).stays q s)) → IsNotGrown a q (refused.Fault f)
@@ -139,10 +139,10 @@ module _ (a : Admission) (q : Request) where
   not_grown refused.Memory is = tt
   not_grown (refused.Fault fault.BadLists) is = absurd is
   not_grown (refused.Fault (fault.Assumed slot reg)) is = absurd is
-  not_grown (refused.Fault (fault.NoRoom lack)) is = subst IsRefused (sym is) tt
+  not_grown (refused.Fault (fault.NoRoom lack)) is = subst IsNothingSettled (sym is) tt
   not_grown (refused.Fault (fault.TooLarge class slot)) is = is.at
-  not_grown (refused.Fault (fault.Fixed slot reg)) is = subst IsRefused (sym is) tt
-  not_grown (refused.Fault (fault.Told slot line)) is = subst IsRefused (sym is) tt
+  not_grown (refused.Fault (fault.Fixed slot reg)) is = subst IsNothingSettled (sym is) tt
+  not_grown (refused.Fault (fault.Told slot line)) is = subst IsNothingSettled (sym is) tt
 
   pub large_not_grown : (w : TooLarge) (f : SettleFault) → IsTooLarge q s (kind_value w.class) w.function → IsSettleFaultOf s (too_large w) f → IsNotGrown a q (refused.Fault f)
   large_not_grown w fault.BadLists large of = absurd of
@@ -156,24 +156,24 @@ module _ (a : Admission) (q : Request) where
   -- ---- which of the two is kept
 
   module _ (o : Ended) where
-    pub ended_growing : IsEnded q (growing q s) a o → IsEnded q (kept_after q s) a o
-    ended_growing is = subst (λ (k : Kept). IsEnded q k a o)
+    pub ended_growing : IsEndOfSettling q (growing q s) a o → IsEndOfSettling q (kept_after q s) a o
+    ended_growing is = subst (λ (k : Kept). IsEndOfSettling q k a o)
         (sym (ap (λ end. kept_by end (growing q s) (as_it_stands q s)) is.ends)) is
 
-    pub ended_anew : q.told.ranges ≡ [] → q.anew ≡ true → IsEnded q (as_it_stands q s) a o → IsEnded q (kept_after q s) a o
-    ended_anew untold anew is = ended_growing (subst (λ (k : Kept). IsEnded q k a o) (sym (growing_is_standing q (held_of q untold) s anew)) is)
+    pub ended_anew : q.told.ranges ≡ [] → q.anew ≡ true → IsEndOfSettling q (as_it_stands q s) a o → IsEndOfSettling q (kept_after q s) a o
+    ended_anew untold anew is = ended_growing (subst (λ (k : Kept). IsEndOfSettling q k a o) (sym (growing_is_standing q (held_of q untold) s anew)) is)
 
-    refused_kept : (end : Settling) (own other : Kept) → IsRefused end → kept_by end own other ≡ other
+    refused_kept : (end : Settling) (own other : Kept) → IsNothingSettled end → kept_by end own other ≡ other
     refused_kept (Settled writes) own other is = absurd is
     refused_kept BadLists own other is = refl
     refused_kept (Fixed slot register) own other is = refl
     refused_kept (NotKept slot register) own other is = refl
     refused_kept (NoRoom class slot register size alignment) own other is = refl
 
-    standing_after : IsRefusedGrowing a q → IsEnded q (as_it_stands q s) a o → IsEnded q (kept_after q s) a o
-    standing_after refused is = subst (λ (k : Kept). IsEnded q k a o) (sym (refused_kept (after_lists q s (growing q s)) (growing q s) (as_it_stands q s) refused)) is
+    standing_after : IsRefusedGrowing a q → IsEndOfSettling q (as_it_stands q s) a o → IsEndOfSettling q (kept_after q s) a o
+    standing_after refused is = subst (λ (k : Kept). IsEndOfSettling q k a o) (sym (refused_kept (after_lists q s (growing q s)) (growing q s) (as_it_stands q s) refused)) is
 
-    pub ended_standing : (f : SettleFault) → IsNotGrown a q (refused.Fault f) → is_too_large f ≡ false → IsEnded q (as_it_stands q s) a o → IsEnded q (kept_after q s) a o
+    pub ended_standing : (f : SettleFault) → IsNotGrown a q (refused.Fault f) → is_too_large f ≡ false → IsEndOfSettling q (as_it_stands q s) a o → IsEndOfSettling q (kept_after q s) a o
     ended_standing fault.BadLists none small is = absurd none
     ended_standing (fault.Assumed slot reg) none small is = absurd none
     ended_standing (fault.NoRoom lack) none small is = standing_after none is
@@ -181,8 +181,8 @@ module _ (a : Admission) (q : Request) where
     ended_standing (fault.Fixed slot reg) none small is = standing_after none is
     ended_standing (fault.Told slot line) none small is = standing_after none is
 
-  anew_refused : q.told.ranges ≡ [] → q.anew ≡ true → (end : Settling) → after_lists q s (as_it_stands q s) ≡ end → IsRefused end → IsRefusedGrowing a q
-  anew_refused untold anew end is refused = subst IsRefused (sym (ap (after_lists q s) (growing_is_standing q (held_of q untold) s anew) ∙ is)) refused
+  anew_refused : q.told.ranges ≡ [] → q.anew ≡ true → (end : Settling) → after_lists q s (as_it_stands q s) ≡ end → IsNothingSettled end → IsRefusedGrowing a q
+  anew_refused untold anew end is refused = subst IsNothingSettled (sym (ap (after_lists q s) (growing_is_standing q (held_of q untold) s anew) ∙ is)) refused
 
   pub after_anew : q.told.ranges ≡ [] → q.anew ≡ true → (e : Refused SettleFault) → IsEndedBy a q (as_it_stands q s) e → IsEndedAfter a q e
   after_anew untold anew refused.Memory is = tt
@@ -210,15 +210,15 @@ module _ (a : Admission) (q : Request) where
     at_last f own other (NotKept slot register) e = refl
     at_last f own other (NoRoom class slot register size alignment) e = refl
 
-    module _ (o : Ended) (is : IsEnded q (kept_after q s) a o) where
+    module _ (o : Ended) (is : IsEndOfSettling q (kept_after q s) a o) where
       pub settles : settle_growing q s ≡ Settled o.writes
       settles = growing_ends ∙ at_last (after_lists q s) (growing q s) (as_it_stands q s) (after_lists q s (growing q s)) refl ∙ is.ends
 
-      pub ended : IsEnded q (finally_kept q s) a o
-      ended = subst (λ (k : Kept). IsEnded q k a o) (sym same_kept) is
+      pub ended : IsEndOfSettling q (finally_kept q s) a o
+      ended = subst (λ (k : Kept). IsEndOfSettling q k a o) (sym same_kept) is
 
     -- what is refused is refused, or some new window is too large
-    or_else_refused : (own other : Settling) → IsRefused own → or_else own other ≡ other
+    or_else_refused : (own other : Settling) → IsNothingSettled own → or_else own other ≡ other
     or_else_refused (Settled writes) other is = absurd is
     or_else_refused BadLists other is = refl
     or_else_refused (Fixed slot register) other is = refl

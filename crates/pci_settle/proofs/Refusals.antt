@@ -32,7 +32,7 @@ use Rattle.pci_settle.specs.declared.lack.SettleFault.TheVariants as fault
 use Rattle.pci_settle.specs.Requests.{CanStay}
 use Rattle.pci_settle.specs.Lacks.{IsOfSystem, IsSettleFaultOf, too_large}
 use Rattle.pci_settle.specs.Fixed.{fixed_part, fixed_register}
-use Rattle.pci_settle.specs.Endings.{then_writes, after_lists, AreKeptStanding, AreKeptStaying, AreFixedKept, IsFree, IsStayKnown, IsTooLargeAsked, IsLack, IsLackOff, IsEndedBy}
+use Rattle.pci_settle.specs.Endings.{then_writes, after_lists, AreKeptStanding, AreKeptStaying, AreFixedKept, IsUnfixedUntold, IsStayKnown, IsTooLargeAsked, IsLack, IsLackOff, IsEndedBy}
 use Rattle.pci_settle.proofs.Lacking.{lack_named}
 use Rattle.pci_settle.proofs.Endings.{none_told, ends_unstanding, ends_unstaying, ends_written, ends_settled, past_fixed}
 
@@ -79,12 +79,12 @@ module _ (a : Admission) (q : Request) where
   no_fixed test none = none_in (λ r. is_fixed_part q r && not (test r)) (λ r. ap (λ slots. list_any (same_slot r.function.slot) slots && not (test r)) none) (system_parts q (system_in a))
 
   -- where nothing is told either, all that is to stay does
-  free_stay : (keep : Kept) → IsFree q → AreKeptStaying q (system_in a) keep
+  free_stay : (keep : Kept) → IsUnfixedUntold q → AreKeptStaying q (system_in a) keep
   free_stay keep free = record { told = none_told q free.1 (does_not_stay q (system_in a) keep); fixed = no_fixed keep.stays free.0 }
 
   -- a bridge whose new window is too large, and nothing is fixed or told only where nothing lacks a place in I/O
   pub asked_too_large : (w : TooLarge) (f : SettleFault) → IsTooLarge q (system_in a) (kind_value w.class) w.function → HasWholeWindow (system_in a)
-      → IsSettleFaultOf (system_in a) (too_large w) f → (IsFree q → space_lack q (system_in a) (as_it_stands q (system_in a)) Io q.roots ≡ None) → IsTooLargeAsked a q (refused.Fault f)
+      → IsSettleFaultOf (system_in a) (too_large w) f → (IsUnfixedUntold q → space_lack q (system_in a) (as_it_stands q (system_in a)) Io q.roots ≡ None) → IsTooLargeAsked a q (refused.Fault f)
   asked_too_large w fault.BadLists large whole of room = absurd of
   asked_too_large w (fault.Assumed slot reg) large whole of room = absurd of
   asked_too_large w (fault.NoRoom lack) large whole of room = absurd of
@@ -100,7 +100,7 @@ module _ (a : Admission) (q : Request) where
   )
 
   -- where nothing is fixed or told, what lacks a place in I/O is named
-  pub asked_io : HasWholeWindow (system_in a) → IsFree q → (e : Refused SettleFault) → IsLack a q (as_it_stands q (system_in a)) e → IsTooLargeAsked a q e
+  pub asked_io : HasWholeWindow (system_in a) → IsUnfixedUntold q → (e : Refused SettleFault) → IsLack a q (as_it_stands q (system_in a)) e → IsTooLargeAsked a q e
   asked_io whole none refused.Memory is = tt
   asked_io whole none (refused.Fault fault.BadLists) is = absurd is
   asked_io whole none (refused.Fault (fault.Assumed slot reg)) is = absurd is

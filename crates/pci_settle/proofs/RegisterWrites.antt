@@ -14,7 +14,7 @@ use Rattle.settle_spec.specs.Lists.{Request}
 use Rattle.settle_spec.specs.Kept.{Kept}
 use Rattle.settle_spec.specs.Writes.{closing_registers, setting_registers}
 use Rattle.settle_spec.specs.Keeping.Registers.{settled_function}
-use Rattle.settle_spec.specs.Keeping.Writes.{closed_function, closing_of, setting_of, closing_from, setting_from, opening_from, closings, settle_writes}
+use Rattle.settle_spec.specs.Keeping.Writes.{closed_function, change_to_closed, setting_of, closing_from, setting_from, opening_from, closings, settle_writes}
 use Rattle.settle_laws.specs.Keeping.PlacesLaws.{CanSettle}
 use Rattle.settle_laws.proofs.Stages.{AreStates}
 use Rattle.settle_laws.proofs.StageRegisters.{IsRegisterWrite as IsChangeWrite, closing_among, register_write_is}
@@ -34,7 +34,7 @@ module _ (q : Request) (s : System) (k : Kept) (can : CanSettle q s k) where
 
   of_closing : (f : Function) → Contains s f → (w : Write) → Contains (closing_from q s k f) w → IsRegisterWrite s w
   of_closing f listed w has =
-      let x : IsChangeWrite (closing_of q s k f) (closing_registers f) w = register_write_is (closing_of q s k f) (closing_registers f) w has in
+      let x : IsChangeWrite (change_to_closed q s k f) (closing_registers f) w = register_write_is (change_to_closed q s k f) (closing_registers f) w has in
       subst (IsRegisterWrite s) x.is record {
         f = f;
         listed = listed;

@@ -14,7 +14,7 @@ use Rattle.pci_spec.proofs.Pairing.{same_length}
 use Rattle.settle_spec.specs.Lists.{Request}
 use Rattle.settle_spec.specs.Parts.{addresses}
 use Rattle.settle_spec.specs.Stands.{window_part}
-use Rattle.settle_spec.specs.LiveLaws.{has_live_behind}
+use Rattle.settle_spec.specs.LiveLaws.{has_live_behind, is_live}
 use Rattle.settle_spec.specs.Kept.{Kept as Keeping, range_or}
 use Rattle.settle_spec.specs.Keeping.Registers.{settled_function}
 use Rattle.settle_laws.proofs.Standing.{stands_by_itself}
@@ -29,7 +29,7 @@ use Rattle.pci_tree.proofs.Lifting.{same_bridge}
 use Rattle.pci_tree.proofs.RegionParts.{same_bridge_of}
 use Rattle.pci_place.specs.declared.above.Above.{Above}
 use Rattle.pci_place.specs.Above.{IsAbove, AreAboves, system_in}
-use Rattle.pci_place.specs.Records.{IsRecordOf}
+use Rattle.pci_place.specs.Records.{IsRecordInSystem}
 use Rattle.pci_first_fit.specs.declared.own.Terms.{Terms}
 use Rattle.pci_first_fit.specs.Slots.{Demand, demand_of}
 use Rattle.pci_first_fit.specs.Own.{AreTerms}
@@ -38,7 +38,7 @@ use Rattle.pci_settle_places.specs.Places.{place_range_in}
 use Rattle.pci_settle_places.specs.Images.{HasPlacesAndWindows}
 use Rattle.pci_settle_places.specs.declared.answering.Answering.{Answering}
 use Rattle.pci_settle_places.specs.Answers.{AreFlagsOfTold}
-use Rattle.pci_settle_places.specs.Live.{is_live, IsRequestOf, HasAllPlaces, AreLiveBuses, is_live_on, is_live_behind}
+use Rattle.pci_settle_places.specs.Live.{IsRequestOf, HasAllPlaces, AreLiveBuses, is_live_on, is_live_behind}
 use Rattle.pci_settle_places.specs.declared.settled.Behind.{Behind}
 use Rattle.pci_settle_places.specs.Settled.{IsCommandTold}
 use Rattle.pci_plan.proofs.PlannedDumps.{ArePlanned, next_planned, function_here}
@@ -66,7 +66,7 @@ request_by q s roots l a asked terms told flags = record {
 
 module _ (roots : List ℕ) (s : System) (system : IsSystem s) (nested : IsNested roots s) (q : Request) (keep : Keeping) (t : Answering) (table : List Places) (of : IsRequestOf q s roots t) (placed : HasAllPlaces q s keep table) where
   -- the table of buses with live functions says whether the bus behind a bridge is one
-  behind_now : (space : Space) (live : List Bool) → AreLiveBuses roots s space t table live → (f : Function) (r : Record) → IsRecordOf s f r → is_live_behind live r.bridge ≡ has_live_behind s (is_live q s keep space) f
+  behind_now : (space : Space) (live : List Bool) → AreLiveBuses roots s space t table live → (f : Function) (r : Record) → IsRecordInSystem s f r → is_live_behind live r.bridge ≡ has_live_behind s (is_live q s keep space) f
   behind_now space live has f r is = by r.bridge refl
     where
       by : (o : Option Bridge) → r.bridge ≡ o → is_live_behind live o ≡ has_live_behind s (is_live q s keep space) f
@@ -84,7 +84,7 @@ module _ (roots : List ℕ) (s : System) (system : IsSystem s) (nested : IsNeste
   nested_for = subst (λ xs. IsNested xs s) (sym of.rooted) nested
 
   -- the places of a function are right, and the windows that stay, to what they grow, and what is wished of them
-  pub placed_here : (grown wished : List (ByKind (Option Range))) (staying : List Kept) → TellsKeeping q s keep grown staying → TellsWishes s keep wished → (k : ℕ) (f : Function) (r : Record) → slice_get s k ≡ Some f → IsRecordOf s f r
+  pub placed_here : (grown wished : List (ByKind (Option Range))) (staying : List Kept) → TellsKeeping q s keep grown staying → TellsWishes s keep wished → (k : ℕ) (f : Function) (r : Record) → slice_get s k ≡ Some f → IsRecordInSystem s f r
       → (d p : Places) → p ≡ get_or table k d → (n h : Kept) → h ≡ get_or staying k n → (g w : ByKind (Option Range)) → g ≡ get_or grown k untold → w ≡ get_or wished k untold → HasPlacesAndWindows q s keep f r p h.windows g w
   placed_here grown wished staying tells wishes k f r at is d p p_is n h h_is g w g_is w_is = record {
     places = record {
@@ -104,7 +104,7 @@ module _ (roots : List ℕ) (s : System) (system : IsSystem s) (nested : IsNeste
 
   -- and so is what tells its Command
   pub told_here : (terms : Terms) → t.terms ≡ terms → (io memory : List Bool) → AreLiveBuses roots s Io t table io → AreLiveBuses roots s Memory t table memory → (aboves : List Above) → AreAboves s aboves
-      → (f : Function) (r : Record) → IsRecordOf s f r → (bus : ℕ) → bus ≡ f.slot.bus → (none : Above) (here : Behind) → here.io ≡ is_live_behind io r.bridge → here.memory ≡ is_live_behind memory r.bridge
+      → (f : Function) (r : Record) → IsRecordInSystem s f r → (bus : ℕ) → bus ≡ f.slot.bus → (none : Above) (here : Behind) → here.io ≡ is_live_behind io r.bridge → here.memory ≡ is_live_behind memory r.bridge
       → IsCommandTold q s keep f (get_or aboves bus none) terms here
   told_here terms same io memory io_is memory_is aboves are f r is bus on_bus none here here_io_is here_memory_is = record {
     over = subst (λ n. IsAbove s f.slot.bus (get_or aboves n none)) (sym on_bus) (are f none is.listed);
@@ -132,7 +132,7 @@ pub record IsHere (a : Admission) (k : ℕ) (b : Block) (r : Record) : Type 0 wh
   pub probe : Block
   pub beside : probe ≡ get_or a.probe k probe
   pub at : slice_get (system_in a) k ≡ Some (function_of b probe)
-  pub is : IsRecordOf (system_in a) (function_of b probe) r
+  pub is : IsRecordInSystem (system_in a) (function_of b probe) r
 
 pub block_here : (a : Admission) (records : List Record) → IsAdmitted a → HasRecords (system_in a) (map record_value records) → (k : ℕ) (b : Block) (r : Record) → k < length a.dump → b ≡ get_or a.dump k b → r ≡ get_or records k r → IsHere a k b r
 block_here a records is has k b r inside b_at r_at =

@@ -33,8 +33,8 @@ use Rattle.pci_place.specs.Above.{system_in}
 use Rattle.pci_plan.specs.Moves.{IsMove}
 use Rattle.pci_settle.specs.AsTold.{HasLines, EndsAsTold, StopsAsTold, ReachesAlways, AlwaysReaches, EndsOffLines}
 use Rattle.pci_settle.specs.Dumps.{IsSettledDump}
-use Rattle.pci_settle.specs.Denied.{register_at, IsPlacing, IsSpared}
-use Rattle.pci_settle.specs.Ended.{Ended, IsEnded}
+use Rattle.pci_settle.specs.Denied.{slot_and_offset_of, IsPlacingRequest, IsSpared}
+use Rattle.pci_settle.specs.Ended.{Ended, IsEndOfSettling}
 use Rattle.pci_settle.specs.Endings.{kept_after}
 use Rattle.pci_settle.specs.Sparing.{IsWishedFor}
 use Rattle.pci_settle.specs.Wishes.{behind_slots}
@@ -76,13 +76,13 @@ module _ (a : Admission) (admitted : IsAdmitted a) (q : Request) (roots_are : q.
   abbrev s : System
   s = system_in a
 
-  asked_for : (slots : List Slot) → law.IsAdmitted (behind_slots q slots) s
-  asked_for slots = subst (λ roots. law.IsAdmitted record { roots = roots; lists = q.lists; fixed = q.fixed; anew = q.anew; slots = slots; spares = q.spares; told = q.told } s) (sym roots_are)
+  asked_for : (slots : List Slot) → law.IsAdmittedSystem (behind_slots q slots) s
+  asked_for slots = subst (λ roots. law.IsAdmittedSystem record { roots = roots; lists = q.lists; fixed = q.fixed; anew = q.anew; slots = slots; spares = q.spares; told = q.told } s) (sym roots_are)
       record { high = high; system = admitted.system; nested = admitted.nested; profile = admitted.profile; chains = admitted.chains }
 
   -- ---- with what is kept as new windows are placed
 
-  module _ (slots : List Slot) (o : Ended) (is : IsEnded (behind_slots q slots) (kept_after (behind_slots q slots) s) a o) where
+  module _ (slots : List Slot) (o : Ended) (is : IsEndOfSettling (behind_slots q slots) (kept_after (behind_slots q slots) s) a o) where
     abbrev p : Request
     p = behind_slots q slots
 
@@ -92,7 +92,7 @@ module _ (a : Admission) (admitted : IsAdmitted a) (q : Request) (roots_are : q.
     abbrev j : Kept
     j = (granted p s (spare_of q) k).kept
 
-    last : IsEnded p k a o
+    last : IsEndOfSettling p k a o
     last = ended a p fine o is
 
     pub grows : is_settled (settle_growing p s) ≡ true
@@ -101,7 +101,7 @@ module _ (a : Admission) (admitted : IsAdmitted a) (q : Request) (roots_are : q.
     wished_ends : settle_keeping p s j ≡ Settled (settle_writes p s j)
     wished_ends = settled_wished p q s (asked_for slots) grows
 
-    pub spared : (dump : List Block) (writes : List Write) (count : ℕ) (denied : List (Slot × ℕ)) → IsWishedFor q slots k a dump writes count denied → IsPlacing a q p
+    pub spared : (dump : List Block) (writes : List Write) (count : ℕ) (denied : List (Slot × ℕ)) → IsWishedFor q slots k a dump writes count denied → IsPlacingRequest a q p
         → is_settled (settle_growing (without_slots q) s) ≡ true → IsSpared q a dump writes count denied
     spared dump writes count denied w placing without = record {
       placing = p;
@@ -115,7 +115,7 @@ module _ (a : Admission) (admitted : IsAdmitted a) (q : Request) (roots_are : q.
 
   -- ---- where no bridge has a slot
 
-  module _ (o : Ended) (is : IsEnded (without_slots q) (kept_after (without_slots q) s) a o) where
+  module _ (o : Ended) (is : IsEndOfSettling (without_slots q) (kept_after (without_slots q) s) a o) where
     pub unspared : IsSpared (without_slots q) a o.dump o.writes o.closings []
     unspared =
         let w = without_slots q in
@@ -128,7 +128,7 @@ module _ (a : Admission) (admitted : IsAdmitted a) (q : Request) (roots_are : q.
           dump_is = subst (λ (g : Granted). IsSettledDump w g.kept a o.dump) (sym none) last.by.settled;
           ends = ap (λ (g : Granted). settle_keeping w s g.kept) none ∙ ends_fine w s (finally_kept w s) fine ∙ last.ends;
           closing = subst (λ (g : Granted). o.closings ≡ length (closings w s g.kept s)) (sym none) last.by.closing;
-          denied_are = subst (λ (g : Granted). [] ≡ map register_at g.denied) (sym none) refl;
+          denied_are = subst (λ (g : Granted). [] ≡ map slot_and_offset_of g.denied) (sym none) refl;
         }
 
   -- ---- so it can be settled
@@ -147,7 +147,7 @@ module _ (a : Admission) (admitted : IsAdmitted a) (q : Request) (roots_are : q.
     then_kept = (granted_beside q x.placing s).kept
 
     can_spared : CanSettle x.placing s then_kept
-    can_spared = (wishes_can x.placing q s (of_placing (λ p. law.IsAdmitted p s) (asked_for []) (asked_for q.slots)) writes x.ends).1
+    can_spared = (wishes_can x.placing q s (of_placing (λ p. law.IsAdmittedSystem p s) (asked_for []) (asked_for q.slots)) writes x.ends).1
 
     writes_are : (p : Request) (j : Kept) → settle_keeping p s j ≡ Settled writes → writes ≡ settle_writes p s j
     writes_are p j is = sym (writes_beside p s j writes is)

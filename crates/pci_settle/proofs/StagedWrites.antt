@@ -18,11 +18,11 @@ use Rattle.plan_spec.proofs.Planning.Behind.{all_gives}
 use Rattle.settle_spec.specs.Lists.{Request}
 use Rattle.settle_spec.specs.Kept.{Kept}
 use Rattle.settle_spec.specs.Keeping.Registers.{settled_function}
-use Rattle.settle_spec.specs.Keeping.Writes.{closed_function, closing_of, setting_of, closing_from, setting_from, opening_from, closings}
+use Rattle.settle_spec.specs.Keeping.Writes.{closed_function, change_to_closed, setting_of, closing_from, setting_from, opening_from, closings}
 use Rattle.settle_laws.proofs.Keeping.ClosedImages.{closed_low, closed_device, closed_command}
 use Rattle.pci_first_fit.specs.declared.kept.Kept.{Kept as CodeKept}
 use Rattle.pci_first_fit.specs.Kept.{kept_of}
-use Rattle.pci_settle_places.specs.Images.{is_window_kept}
+use Rattle.pci_settle_places.specs.Images.{is_staying_window}
 use Rattle.settle_laws.proofs.Images.{same_number}
 use Rattle.pci_plan.proofs.WriteLists.{flat_map_more}
 use Rattle.pci_settle.specs.declared.writes.Span.{Span}
@@ -44,7 +44,7 @@ same_at g h xs ys same k x y within x_at y_at =
 
 -- ---- of a function
 
-pub kept_window : (t : CodeKept) (c : WindowKind) → is_window_kept t.windows c ≡ kept_of t (Window c)
+pub kept_window : (t : CodeKept) (c : WindowKind) → is_staying_window t.windows c ≡ kept_of t (Window c)
 kept_window t IoWindow = refl
 kept_window t MemoryWindow = refl
 kept_window t PrefetchWindow = refl
@@ -73,7 +73,7 @@ module _ (q : Request) (s : System) (keep : Kept) (f : Function) (is : IsImage f
   closing_same =
       let windows = flat_map (register_write (images_change f.slot f.image closed)) bridge_closing in
       let alone = command_at f.slot (command f.image) left.command in
-      let write = register_write (closing_of q s keep f) in
+      let write = register_write (change_to_closed q s keep f) in
       let all : Bool → List Write = λ b. flat_map write ((0x04, 2) ∷ (if b then (0x1c, 2) ∷ (0x30, 4) ∷ (0x20, 4) ∷ (0x24, 4) ∷ (0x2c, 4) ∷ [] else [])) in
       elim (cases_Bool (is_bridge f)) [
         | inl bridge ↦ ap (λ b. cond b windows alone) bridge ∙ sym (ap all bridge)

@@ -20,7 +20,7 @@ use Rattle.settle_spec.specs.Keeping.Registers.{settled}
 use Rattle.settle_spec.specs.Keeping.Writes.{is_shut_itself, is_shut, is_not_reached, would_be_switched, earliest}
 use Rattle.settle_spec.proofs.BridgeOver.{over_leads}
 use Rattle.pci_settle.specs.declared.way.Way.{Way}
-use Rattle.pci_settle.specs.Shut.{in_space}
+use Rattle.pci_settle.specs.Shut.{flag_in_space}
 use Rattle.pci_settle.specs.ToldEndings.{KnownTold, KnowsTold, AreFlagsThen, are_clear_above, AreClearAbove, AlwaysStand}
 use Rattle.pci_settle.proofs.Ways.{not_none}
 use Rattle.pci_settle.proofs.ToldFirsts.{told_at, none_passes}
@@ -60,23 +60,23 @@ module _ (q : Request) (s : System) (k : Kept) (system : IsSystem s) (nested : I
 
 module _ (q : Request) (s : System) (k : Kept) (t : KnownTold) (knows : KnowsTold q s t) (on_then : List Bool) (on_are : AreFlagsThen q s k on_then) (ways : List Way) (are : AreClearAbove q s k ways) (stand : AlwaysStand q s) where
   module _ (index : ℕ) (r : ToldRange) (at : slice_get q.told.ranges index ≡ Some r) (small : r.slot.bus < 256) (d : Way) where
-    way_is : range_stands q s (told_at (told_register index) r) ≡ true → in_space (get_or ways r.slot.bus d).clear r.space ≡ are_clear_above q s k r.space r.slot.bus
+    way_is : range_stands q s (told_at (told_register index) r) ≡ true → flag_in_space (get_or ways r.slot.bus d).clear r.space ≡ are_clear_above q s k r.space r.slot.bus
     way_is is = elim (stands_home q s (told_at (told_register index) r) is) [
       | inl root ↦ are.on_roots r.slot.bus d r.space ((root_means q.roots r.slot.bus).0 root) small
       | inr (b, over) ↦
           let leads = over_leads s r.slot.bus b over in
-          subst (λ bus. in_space (get_or ways bus d).clear r.space ≡ are_clear_above q s k r.space bus) leads.2 (are.behind b d r.space leads.0 leads.1)
+          subst (λ bus. flag_in_space (get_or ways bus d).clear r.space ≡ are_clear_above q s k r.space bus) leads.2 (are.behind b d r.space leads.0 leads.1)
     ]
 
     off_by : (always : Bool) → is_marked_always r.mark ≡ always
-        → (always && not (in_space (get_or ways r.slot.bus d).clear r.space)) ≡ (always && list_any (is_shut q s k r.space) (bridges_above s r.slot.bus))
+        → (always && not (flag_in_space (get_or ways r.slot.bus d).clear r.space)) ≡ (always && list_any (is_shut q s k r.space) (bridges_above s r.slot.bus))
     off_by false is = refl
     off_by true is = ap not (way_is (stand index r at is)) ∙ clear_is q s k are.system are.nested r.space r.slot.bus
 
-    pub switched_is : ((is_marked_command r.mark && not (get_or t.standing index false) && get_or on_then index false) || (is_marked_always r.mark && not (in_space (get_or ways r.slot.bus d).clear r.space)))
+    pub switched_is : ((is_marked_command r.mark && not (get_or t.standing index false) && get_or on_then index false) || (is_marked_always r.mark && not (flag_in_space (get_or ways r.slot.bus d).clear r.space)))
         ≡ would_be_switched q s k (told_at (told_register index) r)
     switched_is =
-        let off : Bool = is_marked_always r.mark && not (in_space (get_or ways r.slot.bus d).clear r.space) in
+        let off : Bool = is_marked_always r.mark && not (flag_in_space (get_or ways r.slot.bus d).clear r.space) in
         let x = told_at (told_register index) r in
         ap (λ b. (is_marked_command r.mark && not b && get_or on_then index false) || off) (knows.standing index r at)
         ∙ ap (λ b. (is_marked_command r.mark && not (range_stands q s x) && b) || off) (on_are index r at)

@@ -21,7 +21,7 @@ use Rattle.settle_spec.specs.Keeping.Writes.{is_not_reached, does_not_stay}
 use Rattle.pci_base.specs.declared.window_kind.WindowKind.{WindowKind as CodeKind}
 use Rattle.pci_base.specs.WindowKinds.{kind_value}
 use Rattle.pci_kept.specs.declared.told_line.ToldLine.{ToldLine}
-use Rattle.pci_kept.specs.ToldLines.{IsToldLine}
+use Rattle.pci_kept.specs.ToldLines.{IsToldLineOf}
 use Rattle.pci_settle.specs.declared.way.ByClass.{ByClass}
 use Rattle.pci_settle.specs.Shut.{in_class}
 use Rattle.pci_settle.specs.ToldEndings.{KnownTold, HasEachFlag, KnowsTold, are_kept_above, AreKeptAbove}
@@ -36,9 +36,9 @@ module _ (q : Request) (s : System) (t : KnownTold) (knows : KnowsTold q s t) wh
   range_here ranges same index r within is =
       ap (λ xs. slice_get xs index) (knows.ranges ∙ sym same) ∙ slice_get_read ranges (length ranges) index r refl within is
 
-  pub line_here : (index : ℕ) (r : ToldRange) (d : ToldLine) → slice_get q.told.ranges index ≡ Some r → IsToldLine q s r (get_or t.lines index d)
+  pub line_here : (index : ℕ) (r : ToldRange) (d : ToldLine) → slice_get q.told.ranges index ≡ Some r → IsToldLineOf q s r (get_or t.lines index d)
   line_here index r d at =
-      subst (λ y. IsToldLine q s y (get_or t.lines index d)) (get_or_from_slice_get q.told.ranges index r r at)
+      subst (λ y. IsToldLineOf q s y (get_or t.lines index d)) (get_or_from_slice_get q.told.ranges index r r at)
       (knows.lines.each index d r (slice_get_within q.told.ranges index r at))
 
   pub unreached_is : (index : ℕ) (r : ToldRange) (d : ToldLine) → slice_get q.told.ranges index ≡ Some r

@@ -11,12 +11,12 @@ use Rattle.settle_spec.specs.Kept.{Kept}
 use Rattle.settle_spec.specs.Keeping.Writes.{changes_window, is_shut_itself}
 use Rattle.pci_base.specs.Space.{is_on}
 use Rattle.pci_function.specs.declared.record.Record.{Record}
-use Rattle.pci_place.specs.Records.{IsRecordOf}
+use Rattle.pci_place.specs.Records.{IsRecordInSystem}
 use Rattle.pci_settle_places.proofs.KeptClaims.{on_is}
 use Rattle.pci_settle.specs.declared.way.BySpace.{BySpace}
 use Rattle.pci_settle.specs.declared.way.ByClass.{ByClass}
 use Rattle.pci_settle.specs.declared.way.Way.{Way}
-use Rattle.pci_settle.specs.Shut.{IsWay, in_space, in_class}
+use Rattle.pci_settle.specs.Shut.{IsWay, flag_in_space, in_class}
 
 -- ---- tests of all and of some
 
@@ -54,7 +54,7 @@ all_classes = record { io = true; memory = true; prefetchable = true }
 abbrev pub no_way : Way
 no_way = record { on = all_spaces; clear = all_spaces; same = all_classes }
 
-each_space : (x : Space) → in_space all_spaces x ≡ true
+each_space : (x : Space) → flag_in_space all_spaces x ≡ true
 each_space Io = refl
 each_space Memory = refl
 
@@ -80,12 +80,12 @@ module _ (roots : List ℕ) (q : Request) (s : System) (keep : Kept) (system : I
     same = λ c. each_class c ∙ sym (all_above_root roots s system nested (λ b. not (changes_window q s keep c b)) bus root);
   }
 
-  pub behind_bridge : (f : Function) (r : Record) (is : IsRecordOf s f r) → is_bridge f ≡ true → (way new : Way) (shut : BySpace) (changed : ByClass) → IsWay q s keep f.slot.bus way
-      → ((x : Space) → in_space shut x ≡ is_shut_itself q s keep x f) → ((c : WindowKind) → in_class changed c ≡ changes_window q s keep c f)
-      → ((x : Space) → in_space new.on x ≡ (in_space way.on x && is_on r.command x)) → ((x : Space) → in_space new.clear x ≡ (in_space way.clear x && not (in_space shut x)))
+  pub behind_bridge : (f : Function) (r : Record) (is : IsRecordInSystem s f r) → is_bridge f ≡ true → (way new : Way) (shut : BySpace) (changed : ByClass) → IsWay q s keep f.slot.bus way
+      → ((x : Space) → flag_in_space shut x ≡ is_shut_itself q s keep x f) → ((c : WindowKind) → in_class changed c ≡ changes_window q s keep c f)
+      → ((x : Space) → flag_in_space new.on x ≡ (flag_in_space way.on x && is_on r.command x)) → ((x : Space) → flag_in_space new.clear x ≡ (flag_in_space way.clear x && not (flag_in_space shut x)))
       → ((c : WindowKind) → in_class new.same c ≡ (in_class way.same c && not (in_class changed c))) → IsWay q s keep (secondary f) new
   behind_bridge f r is bridge way new shut changed at shut_is changed_is on clear stay = record {
-    on = λ x. one_more roots s system nested f is.listed bridge (λ b. is_space_on b x) (in_space way.on x) (is_on r.command x) (in_space new.on x) (at.on x) (on_is s f r is x) (on x);
-    clear = λ x. one_more roots s system nested f is.listed bridge (λ b. not (is_shut_itself q s keep x b)) (in_space way.clear x) (not (in_space shut x)) (in_space new.clear x) (at.clear x) (ap not (shut_is x)) (clear x);
+    on = λ x. one_more roots s system nested f is.listed bridge (λ b. is_space_on b x) (flag_in_space way.on x) (is_on r.command x) (flag_in_space new.on x) (at.on x) (on_is s f r is x) (on x);
+    clear = λ x. one_more roots s system nested f is.listed bridge (λ b. not (is_shut_itself q s keep x b)) (flag_in_space way.clear x) (not (flag_in_space shut x)) (flag_in_space new.clear x) (at.clear x) (ap not (shut_is x)) (clear x);
     same = λ c. one_more roots s system nested f is.listed bridge (λ b. not (changes_window q s keep c b)) (in_class way.same c) (not (in_class changed c)) (in_class new.same c) (at.same c) (ap not (changed_is c)) (stay c);
   }

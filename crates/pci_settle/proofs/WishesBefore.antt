@@ -63,7 +63,7 @@ use Rattle.pci_settle_places.proofs.PlacedImages.{register_place}
 use Rattle.pci_settle_places.proofs.Registers.{registers_at}
 use Rattle.pci_grow.specs.declared.board.BridgeWindow.{BridgeWindow}
 use Rattle.pci_grow.specs.declared.fill.Located.{Located}
-use Rattle.pci_grow.specs.RoomRows.{level, row_number}
+use Rattle.pci_grow.specs.RoomRows.{bus_level, row_number}
 use Rattle.pci_grow.specs.Located.{told_weight, AreWindowsThen, AreOwn}
 use Rattle.pci_grow.proofs.Facts.{item_at}
 use Rattle.pci_grow.proofs.Located.{same_sums, sum_filter}
@@ -260,7 +260,7 @@ module _ (q : Request) (s : System) (keep : Keeping) (system : IsSystem s) (nest
     -- what they weigh
     module _ (weight : DecodedRange → ℕ) (space : Space) (bus : ℕ) where
       abbrev n : ℕ
-      n = row_number (level q.roots bus) space
+      n = row_number (bus_level q.roots bus) space
 
       slot_is : r.slot ≡ f.slot
       slot_is = same_slot_of r f found.is.value
@@ -271,8 +271,8 @@ module _ (q : Request) (s : System) (keep : Keeping) (system : IsSystem s) (nest
       bar_weighs : (bar : CodeBar) (b : ℕ) → b < bar_count (layout f.image) → decoded_bar_of bar ≡ decoded_bar f.image f.probe b → bar_weight q.roots weight n r.slot.bus p kept bar ≡ bar_own b
       bar_weighs bar b inside e =
           ap (λ (x : Slot). bar_weight q.roots weight n x.bus p kept bar) slot_is
-          ∙ ap (told_weight weight (row_number (level q.roots f.slot.bus) (space_in bar.kind)) n) (bar_is bar b inside e)
-          ∙ ap (λ x. told_weight weight (row_number (level q.roots f.slot.bus) x) n (own_at (Bar b))) (space_is bar.kind ∙ ap (λ x. cond x Io Memory) (kind_io f bar b e))
+          ∙ ap (told_weight weight (row_number (bus_level q.roots f.slot.bus) (space_in bar.kind)) n) (bar_is bar b inside e)
+          ∙ ap (λ x. told_weight weight (row_number (bus_level q.roots f.slot.bus) x) n (own_at (Bar b))) (space_is bar.kind ∙ ap (λ x. cond x Io Memory) (kind_io f bar b e))
 
       -- a BAR that isn't implemented is nowhere
       bar_if : (b : ℕ) → b < bar_count (layout f.image) → cond (has_bar f.probe b) (bar_own b) 0 ≡ bar_own b
@@ -280,7 +280,7 @@ module _ (q : Request) (s : System) (keep : Keeping) (system : IsSystem s) (nest
         | inl there ↦ ap (λ x. cond x (bar_own b) 0) there
         | inr absent ↦
             ap (λ x. cond x (bar_own b) 0) absent
-            ∙ sym (ap (told_weight weight (row_number (level q.roots f.slot.bus) (space_of f (Bar b))) n) (nowhere absent (place_then q s keep (region (Bar b))) refl))
+            ∙ sym (ap (told_weight weight (row_number (bus_level q.roots f.slot.bus) (space_of f (Bar b))) n) (nowhere absent (place_then q s keep (region (Bar b))) refl))
       ]
         where
           nowhere : has_bar f.probe b ≡ false → (o : Option DecodedRange) → place_then q s keep (region (Bar b)) ≡ o → own_at (Bar b) ≡ None
@@ -305,7 +305,7 @@ module _ (q : Request) (s : System) (keep : Keeping) (system : IsSystem s) (nest
       rom_weighs : rom_weight q.roots weight n r.slot.bus p kept r.rom ≡ told_own q s keep weight space bus f Rom (own_at Rom)
       rom_weighs =
           ap (λ (x : Slot). rom_weight q.roots weight n x.bus p kept r.rom) slot_is
-          ∙ ap (told_weight weight (row_number (level q.roots f.slot.bus) Memory) n) rom_is
+          ∙ ap (told_weight weight (row_number (bus_level q.roots f.slot.bus) Memory) n) rom_is
 
       pub record_weighs : record_weight q.roots weight n r p kept ≡ sum_by (own_weight q s keep weight space bus) (changing q s (function_in s k))
       record_weighs =
@@ -323,7 +323,7 @@ module _ (q : Request) (s : System) (keep : Keeping) (system : IsSystem s) (nest
   pub own_then_are : (parts : List Located) → AreOwnBefore records t (length records) parts → AreOwn q s keep parts
   own_then_are parts are space bus small weight =
       let per : ℕ → ℕ = λ i. sum_by (own_weight q s keep weight space bus) (changing q s (function_in s i)) in
-      are q.roots weight (row_number (level q.roots bus) space) per (λ k r p kept at. record_weighs k r p kept at weight space bus)
+      are q.roots weight (row_number (bus_level q.roots bus) space) per (λ k r p kept at. record_weighs k r p kept at weight space bus)
       ∙ ap (λ m. sum_by per (range_with_len 0 m)) (sym count)
       ∙ all_own q s keep weight space bus per (λ i within. refl)
 

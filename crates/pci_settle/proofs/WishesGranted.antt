@@ -45,7 +45,7 @@ use Rattle.pci_grow.specs.Granting.{spare_up_to, part_of, AreGranted, TellsSpare
 use Rattle.pci_grow.proofs.Facts.{item_at}
 use Rattle.pci_settle.specs.declared.settle.Denied.{Denied}
 use Rattle.pci_settle.specs.Before.{AreFlagsOf}
-use Rattle.pci_settle.specs.Denied.{register_at, denied_value}
+use Rattle.pci_settle.specs.Denied.{slot_and_offset_of, denied_value}
 use Rattle.pci_first_fit.specs.Lines.{AreLines}
 use Rattle.pci_settle.specs.Wishes.{AreOfGranted, IsAskedIn, AreWishes}
 use Rattle.pci_settle.proofs.WishesPlain.{plain_same}
@@ -68,7 +68,7 @@ module _ (s : System) (records : List Record) (has : HasRecords s (map record_va
   -- ---- windows by their slots and registers, one after another
 
   abbrev value_of : BridgeWindow → Slot × ℕ
-  value_of w = register_at (part_of s w)
+  value_of w = slot_and_offset_of (part_of s w)
 
   pub denied_next : (windows : List BridgeWindow) (index : ℕ) (old new : List Denied) (e : BridgeWindow) (r : Record) (d : Denied) → index < length windows → (get_or windows index e).bridge < length records
       → r ≡ get_or records (get_or windows index e).bridge r → d.slot ≡ r.slot → d.register ≡ window_register (kind_value (get_or windows index e).class) → new ≡ old ++ d ∷ []
@@ -129,10 +129,10 @@ module _ (q : Request) (s : System) (b : Board) (g : Granted) (room : Room) (den
   each_wished n f MemoryWindow at = wished_at n f kinds.Memory at
   each_wished n f PrefetchWindow at = wished_at n f kinds.Prefetchable at
 
-  pub of_granted : (there : List Denied) → map denied_value there ≡ map (λ w. register_at (part_of s w)) denied → AreOfGranted s g room.wished there
+  pub of_granted : (there : List Denied) → map denied_value there ≡ map (λ w. slot_and_offset_of (part_of s w)) denied → AreOfGranted s g room.wished there
   of_granted there there_is = record {
     each = each_wished;
-    denied_are = there_is ∙ sym (map_twice register_at (part_of s) denied) ∙ sym (ap (map register_at) are.denied_are);
+    denied_are = there_is ∙ sym (map_twice slot_and_offset_of (part_of s) denied) ∙ sym (ap (map slot_and_offset_of) are.denied_are);
   }
 
 -- no BAR or ROM keeps room free

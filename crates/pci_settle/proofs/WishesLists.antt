@@ -27,7 +27,7 @@ use Rattle.pci_first_fit.specs.Tables.{untold, told}
 use Rattle.pci_settle_places.specs.declared.places.Places.{Places}
 use Rattle.pci_grow.specs.declared.fill.Located.{Located}
 use Rattle.pci_grow.proofs.Filled.{sum_more}
-use Rattle.pci_grow.specs.RoomRows.{level, row_number}
+use Rattle.pci_grow.specs.RoomRows.{bus_level, row_number}
 use Rattle.pci_grow.specs.Located.{told_weight, located_total}
 use Rattle.pci_settle.specs.declared.tables.Tables.{Tables}
 use Rattle.pci_settle.specs.Before.{windows_before, IsToldAt, AreWindowsBefore, bar_before, bar_weight, record_weight, AreOwnBefore, AreFlagsOf}
@@ -119,11 +119,11 @@ kind_space_is bar_kinds.Mem32 = refl
 kind_space_is bar_kinds.Mem64 = refl
 
 pub bar_added : (roots : List ℕ) (weight : DecodedRange → ℕ) (n bus : ℕ) (p : Places) (kept : Kept) (bar : CodeBar) (space : CodeSpace) (range : Option Range) (old new : ℕ) → space_of space ≡ kind_space (decoded_kind_of bar.kind) → range ≡ bar_before bar p kept
-    → new ≡ old + told_weight weight (row_number (level roots bus) (space_of space)) n range → new ≡ old + bar_weight roots weight n bus p kept bar
+    → new ≡ old + told_weight weight (row_number (bus_level roots bus) (space_of space)) n range → new ≡ old + bar_weight roots weight n bus p kept bar
 bar_added roots weight n bus p kept bar space range old new space_is range_is added =
     added
-    ∙ ap (λ x. old + told_weight weight (row_number (level roots bus) x) n range) (space_is ∙ kind_space_is bar.kind)
-    ∙ ap (λ x. old + told_weight weight (row_number (level roots bus) (space_in bar.kind)) n x) range_is
+    ∙ ap (λ x. old + told_weight weight (row_number (bus_level roots bus) x) n range) (space_is ∙ kind_space_is bar.kind)
+    ∙ ap (λ x. old + told_weight weight (row_number (bus_level roots bus) (space_in bar.kind)) n x) range_is
 
 -- one more of a list, or all of them
 pub bars_next : (f : CodeBar → ℕ) (bars : List CodeBar) (index : ℕ) (d : CodeBar) (old new first : ℕ) → index < length bars

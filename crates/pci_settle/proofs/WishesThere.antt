@@ -15,7 +15,7 @@ use Rattle.plan_spec.specs.Plan.{bridges_above, is_io_part, same_class}
 use Rattle.settle_spec.specs.Lists.{Request}
 use Rattle.settle_spec.specs.Parts.{is_empty, is_left, is_part, class_in}
 use Rattle.settle_spec.specs.Stands.{rank, window_part}
-use Rattle.settle_spec.specs.Items.{Item, Placed, has_of}
+use Rattle.settle_spec.specs.Items.{PlacingItem, Placed, has_of}
 use Rattle.settle_spec.specs.Places.{placed_of}
 use Rattle.settle_spec.specs.Kept.{Kept}
 use Rattle.settle_spec.specs.Keeping.Places.{space_items, placing_on, new_place}
@@ -30,10 +30,10 @@ use Rattle.pci_settle_places.proofs.Parts.{each_in, real_in, rank_one}
 use Rattle.pci_settle_places.proofs.Reached.{item_here}
 
 -- a window is placed where something of its class is behind its bridge
-abbrev HasBehind : Request → System → Item → Type 0
+abbrev HasBehind : Request → System → PlacingItem → Type 0
 HasBehind q s i = (d : WindowKind) → i.region.part ≡ Window d → has_of q s d i.region.function ≡ true
 
-behind_in : (q : Request) (s : System) (keep : Kept) (space : Space) (bus : ℕ) (i : Item) → Contains (space_items q s keep space bus) i → HasBehind q s i
+behind_in : (q : Request) (s : System) (keep : Kept) (space : Space) (bus : ℕ) (i : PlacingItem) → Contains (space_items q s keep space bus) i → HasBehind q s i
 behind_in q s keep space bus = each_in q s keep space bus (HasBehind q s)
     (λ c of f on p is d window. absurd (both_ways (is_window p) is.plain (ap is_window window)))
     (λ c of f on is d window. (let same : c ≡ d = cc in subst (λ x. has_of q s x f ≡ true) same is.has))

@@ -6,7 +6,7 @@ use Rattle.pci_spec.specs.System.{System}
 use Rattle.settle_spec.specs.Lists.{Request, are_bad_lists}
 use Rattle.settle_spec.specs.Parts.{FunctionPart}
 use Rattle.settle_spec.specs.Stands.{stands}
-use Rattle.settle_spec.specs.Items.{Item}
+use Rattle.settle_spec.specs.Items.{PlacingItem}
 use Rattle.judge_spec.specs.ToldRegion.{ToldRegion}
 use Rattle.settle_spec.specs.Writes.{Settling, BadLists, Fixed, NoRoom, NotKept, Settled, or_fixed, or_lack, or_write, fixed_without, fixed_write}
 use Rattle.settle_spec.specs.Kept.{Kept, as_it_stands, growing}
@@ -34,7 +34,7 @@ from_told : (o : Option ToldRegion) (other : Settling) (writes : List Write) →
 from_told None other writes is = is
 from_told (Some x) other writes is = cc
 
-from_lack : (o : Option Item) (other : Settling) (writes : List Write) → or_lack o other ≡ Settled writes → other ≡ Settled writes
+from_lack : (o : Option PlacingItem) (other : Settling) (writes : List Write) → or_lack o other ≡ Settled writes → other ≡ Settled writes
 from_lack None other writes is = is
 from_lack (Some i) other writes is = cc
 

@@ -27,7 +27,7 @@ use Rattle.pci_settle_places.specs.declared.places.Places.{Places}
 use Rattle.pci_settle_places.specs.Places.{place_range_in}
 use Rattle.pci_settle_places.specs.Shown.{HasRegister}
 use Rattle.pci_grow.specs.declared.fill.Located.{Located}
-use Rattle.pci_grow.specs.RoomRows.{level, row_number}
+use Rattle.pci_grow.specs.RoomRows.{bus_level, row_number}
 use Rattle.pci_grow.specs.Located.{told_weight, located_total}
 use Rattle.pci_settle.specs.declared.tables.Tables.{Tables}
 
@@ -73,11 +73,11 @@ rom_before (Some rom) p kept = if kept.rom then Some record { first = rom.first;
 -- what they weigh in a row
 abbrev pub bar_weight : List ℕ → (DecodedRange → ℕ) → ℕ → ℕ → Places → Kept → CodeBar → ℕ
 bar_weight roots weight n bus p kept bar =
-    told_weight weight (row_number (level roots bus) (space_in bar.kind)) n (bar_before bar p kept)
+    told_weight weight (row_number (bus_level roots bus) (space_in bar.kind)) n (bar_before bar p kept)
 
 abbrev pub rom_weight : List ℕ → (DecodedRange → ℕ) → ℕ → ℕ → Places → Kept → Option CodeRom → ℕ
 rom_weight roots weight n bus p kept rom =
-    told_weight weight (row_number (level roots bus) Memory) n (rom_before rom p kept)
+    told_weight weight (row_number (bus_level roots bus) Memory) n (rom_before rom p kept)
 
 abbrev pub bars_weight : List ℕ → (DecodedRange → ℕ) → ℕ → Record → Places → Kept → ℕ
 bars_weight roots weight n r p kept = sum_by (bar_weight roots weight n r.slot.bus p kept) r.bars.items

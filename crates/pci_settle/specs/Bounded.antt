@@ -10,17 +10,17 @@ use Rattle.pci_kept.specs.Flags.{AreFlags}
 use Rattle.pci_settle.specs.declared.bounds.Bounds.{Bounds}
 use Rattle.pci_settle.specs.declared.lack.SettleFault.{SettleFault}
 use Rattle.pci_settle.specs.Fixed.{fixed_part}
-use Rattle.pci_settle.specs.ToldEndings.{first_told, told_value, HasEachFlag, KnowsTold}
+use Rattle.pci_settle.specs.ToldEndings.{first_told, known_told_value, HasEachFlag, KnowsTold}
 
 -- slot numbers index the flags of fixed functions, and a told range has its line and its flag
 pub record HasBounds (b : Bounds) : Type 0 where
   pub fixed : length b.fixed.now ≡ 65536
-  pub told : HasEachFlag (told_value b.told)
+  pub told : HasEachFlag (known_told_value b.told)
 
 -- they are those of what is asked for
 pub record AreBounds (q : Request) (s : System) (b : Bounds) : Type 0 where
   pub fixed : AreFlags q.fixed b.fixed.now
-  pub told : KnowsTold q s (told_value b.told)
+  pub told : KnowsTold q s (known_told_value b.told)
 
 -- one fault or else another
 abbrev pub or_other : Option SettleFault → Option SettleFault → Option SettleFault

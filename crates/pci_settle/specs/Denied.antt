@@ -17,23 +17,23 @@ use Rattle.pci_settle.specs.Dumps.{IsSettledDump}
 use Rattle.pci_settle.specs.Endings.{HasLarge}
 
 -- a part by its slot and the offset of its register
-abbrev pub register_at : FunctionPart → Slot × ℕ
-register_at r = (r.function.slot, register_of r.function r.part)
+abbrev pub slot_and_offset_of : FunctionPart → Slot × ℕ
+slot_and_offset_of r = (r.function.slot, register_of r.function r.part)
 
 -- as the code has it
 abbrev pub denied_value : Denied → Slot × ℕ
 denied_value d = (d.slot, d.register)
 
 -- what is asked of new windows: where one would have 2^64 addresses or more with its spare, none has a spare
-abbrev pub IsPlacing : Admission → Request → Request → Type 0
-IsPlacing a q p =
+abbrev pub IsPlacingRequest : Admission → Request → Request → Type 0
+IsPlacingRequest a q p =
     (p ≡ placing_request q (system_in a)) ⊎ (HasLarge a q × (p ≡ without_slots q))
 
 -- all is settled beside what is kept then: the dump, the writes, how many of them close, and the spares that are denied
 pub record IsSpared (q : Request) (a : Admission) (dump : List Block) (writes : List Write)
     (count : ℕ) (denied : List (Slot × ℕ)) : Type 0 where
   pub placing : Request
-  pub placing_is : IsPlacing a q placing
+  pub placing_is : IsPlacingRequest a q placing
   -- it is settled without slots, too
   pub without : IsTrue (is_settled (settle_growing (without_slots q) (system_in a)))
   pub dump_is : IsSettledDump placing (granted_beside q placing (system_in a)).kept a dump
@@ -41,4 +41,4 @@ pub record IsSpared (q : Request) (a : Admission) (dump : List Block) (writes : 
       ≡ Settled writes
   pub closing : count
       ≡ length (closings placing (system_in a) (granted_beside q placing (system_in a)).kept (system_in a))
-  pub denied_are : denied ≡ map register_at (granted_beside q placing (system_in a)).denied
+  pub denied_are : denied ≡ map slot_and_offset_of (granted_beside q placing (system_in a)).denied

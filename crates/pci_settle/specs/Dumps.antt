@@ -16,7 +16,7 @@ pub record IsSettledDump (q : Request) (keep : Kept) (a : Admission) (dump : Lis
   pub system : system_of dump a.probe ≡ settled q (system_in a) keep
 
 -- with the writes that lead there, so many of which close functions
-pub record IsSettledBy (q : Request) (keep : Kept) (a : Admission) (dump : List Block)
+pub record IsSettledByWrites (q : Request) (keep : Kept) (a : Admission) (dump : List Block)
     (writes : List Write) (count : ℕ) : Type 0 where
   pub settled : IsSettledDump q keep a dump
   pub writes_are : writes ≡ spec.settle_writes q (system_in a) keep

@@ -19,7 +19,7 @@ use Rattle.pci_settle_places.specs.Answers.{AreFlagsOfTold}
 use Rattle.pci_settle.specs.declared.ended.Held.{Held}
 use Rattle.pci_settle.specs.declared.ended.Ended.{Ended as CodeEnded}
 use Rattle.pci_settle.specs.Told.{TellsKeeping}
-use Rattle.pci_settle.specs.Dumps.{IsSettledBy}
+use Rattle.pci_settle.specs.Dumps.{IsSettledByWrites}
 use Rattle.pci_settle.specs.Endings.{after_lists}
 
 -- the dump, the writes and how many of them close, and tables by function: places, what stays, and what windows come to; and of
@@ -57,8 +57,8 @@ held_value x staying grown standing = record {
 }
 
 -- it ends with the writes to the dump, nothing lacks a place, and the tables tell what is kept
-pub record IsEnded (q : Request) (keep : Keeping) (a : Admission) (o : Ended) : Type 0 where
-  pub by : IsSettledBy q keep a o.dump o.writes o.closings
+pub record IsEndOfSettling (q : Request) (keep : Keeping) (a : Admission) (o : Ended) : Type 0 where
+  pub by : IsSettledByWrites q keep a o.dump o.writes o.closings
   pub room : lacking q (system_in a) keep ≡ None
   pub ends : after_lists q (system_in a) keep ≡ Settled o.writes
   pub places : HasAllPlaces q (system_in a) keep o.places

@@ -74,8 +74,8 @@ abbrev pub IsAfterIo : Request → System → Keeping → WindowKind → Type 0
 IsAfterIo q s keep c = window_space c ≡ Memory → space_lack q s keep Io q.roots ≡ None
 
 -- no function is fixed, and nothing is told
-abbrev pub IsFree : Request → Type 0
-IsFree q = (q.fixed ≡ []) × (q.told.ranges ≡ [])
+abbrev pub IsUnfixedUntold : Request → Type 0
+IsUnfixedUntold q = (q.fixed ≡ []) × (q.told.ranges ≡ [])
 
 -- all is placed anew where nothing is told, or no open window has all addresses of 64 bits
 abbrev pub IsStayKnown : Request → System → Type 0
@@ -88,7 +88,7 @@ pub record IsTooLargeAt (a : Admission) (q : Request) (keep : Keeping) (c : Wind
   pub at : IsLargeAt a q c slot
   pub stand : AreKeptStanding q (system_in a)
   pub stay : IsStayKnown q (system_in a) → AreKeptStaying q (system_in a) keep
-  pub io : IsStayKnown q (system_in a) ⊎ IsFree q → IsAfterIo q (system_in a) keep c
+  pub io : IsStayKnown q (system_in a) ⊎ IsUnfixedUntold q → IsAfterIo q (system_in a) keep c
 
 -- something has no place
 abbrev pub IsLack : Admission → Request → Keeping → Refused SettleFault → Type 0
@@ -111,7 +111,7 @@ IsLackOff a d left e =
 
 -- something has no place, and nothing is fixed or told
 abbrev pub IsUnfixedLack : Admission → Request → Refused SettleFault → Type 0
-IsUnfixedLack a q e = IsFree q × IsLack a q (as_it_stands q (system_in a)) e
+IsUnfixedLack a q e = IsUnfixedUntold q × IsLack a q (as_it_stands q (system_in a)) e
 
 -- a new window of I/O is too large, or there was no memory
 abbrev pub IsLargeInIo : Admission → Request → Refused SettleFault → Type 0
@@ -131,12 +131,12 @@ IsTooLargeAsked a q refused.Memory = ⊤
 IsTooLargeAsked a q (refused.Fault fault.BadLists) = ⊥
 IsTooLargeAsked a q (refused.Fault (fault.Assumed slot reg)) = ⊥
 IsTooLargeAsked a q (refused.Fault (fault.NoRoom lack)) =
-    IsFree q
+    IsUnfixedUntold q
     × ((other : Settling) → or_lack (lacking q (system_in a) (as_it_stands q (system_in a))) other ≡ no_room lack)
 IsTooLargeAsked a q (refused.Fault (fault.TooLarge class slot)) =
     IsLargeAt a q (kind_value class) slot
     × (HasWholeWindow (system_in a)
-    × (IsFree q → IsAfterIo q (system_in a) (as_it_stands q (system_in a)) (kind_value class)))
+    × (IsUnfixedUntold q → IsAfterIo q (system_in a) (as_it_stands q (system_in a)) (kind_value class)))
 IsTooLargeAsked a q (refused.Fault (fault.Fixed slot reg)) = ⊥
 IsTooLargeAsked a q (refused.Fault (fault.Told slot line)) = ⊥
 
@@ -168,12 +168,12 @@ IsEndedBy a q keep (refused.Fault (fault.Told slot line)) =
 -- ---- where windows grow
 
 -- nothing is settled
-abbrev pub IsRefused : Settling → Type 0
-IsRefused (Settled writes) = ⊥
-IsRefused refused = ⊤
+abbrev pub IsNothingSettled : Settling → Type 0
+IsNothingSettled (Settled writes) = ⊥
+IsNothingSettled refused = ⊤
 
 abbrev pub IsRefusedGrowing : Admission → Request → Type 0
-IsRefusedGrowing a q = IsRefused (after_lists q (system_in a) (growing q (system_in a)))
+IsRefusedGrowing a q = IsNothingSettled (after_lists q (system_in a) (growing q (system_in a)))
 
 -- some function has a new window of 2^64 addresses or more
 pub record HasLarge (a : Admission) (q : Request) : Type 0 where

@@ -35,17 +35,17 @@ use Rattle.pci_settle.specs.declared.way.Way.{Way}
 
 -- ---- what is above a bus
 
-abbrev pub in_space : BySpace → Space → Bool
-in_space b Io = b.io
-in_space b Memory = b.memory
+abbrev pub flag_in_space : BySpace → Space → Bool
+flag_in_space b Io = b.io
+flag_in_space b Memory = b.memory
 
 abbrev pub in_class : ByClass → WindowKind → Bool
 in_class b IoWindow = b.io
 in_class b MemoryWindow = b.memory
 in_class b PrefetchWindow = b.prefetchable
 
-abbrev pub by_class : (WindowKind → Bool) → ByClass
-by_class test = record {
+abbrev pub flags_by_class : (WindowKind → Bool) → ByClass
+flags_by_class test = record {
   io = test IoWindow;
   memory = test MemoryWindow;
   prefetchable = test PrefetchWindow;
@@ -54,14 +54,14 @@ by_class test = record {
 -- of the bridges between the host and a bus: which spaces all enable, in which none is shut itself, and of which classes no
 -- window changes
 pub record IsWay (q : Request) (s : System) (keep : Kept) (bus : ℕ) (way : Way) : Type 0 where
-  pub on : (x : Space) → in_space way.on x ≡ list_all (λ b. is_space_on b x) (bridges_above s bus)
-  pub clear : (x : Space) → in_space way.clear x
+  pub on : (x : Space) → flag_in_space way.on x ≡ list_all (λ b. is_space_on b x) (bridges_above s bus)
+  pub clear : (x : Space) → flag_in_space way.clear x
       ≡ list_all (λ b. not (is_shut_itself q s keep x b)) (bridges_above s bus)
   pub same : (c : WindowKind) → in_class way.same c
       ≡ list_all (λ b. not (changes_window q s keep c b)) (bridges_above s bus)
 
 -- what is around a function, what of it stays, and which told ranges stand
-pub record IsAround (q : Request) (s : System) (keep : Kept) (f : Function) (o : Around) : Type 0 where
+pub record IsAroundFunction (q : Request) (s : System) (keep : Kept) (f : Function) (o : Around) : Type 0 where
   pub over : IsOverBus q s f.slot.bus o.over
   pub terms : AreTerms (demand_of q) o.answering.terms
   pub told : q.told.ranges ≡ o.answering.told.ranges.now
@@ -128,16 +128,16 @@ abbrev pub HasEachAnswer : Answering → Type 0
 HasEachAnswer a = length a.standing.now ≡ length a.told.ranges.now
 
 -- it has a BAR, a ROM or a told range to answer in a space
-abbrev pub has_own_by : Around → Space → Record → Bool
-has_own_by o space r =
+abbrev pub has_own_around : Around → Space → Record → Bool
+has_own_around o space r =
     is_answering o.answering.told.ranges.now o.answering.standing.now space r.slot
     || has_kept space o.over.above o.answering.terms r
 
 -- it is on in a space in which it has something to answer, and a bridge above it isn't
 abbrev pub is_cut_off_by : Around → Space → Record → Bool
 is_cut_off_by o space r =
-    is_on r.command space && has_own_by o space r
-    && not (in_space o.way.on space)
+    is_on r.command space && has_own_around o space r
+    && not (flag_in_space o.way.on space)
 
 abbrev pub is_shut_by : Around → Space → List ℕ → List ℕ → Record → Bool
 is_shut_by o space old new r = has_moving_by o space old new r || is_cut_off_by o space r
@@ -156,7 +156,7 @@ closing_by o r shut =
 abbrev pub closing_in : Request → System → Kept → Function → Closing
 closing_in q s keep f = record {
   command = closing_command q s keep f;
-  windows = by_class (is_replaced q s keep f);
+  windows = flags_by_class (is_replaced q s keep f);
 }
 
 -- of all functions

@@ -19,8 +19,8 @@ use Rattle.pci_settle.specs.Requests.{request}
 use Rattle.pci_settle.specs.Wishes.{behind_slots}
 use Rattle.pci_settle.specs.Told.{IsTableOf}
 use Rattle.pci_settle.specs.Alike.{PassesPartsOnly}
-use Rattle.pci_settle.specs.Dumps.{IsSettledBy}
-use Rattle.pci_settle.specs.Denied.{register_at}
+use Rattle.pci_settle.specs.Dumps.{IsSettledByWrites}
+use Rattle.pci_settle.specs.Denied.{slot_and_offset_of}
 use Rattle.pci_settle.specs.Endings.{HasLarge}
 
 -- the same with these slots
@@ -34,9 +34,9 @@ asked_value roots o = request roots (demand_value o.lists) o.rules.fixed.now o.r
 -- wishes are granted beside what is kept as new windows are placed for these slots: the dump, the writes, and what is denied
 pub record IsWishedFor (q : Request) (slots : List Slot) (keep : Keeping) (a : Admission)
     (dump : List Block) (writes : List Write) (count : ℕ) (denied : List (Slot × ℕ)) : Type 0 where
-  pub by : IsSettledBy (behind_slots q slots) (granted (behind_slots q slots) (system_in a) (spare_of q) keep).kept a dump writes count
+  pub by : IsSettledByWrites (behind_slots q slots) (granted (behind_slots q slots) (system_in a) (spare_of q) keep).kept a dump writes count
   pub denied_are : denied
-      ≡ map register_at (granted (behind_slots q slots) (system_in a) (spare_of q) keep).denied
+      ≡ map slot_and_offset_of (granted (behind_slots q slots) (system_in a) (spare_of q) keep).denied
 
 -- new windows can have spares beside what stays without slots
 abbrev pub can_have_spares : Request → System → Keeping → Bool

@@ -12,7 +12,7 @@ use Rattle.pci_spec.specs.Machine.{Write}
 use Rattle.pci_spec.specs.System.{System, Function, IsSystem}
 use Rattle.plan_spec.specs.Planning.PlanWrites.{Change, register_write, registers_of}
 use Rattle.settle_spec.specs.Lists.{Request}
-use Rattle.settle_spec.specs.Registers.{with_number, with_bounds}
+use Rattle.judge_spec.specs.Windows.{with_number, with_bounds}
 use Rattle.settle_spec.specs.Writes.{shut_bounds}
 use Rattle.settle_spec.specs.Kept.{Kept}
 use Rattle.settle_spec.specs.Keeping.Registers.{settled_function}

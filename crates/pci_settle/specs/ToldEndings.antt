@@ -27,7 +27,7 @@ use Rattle.pci_settle.specs.declared.told.KnownRanges.{KnownRanges}
 use Rattle.pci_settle.specs.declared.told.Told.{Told as CodeTold}
 use Rattle.pci_settle.specs.declared.way.ByClass.{ByClass}
 use Rattle.pci_settle.specs.declared.way.Way.{Way}
-use Rattle.pci_settle.specs.Shut.{in_space, in_class}
+use Rattle.pci_settle.specs.Shut.{flag_in_space, in_class}
 use Rattle.pci_settle.specs.declared.lack.SettleFault.{SettleFault}
 use Rattle.pci_settle.specs.declared.lack.SettleFault.TheVariants.{Told}
 
@@ -45,8 +45,8 @@ pub record KnownTold : Type 0 where
   pub lines : List ToldLine
   pub standing : List Bool
 
-abbrev pub told_value : CodeTold → KnownTold
-told_value t =
+abbrev pub known_told_value : CodeTold → KnownTold
+known_told_value t =
     record { ranges = t.ranges.ranges.now; lines = t.lines.now; standing = t.standing.now }
 
 -- the same beside the ranges
@@ -81,8 +81,8 @@ pub record AreKeptAbove (q : Request) (s : System) (k : Kept) (ways : List ByCla
 -- ---- what is switched
 
 -- whether Command of the block at a slot enables a space
-abbrev pub is_enabled_in : List Block → Slot → Space → Bool
-is_enabled_in blocks slot space =
+abbrev pub is_enabled_in_blocks : List Block → Slot → Space → Bool
+is_enabled_in_blocks blocks slot space =
     list_any (λ b. same_slot b.slot slot && is_on (command b.image) space) blocks
 
 -- flags say of each told range whether Command of its function enables its space in the result
@@ -101,9 +101,9 @@ pub record AreClearAbove (q : Request) (s : System) (k : Kept) (ways : List Way)
   pub system : IsSystem s
   pub nested : IsNested q.roots s
   pub on_roots : (bus : ℕ) (d : Way) (x : Space) → Contains q.roots bus → bus < 256
-      → in_space (slice_index_or ways bus d).clear x ≡ are_clear_above q s k x bus
+      → flag_in_space (slice_index_or ways bus d).clear x ≡ are_clear_above q s k x bus
   pub behind : (b : Function) (d : Way) (x : Space) → Contains s b → IsTrue (is_bridge b)
-      → in_space (slice_index_or ways (secondary b) d).clear x ≡ are_clear_above q s k x (secondary b)
+      → flag_in_space (slice_index_or ways (secondary b) d).clear x ≡ are_clear_above q s k x (secondary b)
 
 -- each range that is marked `always` stands
 abbrev pub AlwaysStand : Request → System → Type 0

@@ -40,7 +40,7 @@ use Rattle.pci_settle.specs.declared.tables.Tables.{Tables}
 use Rattle.pci_settle.specs.declared.wishes.Basis.{Basis}
 use Rattle.pci_settle.specs.Before.{AreWindowsBefore, AreOwnBefore, AreFlagsOf}
 use Rattle.pci_settle.specs.Wished.{TellsWishes}
-use Rattle.pci_settle.specs.Denied.{register_at, denied_value}
+use Rattle.pci_settle.specs.Denied.{slot_and_offset_of, denied_value}
 
 -- the same where the new windows over these bridges have spares
 abbrev pub behind_slots : Request → List Slot → Request
@@ -50,7 +50,7 @@ behind_slots q slots = record q { slots = slots }
 abbrev pub AreDeniedAt : List Record → List BridgeWindow → List Denied → Type 0
 AreDeniedAt records windows denied =
     (s : System) → HasRecords s (map record_value records)
-    → map denied_value denied ≡ map (λ w. register_at (part_of s w)) windows
+    → map denied_value denied ≡ map (λ w. slot_and_offset_of (part_of s w)) windows
 
 -- the windows that keep room free, and those whose spares are denied
 pub record AreOfGranted (s : System) (g : Granted) (wished : List (ByKind (Option Range)))
@@ -58,7 +58,7 @@ pub record AreOfGranted (s : System) (g : Granted) (wished : List (ByKind (Optio
   pub each : (n : ℕ) (f : Function) (c : WindowKind) → slice_get s n ≡ Some f
       → g.kept.wished (window_part c f)
       ≡ option_map decoded_range_of (told_of_kind (slice_index_or wished n untold) c)
-  pub denied_are : map denied_value denied ≡ map register_at g.denied
+  pub denied_are : map denied_value denied ≡ map slot_and_offset_of g.denied
 
 -- so it is on a board where BARs and ROMs are these
 abbrev pub AreGrantedAll : Board → List Located → Wanted → List (ByKind (Option Range)) → List Denied → Type 0
@@ -100,4 +100,4 @@ AreGrantedBy records roots l b wished denied =
 abbrev pub AreWishes : Request → Request → System → Keeping → List (ByKind (Option Range)) → List Denied → Type 0
 AreWishes q p s keep wished denied =
     TellsWishes s (granted p s (spare_of q) keep).kept wished
-    × (map denied_value denied ≡ map register_at (granted p s (spare_of q) keep).denied)
+    × (map denied_value denied ≡ map slot_and_offset_of (granted p s (spare_of q) keep).denied)

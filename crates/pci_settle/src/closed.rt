@@ -6,7 +6,7 @@ ghost use Rattle.pci_base.specs.WindowKinds.{kind_value};
 ghost use Rattle.pci_image.specs.Windows.{window_of};
 ghost use Rattle.pci_tree.specs.Passes.{range_in};
 ghost use Rattle.settle_spec.specs.Writes as writes;
-ghost use Rattle.pci_settle.specs.Shut.{differs_in, is_window_changed, is_window_changed_for_more, by_class, changed_window};
+ghost use Rattle.pci_settle.specs.Shut.{differs_in, is_window_changed, is_window_changed_for_more, flags_by_class, changed_window};
 ghost use Rattle.pci_settle.specs.Stages.{nibble_in, with_closed_window, closed_image_by};
 
 use crate::way::ByClass;
@@ -66,7 +66,7 @@ fn is_window_changed_for_more(
 /// Of which classes the windows of a function change: those of a bridge.
 pub fn changed_windows(record: &Record, old: &Image, plain: &Image, new: &Image) -> ByClass
     ensures { result
-        ≡ by_class (changed_window «record».now.bridge old.now.0 plain.now.0 new.now.0) }
+        ≡ flags_by_class (changed_window «record».now.bridge old.now.0 plain.now.0 new.now.0) }
 {
     let Some(bridge) = &record.bridge else {
         return ByClass::NONE;

@@ -3,10 +3,10 @@ ghost use Rattle.std.specs.Prelude.{◌≡◌, IfOk, IfErr, length, map};
 ghost use Rattle.settle_spec.specs.Kept.{growing as growing_kept};
 ghost use Rattle.pci_place.specs.Above.{system_in};
 ghost use Rattle.pci_first_fit.specs.Slots.{demand_value};
-ghost use Rattle.pci_kept.specs.Known.{asked_by};
+ghost use Rattle.pci_kept.specs.Known.{asked_by_rules};
 ghost use Rattle.pci_grow.specs.Growing.{AreGrown, grown_value};
 ghost use Rattle.pci_settle.specs.Bounded.{HasBounds, AreBounds};
-ghost use Rattle.pci_settle.specs.Ended.{ended_value, IsEnded};
+ghost use Rattle.pci_settle.specs.Ended.{ended_value, IsEndOfSettling};
 ghost use Rattle.pci_settle.specs.Endings.{IsNotGrown};
 
 use crate::bounds::{Bounds, first_without};
@@ -32,10 +32,10 @@ fn grown_windows<A: Allocator + Copy, B: Allocator>(
     rules: &Rules,
 ) -> Result<Grown<A>, Refused<SettleFault>>
     ensures grown { IfOk result (λ grown. AreGrown
-        (asked_by admitted.now.roots (demand_value lists.now) rules.now) (system_in admitted.now)
+        (asked_by_rules admitted.now.roots (demand_value lists.now) rules.now) (system_in admitted.now)
         (grown_value grown)) }
     ensures fault { IfErr result (IsNotGrown admitted.now
-        (asked_by admitted.now.roots (demand_value lists.now) rules.now)) }
+        (asked_by_rules admitted.now.roots (demand_value lists.now) rules.now)) }
 {
     match growing(alloc, admitted, lists, rules) {
         Ok(grown) => Ok(grown),
@@ -55,19 +55,19 @@ pub fn settle_grown<A: Allocator + Copy, B: Allocator>(
 ) -> Result<Ended<A>, Refused<SettleFault>>
     requires has { HasBounds bounds.now }
     requires told { bounds.now.told.ranges ≡ lists.now.told }
-    requires bounds { AreBounds (asked_by admitted.now.roots (demand_value lists.now) rules.now)
+    requires bounds { AreBounds (asked_by_rules admitted.now.roots (demand_value lists.now) rules.now)
         (system_in admitted.now) bounds.now }
     ensures titles { IfOk result
         (λ x. map (λ b. b.title) x.settled.dump ≡ map (λ b. b.title) admitted.now.dump) }
     ensures places { IfOk result (λ x. length x.places.items ≡ length (system_in admitted.now)) }
     ensures staying { IfOk result (λ x. length x.staying.items ≡ length (system_in admitted.now)) }
     ensures told { IfOk result (λ x. length x.standing.items ≡ length lists.now.told.ranges.now) }
-    ensures ends { IfOk result (λ x. IsEnded
-        (asked_by admitted.now.roots (demand_value lists.now) rules.now)
-        (growing_kept (asked_by admitted.now.roots (demand_value lists.now) rules.now)
+    ensures ends { IfOk result (λ x. IsEndOfSettling
+        (asked_by_rules admitted.now.roots (demand_value lists.now) rules.now)
+        (growing_kept (asked_by_rules admitted.now.roots (demand_value lists.now) rules.now)
         (system_in admitted.now)) admitted.now (ended_value x)) }
     ensures refusal { IfErr result (λ e. IsNotGrown admitted.now
-        (asked_by admitted.now.roots (demand_value lists.now) rules.now) e) }
+        (asked_by_rules admitted.now.roots (demand_value lists.now) rules.now) e) }
 {
     let outline = admitted.outline();
     let over = open_windows(outline.records(), rules.anew);

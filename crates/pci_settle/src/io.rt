@@ -8,7 +8,7 @@ ghost use Rattle.pci_base.specs.WindowKinds.{kind_value};
 ghost use Rattle.pci_place.specs.Above.{system_in};
 ghost use Rattle.pci_first_fit.specs.Slots.{demand_value};
 ghost use Rattle.pci_settle_places.specs.Spaces.{space_lack};
-ghost use Rattle.pci_kept.specs.Known.{asked_by};
+ghost use Rattle.pci_kept.specs.Known.{asked_by_rules};
 ghost use Rattle.pci_kept.specs.Staying.{AreStaying, asked_in_io};
 ghost use Rattle.pci_settle.specs.Lacks.{IsOfSystem, IsSettleFaultOf, too_large, unplaced_class};
 ghost use Rattle.pci_settle.specs.Endings.{IsLack, IsLargeInIo, IsUnfixedLack};
@@ -83,12 +83,12 @@ fn place_io<A: Allocator + Copy, B: Allocator>(
     rules: &Rules,
 ) -> Result<(), Refused<SettleFault>>
     ensures room { OnOk result (space_lack
-        (asked_by admitted.now.roots (demand_value lists.now) rules.now) (system_in admitted.now)
-        (as_it_stands (asked_by admitted.now.roots (demand_value lists.now) rules.now)
+        (asked_by_rules admitted.now.roots (demand_value lists.now) rules.now) (system_in admitted.now)
+        (as_it_stands (asked_by_rules admitted.now.roots (demand_value lists.now) rules.now)
         (system_in admitted.now)) Io admitted.now.roots ≡ None) }
     ensures fault { IfErr result (IsLack admitted.now
-        (asked_by admitted.now.roots (demand_value lists.now) rules.now)
-        (as_it_stands (asked_by admitted.now.roots (demand_value lists.now) rules.now)
+        (asked_by_rules admitted.now.roots (demand_value lists.now) rules.now)
+        (as_it_stands (asked_by_rules admitted.now.roots (demand_value lists.now) rules.now)
         (system_in admitted.now))) }
 {
     let outline = admitted.outline();
@@ -128,11 +128,11 @@ pub fn place_io_unfixed<A: Allocator + Copy, B: Allocator>(
     rules: &Rules,
 ) -> Result<(), Refused<SettleFault>>
     ensures room { OnOk result (rules.now.fixed.now ≡ [] → lists.now.told.ranges.now ≡ [] → space_lack
-        (asked_by admitted.now.roots (demand_value lists.now) rules.now) (system_in admitted.now)
-        (as_it_stands (asked_by admitted.now.roots (demand_value lists.now) rules.now)
+        (asked_by_rules admitted.now.roots (demand_value lists.now) rules.now) (system_in admitted.now)
+        (as_it_stands (asked_by_rules admitted.now.roots (demand_value lists.now) rules.now)
         (system_in admitted.now)) Io admitted.now.roots ≡ None) }
     ensures fault { IfErr result (IsUnfixedLack admitted.now
-        (asked_by admitted.now.roots (demand_value lists.now) rules.now)) }
+        (asked_by_rules admitted.now.roots (demand_value lists.now) rules.now)) }
 {
     if !is_free(lists, rules.fixed) {
         return Ok(());

@@ -15,16 +15,16 @@ ghost use Rattle.pci_plan.specs.Moves.{IsMove};
 ghost use Rattle.pci_plan.specs.Writes.{write_value};
 ghost use Rattle.pci_first_fit.specs.Slots.{demand_value};
 ghost use Rattle.pci_kept.specs.Flags.{AreFlags};
-ghost use Rattle.pci_kept.specs.Known.{asked_by};
+ghost use Rattle.pci_kept.specs.Known.{asked_by_rules};
 ghost use Rattle.pci_settle_places.specs.Placed.{CanBeLeft, ArePlacesOff};
 ghost use Rattle.pci_settle.specs.Requests.{request, CanStay};
-ghost use Rattle.pci_settle.specs.Dumps.{IsSettledBy};
+ghost use Rattle.pci_settle.specs.Dumps.{IsSettledByWrites};
 ghost use Rattle.pci_settle.specs.Denied.{denied_value, IsSpared};
 ghost use Rattle.pci_settle.specs.Bounded.{HasBounds, AreBounds};
 ghost use Rattle.pci_settle.specs.PlacedBy.{IsPlacedBy};
 ghost use Rattle.pci_settle.specs.AsTold.{EndsAsTold, StopsAsTold, AlwaysReaches, EndsOffLines};
 ghost use Rattle.pci_settle.specs.ToldEndings.{AreClearAbove};
-ghost use Rattle.pci_settle.specs.Ended.{ended_value, held_value, IsEnded};
+ghost use Rattle.pci_settle.specs.Ended.{ended_value, held_value, IsEndOfSettling};
 ghost use Rattle.pci_settle.specs.Endings.{IsLackOff, AreAskedFor, IsEndedBy, IsNotGrown, kept_after, IsEndedAfter, IsRefusal, HasNoAssumed};
 
 use crate::assumed::first_assumed;
@@ -155,7 +155,7 @@ fn settled_at<'a, A: Allocator + Copy, B: Allocator>(
     ensures buses { IfOk result (λ x. length x.ways.items ≡ 256) }
     ensures settled { IfOk result (λ x. (q : Request) (keep : Keeping)
         → IsPlacedBy q keep admitted.now lists.now overs.now tables.now
-        → IsSettledBy q keep admitted.now x.settled.dump (map write_value x.settled.writes.all.items)
+        → IsSettledByWrites q keep admitted.now x.settled.dump (map write_value x.settled.writes.all.items)
         x.settled.writes.closings) }
     ensures ways { IfOk result (λ x. (q : Request) (keep : Keeping)
         → IsPlacedBy q keep admitted.now lists.now overs.now tables.now
@@ -201,7 +201,7 @@ pub fn settle_held<A: Allocator + Copy, B: Allocator>(
     ensures ends { IfOk result (λ x. (q : Request) (keep : Keeping)
         → AreBounds q (system_in admitted.now) bounds.now
         → AreAskedFor q keep admitted.now (demand_value lists.now) left.now staying.now
-        → IsEnded q keep admitted.now
+        → IsEndOfSettling q keep admitted.now
         (held_value x staying.now left.now.grown.now bounds.now.told.standing.now)) }
     ensures refusal { IfErr result (λ e. (q : Request) (keep : Keeping)
         → AreBounds q (system_in admitted.now) bounds.now
@@ -241,23 +241,23 @@ fn settle_ungrown<A: Allocator + Copy, B: Allocator>(
 ) -> Result<Ended<A>, Refused<SettleFault>>
     requires has { HasBounds bounds.now }
     requires told { bounds.now.told.ranges ≡ lists.now.told }
-    requires bounds { AreBounds (asked_by admitted.now.roots (demand_value lists.now) rules.now)
+    requires bounds { AreBounds (asked_by_rules admitted.now.roots (demand_value lists.now) rules.now)
         (system_in admitted.now) bounds.now }
-    requires rest { CanStay (asked_by admitted.now.roots (demand_value lists.now) rules.now) }
+    requires rest { CanStay (asked_by_rules admitted.now.roots (demand_value lists.now) rules.now) }
     // else windows would grow
     requires fault { IsNotGrown admitted.now
-        (asked_by admitted.now.roots (demand_value lists.now) rules.now) (refused.Fault fault) }
+        (asked_by_rules admitted.now.roots (demand_value lists.now) rules.now) (refused.Fault fault) }
     ensures titles { IfOk result
         (λ x. map (λ b. b.title) x.settled.dump ≡ map (λ b. b.title) admitted.now.dump) }
     ensures places { IfOk result (λ x. length x.places.items ≡ length (system_in admitted.now)) }
     ensures staying { IfOk result (λ x. length x.staying.items ≡ length (system_in admitted.now)) }
     ensures told { IfOk result (λ x. length x.standing.items ≡ length lists.now.told.ranges.now) }
-    ensures ends { IfOk result (λ x. IsEnded
-        (asked_by admitted.now.roots (demand_value lists.now) rules.now)
-        (kept_after (asked_by admitted.now.roots (demand_value lists.now) rules.now)
+    ensures ends { IfOk result (λ x. IsEndOfSettling
+        (asked_by_rules admitted.now.roots (demand_value lists.now) rules.now)
+        (kept_after (asked_by_rules admitted.now.roots (demand_value lists.now) rules.now)
         (system_in admitted.now)) admitted.now (ended_value x)) }
     ensures refusal { IfErr result (λ e. IsEndedAfter admitted.now
-        (asked_by admitted.now.roots (demand_value lists.now) rules.now) e) }
+        (asked_by_rules admitted.now.roots (demand_value lists.now) rules.now) e) }
 {
     let ended = settle_standing(alloc, admitted, lists, rules, bounds)?;
     if fault.is_too_large() {
@@ -276,18 +276,18 @@ fn settle_rest<A: Allocator + Copy, B: Allocator>(
     flags: &[bool],
 ) -> Result<Ended<A>, Refused<SettleFault>>
     requires flags { AreFlags rules.now.fixed.now flags.now }
-    requires rest { CanStay (asked_by admitted.now.roots (demand_value lists.now) rules.now) }
+    requires rest { CanStay (asked_by_rules admitted.now.roots (demand_value lists.now) rules.now) }
     ensures titles { IfOk result
         (λ x. map (λ b. b.title) x.settled.dump ≡ map (λ b. b.title) admitted.now.dump) }
     ensures places { IfOk result (λ x. length x.places.items ≡ length (system_in admitted.now)) }
     ensures staying { IfOk result (λ x. length x.staying.items ≡ length (system_in admitted.now)) }
     ensures told { IfOk result (λ x. length x.standing.items ≡ length lists.now.told.ranges.now) }
-    ensures ends { IfOk result (λ x. IsEnded
-        (asked_by admitted.now.roots (demand_value lists.now) rules.now)
-        (kept_after (asked_by admitted.now.roots (demand_value lists.now) rules.now)
+    ensures ends { IfOk result (λ x. IsEndOfSettling
+        (asked_by_rules admitted.now.roots (demand_value lists.now) rules.now)
+        (kept_after (asked_by_rules admitted.now.roots (demand_value lists.now) rules.now)
         (system_in admitted.now)) admitted.now (ended_value x)) }
     ensures refusal { IfErr result (λ e. IsEndedAfter admitted.now
-        (asked_by admitted.now.roots (demand_value lists.now) rules.now) e) }
+        (asked_by_rules admitted.now.roots (demand_value lists.now) rules.now) e) }
 {
     let known = known_ranges(alloc, admitted, lists, rules)?;
     let bounds = Bounds {
@@ -324,12 +324,12 @@ pub fn settle_listed<A: Allocator + Copy, B: Allocator>(
     ensures places { IfOk result (λ x. length x.places.items ≡ length (system_in admitted.now)) }
     ensures staying { IfOk result (λ x. length x.staying.items ≡ length (system_in admitted.now)) }
     ensures told { IfOk result (λ x. length x.standing.items ≡ length lists.now.told.ranges.now) }
-    ensures ends { IfOk result (λ x. IsEnded
-        (asked_by admitted.now.roots (demand_value lists.now) rules.now)
-        (kept_after (asked_by admitted.now.roots (demand_value lists.now) rules.now)
+    ensures ends { IfOk result (λ x. IsEndOfSettling
+        (asked_by_rules admitted.now.roots (demand_value lists.now) rules.now)
+        (kept_after (asked_by_rules admitted.now.roots (demand_value lists.now) rules.now)
         (system_in admitted.now)) admitted.now (ended_value x)) }
     ensures refusal { IfErr result (λ e. IsEndedAfter admitted.now
-        (asked_by admitted.now.roots (demand_value lists.now) rules.now) e) }
+        (asked_by_rules admitted.now.roots (demand_value lists.now) rules.now) e) }
 {
     if is_all_moved(lists, rules) {
         settle_all(alloc, admitted, lists, flags)

@@ -9,7 +9,7 @@ ghost use Rattle.pci_place.specs.Above.{system_in};
 ghost use Rattle.pci_settle_places.specs.Shown.{HasRegister};
 ghost use Rattle.pci_settle.specs.Closed.{IsClosedBy};
 ghost use Rattle.pci_settle.specs.ToldEndings.{AreClearAbove};
-ghost use Rattle.pci_settle.specs.Shut.{is_same_above, is_bar_changed, is_moving_bar, has_moving_rom, has_moving_by, HasEachAnswer, has_own_by, is_cut_off_by, is_shut_by, closing_by, AreClosings};
+ghost use Rattle.pci_settle.specs.Shut.{is_same_above, is_bar_changed, is_moving_bar, has_moving_rom, has_moving_by, HasEachAnswer, has_own_around, is_cut_off_by, is_shut_by, closing_by, AreClosings};
 
 use crate::closed::{Closing, changed_windows};
 use crate::dump::{Images, answering_of};
@@ -120,7 +120,7 @@ fn has_moving(space: Space, around: &Around, old: &Image, new: &Image, record: &
 /// Whether a function has a BAR, a ROM or a told range to answer in a space.
 fn has_own(space: Space, around: &Around, record: &Record) -> bool
     requires { HasEachAnswer around.now.answering }
-    ensures { result ≡ has_own_by around.now (space_of space) «record».now }
+    ensures { result ≡ has_own_around around.now (space_of space) «record».now }
 {
     has_kept(space, around.over.above, around.answering.terms, record)
         || is_answering(&around.answering, record.slot, space)

@@ -12,7 +12,7 @@ ghost use Rattle.pci_first_fit.specs.Slots.{demand_value};
 ghost use Rattle.pci_kept.specs.Flags.{AreFlags};
 ghost use Rattle.pci_settle.specs.Requests.{request};
 ghost use Rattle.pci_settle.specs.Denied.{denied_value, IsSpared};
-ghost use Rattle.pci_settle.specs.Ended.{ended_value, IsEnded};
+ghost use Rattle.pci_settle.specs.Ended.{ended_value, IsEndOfSettling};
 ghost use Rattle.pci_settle.specs.Endings.{kept_after, IsEndedAfter};
 ghost use Rattle.pci_settle.specs.Sparing.{with_slots, asked_value, IsWishedFor, HaveSpares};
 ghost use Rattle.pci_settle.specs.Wishes.{behind_slots};
@@ -81,7 +81,7 @@ fn settle_wished<A: Allocator + Copy, B: Allocator>(
         (λ x. map (λ b. b.title) x.dump ≡ map (λ b. b.title) admitted.now.dump) }
     ensures wished { IfOk result (λ x. (slots : List SlotValue) (keep : Keeping)
         → demand_value placing.now ≡ with_slots slots (demand_value asked.now.lists)
-        → IsEnded (behind_slots (asked_value admitted.now.roots asked.now) slots) keep admitted.now (ended_value ended.now)
+        → IsEndOfSettling (behind_slots (asked_value admitted.now.roots asked.now) slots) keep admitted.now (ended_value ended.now)
         → IsWishedFor (asked_value admitted.now.roots asked.now) slots keep admitted.now x.dump
         (map write_value x.writes.all.items) x.writes.closings (map denied_value x.denied.items)) }
 {
@@ -133,7 +133,7 @@ fn with_spares<A: Allocator + Copy, B: Allocator>(
         (λ x. length x.staying.items ≡ length (system_in admitted.now))) }
     ensures told { IfOk result (λ o. IfSome o
         (λ x. length x.standing.items ≡ length asked.now.lists.told.ranges.now)) }
-    ensures spares { IfOk result (λ o. IfSome o (λ x. IsEnded (asked_value admitted.now.roots asked.now)
+    ensures spares { IfOk result (λ o. IfSome o (λ x. IsEndOfSettling (asked_value admitted.now.roots asked.now)
         (kept_after (asked_value admitted.now.roots asked.now) (system_in admitted.now)) admitted.now (ended_value x))) }
     ensures have { IfOk result (λ o. HaveSpares admitted.now (asked_value admitted.now.roots asked.now)
         staying.now (is_some o)) }

@@ -5,11 +5,11 @@ ghost use Rattle.settle_spec.specs.Kept.{as_it_stands};
 ghost use Rattle.pci_place.specs.Above.{system_in};
 ghost use Rattle.pci_first_fit.specs.Slots.{demand_value};
 ghost use Rattle.pci_kept.specs.Flags.{AreFlags};
-ghost use Rattle.pci_kept.specs.Known.{asked_by};
+ghost use Rattle.pci_kept.specs.Known.{asked_by_rules};
 ghost use Rattle.pci_kept.specs.Staying.{AreStaying};
 ghost use Rattle.pci_settle.specs.Requests.{IsAskedOf, CanStay};
 ghost use Rattle.pci_settle.specs.Bounded.{HasBounds, AreBounds};
-ghost use Rattle.pci_settle.specs.Ended.{ended_value, IsEnded};
+ghost use Rattle.pci_settle.specs.Ended.{ended_value, IsEndOfSettling};
 ghost use Rattle.pci_settle.specs.Endings.{IsTooLargeAsked, IsEndedBy, kept_after, IsEndedAfter};
 
 use crate::bounds::{Bounds, first_without};
@@ -50,7 +50,7 @@ pub fn settle_all<A: Allocator + Copy, B: Allocator>(
         → IsAskedOf q admitted.now.roots (demand_value lists.now)
         → IsTrue q.anew
         → AreFlags q.fixed fixed.now
-        → IsEnded q (kept_after q (system_in admitted.now)) admitted.now (ended_value x)) }
+        → IsEndOfSettling q (kept_after q (system_in admitted.now)) admitted.now (ended_value x)) }
     ensures refusal { IfErr result (λ e. (q : Request)
         → IsAskedOf q admitted.now.roots (demand_value lists.now)
         → IsTrue q.anew
@@ -97,10 +97,10 @@ fn staying_parts<A: Allocator + Copy, B: Allocator>(
     rules: &Rules,
 ) -> Result<Vec<Kept, A>, Refused<SettleFault>>
     ensures stay { IfOk result (λ table. AreStaying
-        (asked_by admitted.now.roots (demand_value lists.now) rules.now) (system_in admitted.now)
+        (asked_by_rules admitted.now.roots (demand_value lists.now) rules.now) (system_in admitted.now)
         table.items) }
     ensures fault { IfErr result (IsTooLargeAsked admitted.now
-        (asked_by admitted.now.roots (demand_value lists.now) rules.now)) }
+        (asked_by_rules admitted.now.roots (demand_value lists.now) rules.now)) }
 {
     match staying(alloc, admitted, lists, rules) {
         Ok(table) => Ok(table),
@@ -123,22 +123,22 @@ pub fn settle_standing<A: Allocator + Copy, B: Allocator>(
 ) -> Result<Ended<A>, Refused<SettleFault>>
     requires has { HasBounds bounds.now }
     requires told { bounds.now.told.ranges ≡ lists.now.told }
-    requires bounds { AreBounds (asked_by admitted.now.roots (demand_value lists.now) rules.now)
+    requires bounds { AreBounds (asked_by_rules admitted.now.roots (demand_value lists.now) rules.now)
         (system_in admitted.now) bounds.now }
     // else `settle_all` settles
-    requires rest { CanStay (asked_by admitted.now.roots (demand_value lists.now) rules.now) }
+    requires rest { CanStay (asked_by_rules admitted.now.roots (demand_value lists.now) rules.now) }
     ensures titles { IfOk result
         (λ x. map (λ b. b.title) x.settled.dump ≡ map (λ b. b.title) admitted.now.dump) }
     ensures places { IfOk result (λ x. length x.places.items ≡ length (system_in admitted.now)) }
     ensures staying { IfOk result (λ x. length x.staying.items ≡ length (system_in admitted.now)) }
     ensures told { IfOk result (λ x. length x.standing.items ≡ length lists.now.told.ranges.now) }
-    ensures ends { IfOk result (λ x. IsEnded
-        (asked_by admitted.now.roots (demand_value lists.now) rules.now)
-        (as_it_stands (asked_by admitted.now.roots (demand_value lists.now) rules.now)
+    ensures ends { IfOk result (λ x. IsEndOfSettling
+        (asked_by_rules admitted.now.roots (demand_value lists.now) rules.now)
+        (as_it_stands (asked_by_rules admitted.now.roots (demand_value lists.now) rules.now)
         (system_in admitted.now)) admitted.now (ended_value x)) }
     ensures refusal { IfErr result (λ e. IsEndedBy admitted.now
-        (asked_by admitted.now.roots (demand_value lists.now) rules.now)
-        (as_it_stands (asked_by admitted.now.roots (demand_value lists.now) rules.now)
+        (asked_by_rules admitted.now.roots (demand_value lists.now) rules.now)
+        (as_it_stands (asked_by_rules admitted.now.roots (demand_value lists.now) rules.now)
         (system_in admitted.now)) e) }
 {
     let outline = admitted.outline();

@@ -13,11 +13,11 @@ ghost use Rattle.pci_base.specs.Space.{space_of};
 ghost use Rattle.pci_tree.specs.Admission.{Admission, IsAdmitted};
 ghost use Rattle.pci_place.specs.Above.{system_in};
 ghost use Rattle.pci_first_fit.specs.Slots.{demand_value};
-ghost use Rattle.pci_kept.specs.Known.{asked_by};
+ghost use Rattle.pci_kept.specs.Known.{asked_by_rules};
 ghost use Rattle.pci_settle.specs.Told.{IsTableOf};
 ghost use Rattle.pci_settle.specs.Dumps.{IsSettledDump};
 ghost use Rattle.pci_settle.specs.declared.lack.SettleFault.TheVariants as fault;
-ghost use Rattle.pci_settle.specs.ToldEndings.{first_told, told_value, known_value, HasEachFlag, KnowsTold, AreKeptAbove, is_enabled_in, AreFlagsThen, AreClearAbove, AlwaysStand};
+ghost use Rattle.pci_settle.specs.ToldEndings.{first_told, known_told_value, known_value, HasEachFlag, KnowsTold, AreKeptAbove, is_enabled_in_blocks, AreFlagsThen, AreClearAbove, AlwaysStand};
 
 use crate::lack::SettleFault;
 use crate::way::{ByClass, Way};
@@ -58,7 +58,7 @@ pub struct KnownRanges<A: Allocator = Global> {
 impl<A: Allocator> KnownRanges<A> {
     /// The same beside the ranges.
     pub fn told<'a>(&'a self, ranges: ToldRanges<'a>) -> Told<'a>
-        ensures value { told_value result ≡ known_value self.now ranges.entry }
+        ensures value { known_told_value result ≡ known_value self.now ranges.entry }
         ensures ranges { result.ranges ≡ ranges.entry }
     {
         Told {
@@ -81,7 +81,7 @@ pub fn known_ranges<A: Allocator + Copy, B: Allocator>(
 ) -> Result<KnownRanges<A>, OutOfMemory>
     ensures flags { IfOk result (λ known. HasEachFlag (known_value known lists.now.told)) }
     ensures known { IfOk result (λ known. KnowsTold
-        (asked_by admitted.now.roots (demand_value lists.now) rules.now) (system_in admitted.now)
+        (asked_by_rules admitted.now.roots (demand_value lists.now) rules.now) (system_in admitted.now)
         (known_value known lists.now.told)) }
 {
     let ranges = lists.told.as_slice();
@@ -119,8 +119,8 @@ fn is_unreached(range: &ToldRange, is_on: bool, stands: bool) -> bool
 
 /// The fault 75 with the lowest line whose range is on and doesn't stand.
 pub fn first_unreached(told: &Told) -> Option<SettleFault>
-    requires { HasEachFlag (told_value told.now) }
-    ensures { (q : Request) → (s : System) → KnowsTold q s (told_value told.now)
+    requires { HasEachFlag (known_told_value told.now) }
+    ensures { (q : Request) → (s : System) → KnowsTold q s (known_told_value told.now)
         → result ≡ first_told q (is_not_reached q s) }
 {
     let ranges = told.ranges.as_slice();
@@ -166,8 +166,8 @@ fn is_cut(stands: bool, is_kept: bool) -> bool
 /// The fault 75 with the lowest line whose range stands and doesn't stay. `ways` tells of each bus in which classes all windows
 /// of the bridges above it stay.
 fn first_cut_by(told: &Told, ways: &[ByClass; BUSES]) -> Option<SettleFault>
-    requires { HasEachFlag (told_value told.now) }
-    ensures { (q : Request) → (s : System) → (keep : Keeping) → KnowsTold q s (told_value told.now)
+    requires { HasEachFlag (known_told_value told.now) }
+    ensures { (q : Request) → (s : System) → (keep : Keeping) → KnowsTold q s (known_told_value told.now)
         → AreKeptAbove q s keep ways.now
         → result ≡ first_told q (does_not_stay q s keep) }
 {
@@ -188,11 +188,11 @@ pub fn first_cut<A: Allocator>(
     told: &Told,
     table: &[Kept],
 ) -> Option<SettleFault>
-    requires flags { HasEachFlag (told_value told.now) }
+    requires flags { HasEachFlag (known_told_value told.now) }
     // a function's entry stands where its record does
     requires table { length table.now ≡ length (system_in admitted.now) }
     ensures { (q : Request) → (keep : Keeping) → q.roots ≡ admitted.now.roots
-        → KnowsTold q (system_in admitted.now) (told_value told.now)
+        → KnowsTold q (system_in admitted.now) (known_told_value told.now)
         → IsTableOf (system_in admitted.now) keep.stays table.now
         → result ≡ first_told q (does_not_stay q (system_in admitted.now) keep) }
 {
@@ -218,7 +218,7 @@ fn first_not_below(blocks: &[Block], slot: Slot) -> usize
 fn is_on_in(blocks: &[Block], slot: Slot, space: Space) -> bool
     // its block is found by halving
     requires { IsDump blocks.now }
-    ensures { result ≡ is_enabled_in blocks.now slot (space_of space) }
+    ensures { result ≡ is_enabled_in_blocks blocks.now slot (space_of space) }
 {
     let index = first_not_below(blocks, slot);
     if index == blocks.len() {
@@ -237,7 +237,7 @@ fn flags_then<A: Allocator>(
     // a block is found by halving
     requires { IsDump blocks.now }
     ensures { IfOk result (λ flags. flags.items
-        ≡ map (λ r. is_enabled_in blocks.now r.slot r.space) ranges.now) }
+        ≡ map (λ r. is_enabled_in_blocks blocks.now r.slot r.space) ranges.now) }
 {
     let mut flags = Vec::new(alloc);
     for range in ranges {
@@ -262,11 +262,11 @@ fn is_switched(range: &ToldRange, stands: bool, is_on_then: bool, is_clear: bool
 /// The fault 75 with the lowest line whose range would be switched. `on_then` are flags of the ranges whose space Command of their
 /// functions enables in the result, and `ways` tells of each bus in which spaces no bridge above it is shut.
 fn first_switched(told: &Told, on_then: &[bool], ways: &[Way]) -> Option<SettleFault>
-    requires flags { HasEachFlag (told_value told.now) }
+    requires flags { HasEachFlag (known_told_value told.now) }
     // bus numbers index them
     requires buses { length ways.now ≡ 256 }
     requires then { length on_then.now ≡ length told.now.ranges.ranges.now }
-    ensures { (q : Request) → (s : System) → (keep : Keeping) → KnowsTold q s (told_value told.now)
+    ensures { (q : Request) → (s : System) → (keep : Keeping) → KnowsTold q s (known_told_value told.now)
         → AreFlagsThen q s keep on_then.now → AreClearAbove q s keep ways.now → AlwaysStand q s
         → result ≡ first_told q (would_be_switched q s keep) }
 {
@@ -292,13 +292,13 @@ pub fn switched<A: Allocator>(
     blocks: &[Block],
     ways: &[Way],
 ) -> Result<Option<SettleFault>, OutOfMemory>
-    requires flags { HasEachFlag (told_value told.now) }
+    requires flags { HasEachFlag (known_told_value told.now) }
     // a block is found by halving
     requires dump { IsDump blocks.now }
     // bus numbers index them
     requires buses { length ways.now ≡ 256 }
     ensures { IfOk result (λ found. (q : Request) → (keep : Keeping) → (a : Admission) → IsAdmitted a
-        → KnowsTold q (system_in a) (told_value told.now) → IsSettledDump q keep a blocks.now
+        → KnowsTold q (system_in a) (known_told_value told.now) → IsSettledDump q keep a blocks.now
         → AreClearAbove q (system_in a) keep ways.now → AlwaysStand q (system_in a)
         → found ≡ first_told q (would_be_switched q (system_in a) keep)) }
 {

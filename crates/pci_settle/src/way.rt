@@ -3,7 +3,7 @@ ghost use Rattle.std.specs.Prelude.{◌≡◌, ◌&&◌, ◌||◌, not};
 ghost use Rattle.pci_spec.specs.System.{Io, Memory};
 ghost use Rattle.pci_base.specs.Space.{space_of, is_on};
 ghost use Rattle.pci_base.specs.WindowKinds.{kind_value};
-ghost use Rattle.pci_settle.specs.Shut.{in_space, in_class};
+ghost use Rattle.pci_settle.specs.Shut.{flag_in_space, in_class};
 
 use pci_base::space::Space;
 use pci_base::window_kind::{ByKind, WindowKind};
@@ -18,7 +18,7 @@ pub struct BySpace {
 impl BySpace {
     /// Whether it holds in a space.
     pub fn get(self, space: Space) -> bool
-        ensures { result ≡ in_space self (space_of space) }
+        ensures { result ≡ flag_in_space self (space_of space) }
     {
         match space {
             Space::Io => self.io,

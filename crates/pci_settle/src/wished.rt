@@ -11,7 +11,7 @@ ghost use Rattle.pci_settle_places.specs.Answers.{AreFlagsOfTold};
 ghost use Rattle.pci_settle.specs.Requests.{IsAskedOf};
 ghost use Rattle.pci_settle.specs.Told.{TellsKeeping};
 ghost use Rattle.pci_settle.specs.Wished.{TellsWishes};
-ghost use Rattle.pci_settle.specs.Dumps.{IsSettledDump, IsSettledBy};
+ghost use Rattle.pci_settle.specs.Dumps.{IsSettledDump, IsSettledByWrites};
 
 use crate::dump::{Images, settled_dump};
 use crate::settle::Settled;
@@ -66,7 +66,7 @@ pub fn settled_wished<'a, A: Allocator + Copy, B: Allocator>(
         → TellsKeeping q (system_in admitted.now) keep tables.now.grown.now tables.now.staying.now
         → TellsWishes (system_in admitted.now) keep wished.now.windows.now
         → IsSettledDump q (unwished keep) admitted.now wished.now.plain.now
-        → IsSettledBy q keep admitted.now x.dump (map write_value x.writes.all.items)
+        → IsSettledByWrites q keep admitted.now x.dump (map write_value x.writes.all.items)
         x.writes.closings) }
 {
     let dump = settled_dump(alloc, admitted, lists, tables, wished.windows)?;

@@ -10,7 +10,7 @@ ghost use Rattle.pci_base.specs.WindowKinds.{kind_value, by_kind};
 ghost use Rattle.pci_image.specs.Windows.{window_of};
 ghost use Rattle.pci_tree.specs.Passes.{range_in};
 ghost use Rattle.pci_settle_places.specs.Shown.{HasRegister};
-ghost use Rattle.pci_grow.specs.RoomRows.{level, row_number};
+ghost use Rattle.pci_grow.specs.RoomRows.{bus_level, row_number};
 ghost use Rattle.pci_grow.specs.Located.{told_weight, located_total};
 ghost use Rattle.pci_settle.specs.Before.{window_before, windows_before, AreWindowsBefore, bar_before, rom_before, bar_weight, record_weight, AreOwnBefore, HaveRegisters};
 
@@ -134,7 +134,7 @@ fn add<A: Allocator>(
 ) -> Result<(), OutOfMemory>
     ensures { OnOk result ((roots : List ℕ) → (weight : DecodedRange → ℕ) → (n : ℕ)
         → located_total roots weight n parts.new.items ≡ located_total roots weight n parts.old.items
-        + told_weight weight (row_number (level roots bus) (space_of space)) n range) }
+        + told_weight weight (row_number (bus_level roots bus) (space_of space)) n range) }
 {
     if let Some(range) = range {
         parts.push(Located { bus, space, range })?;

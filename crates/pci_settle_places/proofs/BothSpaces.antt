@@ -8,7 +8,7 @@ use Rattle.std.proofs.lemmas.Option.{slice_get_within}
 use Rattle.pci_spec.specs.Window.{IoWindow, MemoryWindow, PrefetchWindow}
 use Rattle.pci_spec.specs.System.{System, Space, Io, Memory, Part, Bar, Rom, Window, space_of, window_space}
 use Rattle.settle_spec.specs.Lists.{Lists, Request}
-use Rattle.settle_spec.specs.Items.{Item as ItemValue, Placing, AllPlaced, Lacks}
+use Rattle.settle_spec.specs.Items.{PlacingItem as ItemValue, Placing, AllPlaced, Lacks}
 use Rattle.settle_spec.specs.Places.{first_lack}
 use Rattle.settle_spec.specs.Kept.{Kept}
 use Rattle.settle_spec.specs.Keeping.Places.{placing_on, lacking_on}
@@ -38,7 +38,7 @@ use Rattle.pci_kept.specs.Held.{AreHeld, AreHeldIn}
 use Rattle.pci_settle_places.specs.Staying.{IsStaying, setting}
 use Rattle.pci_settle_places.specs.Candidates.{candidate_value, HasWindowsIn, KnowsRequest, pass}
 use Rattle.pci_settle_places.specs.Places.{place_range_in}
-use Rattle.pci_settle_places.specs.Spaces.{HasNone, KeepsOtherSpace, space_lack, AreSpacePlacesIn}
+use Rattle.pci_settle_places.specs.Spaces.{HasNoPlaceInSpace, KeepsOtherSpace, space_lack, AreSpacePlacesIn}
 use Rattle.pci_settle_places.specs.Placed.{IsSpaceTooLarge, HasPlacesIn, IsUnplacedIn, AreAllNone, IsLeaving, CanBeLeft, ArePlacesOff, IsUnplacedOff}
 
 -- ---- what lacks a place
@@ -106,7 +106,7 @@ none_more old new none put =
     let all = All-append test old (none_at_all ∷ []) (λ k d low part. none k d part low) (All-cons test none_at_all [] none_in (All-nil test)) in
     subst AreAllNone (sym put) (λ k d part low. all k d low part)
 
-pub has_none : (s : System) (space : Space) (table : List Places) → length table ≡ length s → AreAllNone table → HasNone s space table
+pub has_none : (s : System) (space : Space) (table : List Places) → length table ≡ length s → AreAllNone table → HasNoPlaceInSpace s space table
 has_none s space table count none k f d part at there of = let inside = slice_get_within s k f at in none k d part (omega (arith, inside, count))
 
 -- ---- both spaces
@@ -119,7 +119,7 @@ not_both : (x : Space) → x ≡ Io → x ≡ Memory → ⊥
 not_both x one other = let same : Io ≡ Memory = sym one ∙ other in (let no : ⊥ = cc in no)
 
 -- what was noted of I/O says nothing of memory
-pub still_none : (s : System) (start table : List Places) → length start ≡ length s → AreAllNone start → KeepsOtherSpace s Io start table → HasNone s Memory table
+pub still_none : (s : System) (start table : List Places) → length start ≡ length s → AreAllNone start → KeepsOtherSpace s Io start table → HasNoPlaceInSpace s Memory table
 still_none s start table count none kept k f d part at there of =
     let inside = slice_get_within s k f at in
     kept.others k f d part at there (λ io. not_both (space_of f part) io of) ∙ none k d part (omega (arith, inside, count))

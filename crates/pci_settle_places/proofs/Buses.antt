@@ -13,7 +13,7 @@ use Rattle.plan_spec.specs.Place.{range_from}
 use Rattle.settle_spec.specs.Lists.{Lists, Request}
 use Rattle.settle_spec.specs.FirstPlace.{else_at}
 use Rattle.settle_spec.specs.Stands.{window_part}
-use Rattle.settle_spec.specs.Items.{Item as ItemValue, Placing, taken_by, place_each}
+use Rattle.settle_spec.specs.Items.{PlacingItem as ItemValue, Placing, taken_by, place_each}
 use Rattle.settle_spec.specs.Lines.{lines_behind}
 use Rattle.settle_spec.specs.Places.{placed_of}
 use Rattle.settle_spec.specs.Kept.{Kept}
@@ -42,7 +42,7 @@ use Rattle.pci_settle_places.specs.declared.staying.Staying.{Staying}
 use Rattle.pci_settle_places.specs.Candidates.{candidate_value, HasAddressAndAlignment, IsWithin, HasPart, HasSpaceWindows, KnowsWindows, AreCandidatesOf, pass}
 use Rattle.pci_settle_places.specs.Columns.{told_if, told_place, list_number, candidate_wanted, list_at, HasRootColumns}
 use Rattle.pci_settle_places.specs.BusPlaces.{bus_placing, AreInTable, AreToldEnding, place_beside, ArePlacesIn}
-use Rattle.pci_settle_places.specs.Taken.{AreTakenAt, AreBehindTo, AreBehindEach}
+use Rattle.pci_settle_places.specs.Taken.{AreTakenAt, AreNearBehindTo, AreNearBehindEach}
 use Rattle.pci_settle_places.specs.Spaces.{grown_by}
 use Rattle.pci_settle_places.proofs.Notes.{drop_none}
 use Rattle.pci_settle_places.proofs.Parts.{in_space}
@@ -99,7 +99,7 @@ module _ (roots : List ℕ) (s : System) (system : IsSystem s) (space : Space) (
               ends = are_ending q0 s k0 system space bus candidates here told grown wanted (wanted_own q0 k0 known.stay) places lack no_candidate (subst (λ xs. IfNone lack (AreEnding xs places (length xs))) ws_are ends);
             }
 
-        module _ (records : List Record) (has : HasRecords s (map record_value records)) (behind bs : List (List Range)) (bs_is : bs ≡ behind) (lists : List (List Range)) (vs : List Wanted) (vs_are : vs ≡ wanted) (behind_are : AreBehindEach records st.lines.now lists vs candidates behind) where
+        module _ (records : List Record) (has : HasRecords s (map record_value records)) (behind bs : List (List Range)) (bs_is : bs ≡ behind) (lists : List (List Range)) (vs : List Wanted) (vs_are : vs ≡ wanted) (behind_are : AreNearBehindEach records st.lines.now lists vs candidates behind) where
           pub places_in : (n : ℕ) → n ≡ cond (is_root rs bus) 0 (bus + 1) → All HasAddressAndAlignment candidates → (taken : List Range) → AreTakenAt st n space taken
               → ((find : ItemValue → List DecodedRange → Option ℕ) (items : List ItemValue) → AreWanted lists bs find items ws → place_each find (map decoded_range_of taken) items ≡ placing_of items places lack)
               → ArePlacesIn (pass roots s space t st w) bus lists grown (bus_placing s candidates final lack)
@@ -108,7 +108,7 @@ module _ (roots : List ℕ) (s : System) (system : IsSystem s) (space : Space) (
               let values = map (candidate_value s) candidates in
               let find = place_beside q s keep placed in
               let parts : All (HasPart s) candidates = are_parts q s keep system space bus candidates items in
-              let each = subst (λ ws. AreBehindTo q s lists ws candidates (length candidates) bs) vs_are (subst (AreBehindTo q s lists vs candidates (length candidates)) (sym bs_is) (behind_are q s has stay.lines_are parts)) in
+              let each = subst (λ ws. AreNearBehindTo q s lists ws candidates (length candidates) bs) vs_are (subst (AreNearBehindTo q s lists vs candidates (length candidates)) (sym bs_is) (behind_are q s has stay.lines_are parts)) in
               let want = subst (AreWanted lists bs find values) (sym ws_are) (are_wanted q s keep system space bus candidates items told grown wanted (wanted_own q keep stay) placed lists bs for lawful each no_candidate) in
               ap (λ ps. bus_placing s candidates ps lack) final_is
               ∙ sym (placing find values want)

@@ -15,7 +15,7 @@ use Rattle.pci_settle_places.specs.declared.places.Places.{Places}
 use Rattle.pci_settle_places.specs.declared.settled.Behind.{Behind}
 use Rattle.pci_settle_places.specs.Images.{HasPartPlaces}
 use Rattle.pci_settle_places.specs.Claims.{is_enabled_by}
-use Rattle.pci_settle_places.specs.Live.{is_live}
+use Rattle.settle_spec.specs.LiveLaws.{is_live}
 use Rattle.pci_settle_places.specs.Settled.{command_by, IsCommandTold}
 use Rattle.pci_settle_places.proofs.PlacedClaims.{enabled_is}
 

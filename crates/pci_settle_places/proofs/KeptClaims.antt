@@ -24,7 +24,7 @@ use Rattle.pci_function.specs.declared.record.Record.{Record}
 use Rattle.pci_place.specs.declared.above.Above.{Above}
 use Rattle.pci_place.specs.Above.{IsAbove}
 use Rattle.pci_place.specs.Classes.{is_io_kind}
-use Rattle.pci_place.specs.Records.{IsRecordOf}
+use Rattle.pci_place.specs.Records.{IsRecordInSystem}
 use Rattle.pci_place.proofs.ClassOf.{kind_io}
 use Rattle.pci_place.proofs.Parts.{bars_in, bars_of, rom_of, rom_there}
 use Rattle.pci_place.proofs.Owned.{no_rom, lacking_above}
@@ -106,7 +106,7 @@ own_order a b c io memory on =
 
 -- ---- of a record
 
-module _ (s : System) (f : Function) (r : Record) (is : IsRecordOf s f r) where
+module _ (s : System) (f : Function) (r : Record) (is : IsRecordInSystem s f r) where
   abbrev all : List ℕ
   all = range_with_len 0 (bar_count (layout f.image))
 
@@ -128,7 +128,7 @@ module _ (s : System) (f : Function) (r : Record) (is : IsRecordOf s f r) where
 pub bar_space : (f : Function) (space : Space) (bar : CodeBar) (n : ℕ) → decoded_bar_of bar ≡ decoded_bar f.image f.probe n → is_bar_in space bar ≡ are_same_space space (space_of f (Bar n))
 bar_space f space bar n e = space_by space bar (is_io (bar_at f.probe n)) (kind_io f bar n e)
 
-module _ (q : Request) (s : System) (f : Function) (r : Record) (is : IsRecordOf s f r) (above : Above) (over : IsAbove s f.slot.bus above) (t : Terms) (terms : AreTerms (demand_of q) t) where
+module _ (q : Request) (s : System) (f : Function) (r : Record) (is : IsRecordInSystem s f r) (above : Above) (over : IsAbove s f.slot.bus above) (t : Terms) (terms : AreTerms (demand_of q) t) where
   -- ---- what is left
 
   pub left_is : (bar : CodeBar) (n : ℕ) → decoded_bar_of bar ≡ decoded_bar f.image f.probe n → is_left_bar bar above t.has_io ≡ is_left q s f (Bar n)

@@ -15,7 +15,7 @@ use Rattle.plan_spec.proofs.Planning.Safe.{order_of}
 use Rattle.settle_spec.specs.Lists.{Request}
 use Rattle.judge_spec.specs.ToldRegion.{told_regions}
 use Rattle.settle_spec.specs.Registers.{is_answered_by, has_own}
-use Rattle.settle_spec.specs.LiveLaws.{has_live_behind}
+use Rattle.settle_spec.specs.LiveLaws.{has_live_behind, is_live}
 use Rattle.settle_spec.specs.Kept.{Kept}
 use Rattle.settle_spec.specs.Keeping.Registers.{is_enabled_in}
 use Rattle.settle_spec.proofs.Live.{live_by_bus}
@@ -26,7 +26,7 @@ use Rattle.pci_tree.proofs.Lifting.{same_bridge, same_slot_of}
 use Rattle.pci_tree.proofs.RegionParts.{same_bridge_of}
 use Rattle.pci_place.specs.declared.above.Above.{Above}
 use Rattle.pci_place.specs.Above.{AreAboves, IsAbove}
-use Rattle.pci_place.specs.Records.{IsRecordOf}
+use Rattle.pci_place.specs.Records.{IsRecordInSystem}
 use Rattle.pci_place.proofs.Records.{FunctionAt, same_count, function_at}
 use Rattle.pci_first_fit.proofs.NewWindows.{comes_later}
 use Rattle.pci_settle_places.specs.declared.places.Places.{Places}
@@ -34,7 +34,7 @@ use Rattle.pci_settle_places.specs.Images.{HasPartPlaces}
 use Rattle.pci_settle_places.specs.Claims.{has_kept}
 use Rattle.pci_settle_places.specs.declared.answering.Answering.{Answering}
 use Rattle.pci_settle_places.specs.Answers.{is_answering}
-use Rattle.pci_settle_places.specs.Live.{is_live, IsRequestOf, HasAllPlaces, AreLiveBuses, is_live_behind, has_own_by, is_live_by}
+use Rattle.pci_settle_places.specs.Live.{IsRequestOf, HasAllPlaces, AreLiveBuses, is_live_behind, has_own_by, is_live_by}
 use Rattle.pci_settle_places.proofs.AnsweringFunctions.{answering_is}
 use Rattle.pci_settle_places.proofs.KeptClaims.{kept_are}
 use Rattle.pci_settle_places.proofs.PlacedClaims.{enabled_is}
@@ -72,7 +72,7 @@ module _ (roots : List ℕ) (s : System) (system : IsSystem s) (nested : IsNeste
   live_all live from q keep bus of placed small = from.each q keep bus of placed small
 
   -- where the table has the buses of all functions after a bridge, it has the one behind the bridge
-  pub behind_is : (k : ℕ) (f : Function) (r : Record) → slice_get s k ≡ Some f → IsRecordOf s f r → (live : List Bool) → (q : Request) (keep : Kept)
+  pub behind_is : (k : ℕ) (f : Function) (r : Record) → slice_get s k ≡ Some f → IsRecordInSystem s f r → (live : List Bool) → (q : Request) (keep : Kept)
       → ((bus : ℕ) → bus < 256 → get_or live bus false ≡ list_any (on q keep bus) (drop (k + 1) s)) → is_live_behind live r.bridge ≡ has_live_behind s (is_live q s keep space) f
   behind_is k f r at is live q keep has = by r.bridge refl
     where
@@ -95,7 +95,7 @@ module _ (roots : List ℕ) (s : System) (system : IsSystem s) (nested : IsNeste
           ∙ sym (ap (λ x. x && list_any (on q keep (secondary f)) s) bridge)
 
   -- a function of the system, its record and its place in the table
-  module _ (k : ℕ) (f : Function) (r : Record) (at : slice_get s k ≡ Some f) (is : IsRecordOf s f r) (d : Places) (above : Above) (over : IsAbove s f.slot.bus above) (q : Request) (keep : Kept) (of : IsRequestOf q s roots answering) (placed : HasAllPlaces q s keep table) where
+  module _ (k : ℕ) (f : Function) (r : Record) (at : slice_get s k ≡ Some f) (is : IsRecordInSystem s f r) (d : Places) (above : Above) (over : IsAbove s f.slot.bus above) (q : Request) (keep : Kept) (of : IsRequestOf q s roots answering) (placed : HasAllPlaces q s keep table) where
     nested_for : IsNested q.roots s
     nested_for = subst (λ xs. IsNested xs s) (sym of.rooted) nested
 

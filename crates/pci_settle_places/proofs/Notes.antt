@@ -12,7 +12,7 @@ use Rattle.pci_spec.specs.System.{System, Function, Part, IsSystem, has_part}
 use Rattle.plan_spec.proofs.Planning.AllItems.{slots_rise}
 use Rattle.settle_spec.specs.Parts.{FunctionPart}
 use Rattle.settle_spec.specs.Stands.{rank}
-use Rattle.settle_spec.specs.Items.{Item as ItemValue, Placed}
+use Rattle.settle_spec.specs.Items.{PlacingItem as ItemValue, Placed}
 use Rattle.settle_spec.specs.Places.{place_among, first_lack}
 use Rattle.pci_base.specs.WindowKinds.{kind_value}
 use Rattle.pci_base.specs.declared.range.Range.{Range}

@@ -12,7 +12,7 @@ use Rattle.pci_spec.proofs.Regions.{register_of-lt, part_same}
 use Rattle.settle_spec.specs.Lists.{Request}
 use Rattle.settle_spec.specs.Parts.{new_class, is_in_memory, is_in_prefetch, prefetchable_class, class_in}
 use Rattle.settle_spec.specs.Stands.{rank, window_part}
-use Rattle.settle_spec.specs.Items.{Item, bus_items, new_window, own_item}
+use Rattle.settle_spec.specs.Items.{PlacingItem, bus_items, new_window, own_item}
 use Rattle.settle_spec.specs.Kept.{Kept}
 use Rattle.settle_spec.specs.Keeping.Places.{space_items}
 use Rattle.settle_spec.proofs.ItemsOn.{IsBeside, IsPlacedPart, IsOpened, each_on}
@@ -44,10 +44,10 @@ module _ (q : Request) (s : System) (f : Function) where
   class_space (Window kind) = refl
 
 -- what holds of each part that can be an item holds of the items of a bus in a space
-pub each_in : (q : Request) (s : System) (keep : Kept) (space : Space) (bus : ℕ) (P : Item → Type 0)
+pub each_in : (q : Request) (s : System) (keep : Kept) (space : Space) (bus : ℕ) (P : PlacingItem → Type 0)
     → ((c : WindowKind) → window_space c ≡ space → (f : Function) → IsBeside q s bus f → (p : Part) → IsPlacedPart q s c keep.stays f p → P (own_item c record { function = f; part = p }))
     → ((c : WindowKind) → window_space c ≡ space → (f : Function) → IsBeside q s bus f → IsOpened q s c keep.stays f → P record { region = window_part c f; class = c; extent = new_window q s c f })
-    → (i : Item) → Contains (space_items q s keep space bus) i → P i
+    → (i : PlacingItem) → Contains (space_items q s keep space bus) i → P i
 each_in q s keep Io bus P own new i listed = each_on q s IoWindow keep.stays (new_window q s IoWindow) bus P (own IoWindow refl) (new IoWindow refl) i listed
 each_in q s keep Memory bus P own new i listed =
     elim (Contains-append_cases (bus_items q s MemoryWindow keep.stays (new_window q s MemoryWindow) bus) (bus_items q s PrefetchWindow keep.stays (new_window q s PrefetchWindow) bus) i listed) [
@@ -56,11 +56,11 @@ each_in q s keep Memory bus P own new i listed =
     ]
 
 -- an item is a part of its function, of a space
-pub record IsReal (space : Space) (i : Item) : Type 0 where
+pub record IsReal (space : Space) (i : PlacingItem) : Type 0 where
   pub there : has_part i.region.function i.region.part ≡ true
   pub of_space : space_of i.region.function i.region.part ≡ space
 
-pub real_in : (q : Request) (s : System) (keep : Kept) (space : Space) (bus : ℕ) (i : Item) → Contains (space_items q s keep space bus) i → IsReal space i
+pub real_in : (q : Request) (s : System) (keep : Kept) (space : Space) (bus : ℕ) (i : PlacingItem) → Contains (space_items q s keep space bus) i → IsReal space i
 real_in q s keep space bus = each_in q s keep space bus (IsReal space)
     (λ c of f on p is. record {
       there = header_has f p is.there is.plain;
@@ -69,7 +69,7 @@ real_in q s keep space bus = each_in q s keep space bus (IsReal space)
     (λ c of f on is. record { there = is.bridge; of_space = of })
 
 -- and its class is of that space
-pub in_space : (q : Request) (s : System) (keep : Kept) (space : Space) (bus : ℕ) (i : Item) → Contains (space_items q s keep space bus) i → window_space i.class ≡ space
+pub in_space : (q : Request) (s : System) (keep : Kept) (space : Space) (bus : ℕ) (i : PlacingItem) → Contains (space_items q s keep space bus) i → window_space i.class ≡ space
 in_space q s keep space bus = each_in q s keep space bus (λ i. window_space i.class ≡ space) (λ c of f on p is. of) (λ c of f on is. of)
 
 -- ---- a slot and a register name one part

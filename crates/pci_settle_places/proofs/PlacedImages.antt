@@ -25,7 +25,8 @@ use Rattle.settle_spec.specs.Stands.{window_part}
 use Rattle.settle_spec.specs.Items.{Placed}
 use Rattle.settle_spec.specs.Kept.{Kept, range_or}
 use Rattle.settle_spec.specs.Keeping.Places.{new_place}
-use Rattle.settle_spec.specs.Registers.{with_number, with_bounds, with_place, closed_if_open}
+use Rattle.settle_spec.specs.Registers.{with_place, closed_if_open}
+use Rattle.judge_spec.specs.Windows.{with_number, with_bounds}
 use Rattle.settle_spec.specs.Keeping.Registers.{is_same_range, with_kept, shown, with_wish, settled_image}
 use Rattle.pci_image.specs.declared.bar.Bar.{Bar as CodeBar}
 use Rattle.pci_image.specs.Bars.{decoded_kind_of, decoded_bar_of}
@@ -42,8 +43,8 @@ use Rattle.pci_base.specs.Ranges.{decoded_range_of}
 use Rattle.pci_settle_places.specs.declared.places.Places.{Places}
 use Rattle.pci_settle_places.specs.Places.{place_range_in, placed_at}
 use Rattle.pci_first_fit.specs.Keeping.{told_of_kind}
-use Rattle.pci_settle_places.specs.Shown.{nibble, with_bar, with_closed, has_range, with_grown, with_window, with_optional, with_room, with_wished}
-use Rattle.pci_settle_places.specs.Images.{where_placed, with_placed_bar, with_bars, with_bridge, with_placed_rom, with_parts, is_window_kept, HasPartPlaces, HasPlacesAndWindows}
+use Rattle.pci_settle_places.specs.Shown.{nibble, with_bar, with_closed, window_has_range, with_grown, with_window_placed, with_optional, with_room, with_wished}
+use Rattle.pci_settle_places.specs.Images.{where_placed, with_placed_bar, with_bars, with_bridge_windows, with_placed_rom, with_parts, is_staying_window, HasPartPlaces, HasPlacesAndWindows}
 use Rattle.pci_settle_places.proofs.PlacedParts.{placed_is_part}
 
 -- ---- folds
@@ -266,7 +267,7 @@ module _ (q : Request) (s : System) (keep : Kept) (f : Function) (r : Record) (i
         by (Some x) some =
             let range : keep.range (window_part c f) ≡ decoded_range_of x = placed.ranges c there stays ∙ ap (λ o. range_or (option_map decoded_range_of o) own) some in
             ap (λ o. with_grown c w o im) some
-            ∙ ap (λ o. cond (has_range o x) im (with_bounds c (bounds_for c (nibble w.wide) x.first x.last) im)) (range_is (placed.opened c there stays))
+            ∙ ap (λ o. cond (window_has_range o x) im (with_bounds c (bounds_for c (nibble w.wide) x.first x.last) im)) (range_is (placed.opened c there stays))
             ∙ sym (ap (λ x. cond (is_same_range x own) im (with_bounds c (bounds_for c (nibble w.wide) x.first x.last) im)) range)
 
     none_is : (b : Bool) → keep.stays (window_part c f) ≡ b → (im : List ℕ) → cond b (with_grown c w (told c) im) (with_closed c w im) ≡ cond b (with_kept keep (window_part c f) im) (closed_if_open f (Window c) im)
@@ -280,23 +281,23 @@ module _ (q : Request) (s : System) (keep : Kept) (f : Function) (r : Record) (i
         elim o as (λ o. with_room c o w im ≡ with_wish (window_part c f) (option_map decoded_range_of o) im) [ None ↦ refl | Some x ↦ refl ] in
         each (told_of_kind wished c) ∙ sym (ap (λ o. with_wish (window_part c f) o im) (placed.wishes c))
 
-    window_on : (im : List ℕ) → with_room c (told_of_kind wished c) w (with_window c (is_window_kept kept c) (told c) w (place_range_in p (Window c)) im) ≡ step_if im (Window c)
+    window_on : (im : List ℕ) → with_room c (told_of_kind wished c) w (with_window_placed c (is_staying_window kept c) (told c) w (place_range_in p (Window c)) im) ≡ step_if im (Window c)
     window_on im =
-        let each : (o : Option Placed) → with_window c (is_window_kept kept c) (told c) w (placed_at o) im ≡ shown keep (region (Window c)) o im = λ o.
-        elim o as (λ o. with_window c (is_window_kept kept c) (told c) w (placed_at o) im ≡ shown keep (region (Window c)) o im) [
+        let each : (o : Option Placed) → with_window_placed c (is_staying_window kept c) (told c) w (placed_at o) im ≡ shown keep (region (Window c)) o im = λ o.
+        elim o as (λ o. with_window_placed c (is_staying_window kept c) (told c) w (placed_at o) im ≡ shown keep (region (Window c)) o im) [
           | None ↦
               ap (λ b. cond b (with_grown c w (told c) im) (with_closed c w im)) (placed.windows c there)
               ∙ none_is (keep.stays (window_part c f)) refl im
           | Some x ↦ refl
         ] in
-        ap (λ o. with_room c (told_of_kind wished c) w (with_window c (is_window_kept kept c) (told c) w o im)) (has.each (Window c) there)
+        ap (λ o. with_room c (told_of_kind wished c) w (with_window_placed c (is_staying_window kept c) (told c) w o im)) (has.each (Window c) there)
         ∙ ap (with_room c (told_of_kind wished c) w) (each (place (Window c)))
         ∙ room_is (shown keep (region (Window c)) (place (Window c)) im)
         ∙ sym (ap (λ b. cond b (step im (Window c)) im) (window_changes (is_bridge f) (has_window c f.probe) (is_closed c f.image) ∙ on))
 
   -- a window of a class at its place, and with what is wished of it
   abbrev with_both : (c : WindowKind) → Option decoded.DecodedWindow → List ℕ → List ℕ
-  with_both c o im = with_wished c (told_of_kind wished c) o (with_optional c (is_window_kept kept c) (told c) o (place_range_in p (Window c)) im)
+  with_both c o im = with_wished c (told_of_kind wished c) o (with_optional c (is_staying_window kept c) (told c) o (place_range_in p (Window c)) im)
 
   optional_is : (c : WindowKind) → is_bridge f ≡ true → (im : List ℕ) → with_both c (optional_window c f.image f.probe) im ≡ step_if im (Window c)
   optional_is c bridge im = elim (cases_Bool (has_window c f.probe)) [
@@ -311,7 +312,7 @@ module _ (q : Request) (s : System) (keep : Kept) (f : Function) (r : Record) (i
   abbrev windows_step : List ℕ → List ℕ
   windows_step im = step_if (step_if (step_if im (Window IoWindow)) (Window MemoryWindow)) (Window PrefetchWindow)
 
-  windows_are : (o : Option Bridge) → r.bridge ≡ o → (im : List ℕ) → with_bridge p kept grown wished o im ≡ windows_step im
+  windows_are : (o : Option Bridge) → r.bridge ≡ o → (im : List ℕ) → with_bridge_windows p kept grown wished o im ≡ windows_step im
   windows_are None e im =
       let off : is_bridge f ≡ false = sym (same_bridge r f has.is.value) ∙ ap is_some e in
       let none : (c : WindowKind) → is_implemented f (Window c) ≡ false = λ c. ap (λ b. b && has_window c f.probe) off in
@@ -344,7 +345,7 @@ module _ (q : Request) (s : System) (keep : Kept) (f : Function) (r : Record) (i
 
   same_parts : with_parts f.image p kept grown wished r ≡ settled_image q s keep f
   same_parts =
-      rom_is (with_bridge p kept grown wished r.bridge (with_bars f.image p r.bars.items f.image))
+      rom_is (with_bridge_windows p kept grown wished r.bridge (with_bars f.image p r.bars.items f.image))
       ∙ ap (λ im. step_if im Rom) (windows_are r.bridge refl (with_bars f.image p r.bars.items f.image))
       ∙ ap (λ im. step_if (windows_step im) Rom) bars_are
       ∙ sym (fold-append step_if f.image (header_bars f) others)

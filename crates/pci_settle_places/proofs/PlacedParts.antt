@@ -9,7 +9,7 @@ use Rattle.pci_spec.proofs.Members.{in_head, in_tail}
 use Rattle.settle_spec.specs.Lists.{Request}
 use Rattle.settle_spec.specs.Parts.{FunctionPart, is_part}
 use Rattle.settle_spec.specs.Stands.{rank}
-use Rattle.settle_spec.specs.Items.{Item, Placed}
+use Rattle.settle_spec.specs.Items.{PlacingItem, Placed}
 use Rattle.settle_spec.specs.Places.{placed_of}
 use Rattle.settle_spec.specs.Kept.{Kept}
 use Rattle.settle_spec.specs.Keeping.Places.{space_items, placing_on, new_place}
@@ -31,10 +31,10 @@ find_gives test (y ∷ xs) x e = elim (cases_Bool (test y)) [
 ]
 
 -- an item is a part, or a window
-abbrev IsOfPart : Request → System → Item → Type 0
+abbrev IsOfPart : Request → System → PlacingItem → Type 0
 IsOfPart q s i = is_window i.region.part ≡ false → is_part q s i.region.function i.region.part ≡ true
 
-part_in : (q : Request) (s : System) (keep : Kept) (space : Space) (bus : ℕ) (i : Item) → Contains (space_items q s keep space bus) i → IsOfPart q s i
+part_in : (q : Request) (s : System) (keep : Kept) (space : Space) (bus : ℕ) (i : PlacingItem) → Contains (space_items q s keep space bus) i → IsOfPart q s i
 part_in q s keep space bus = each_in q s keep space bus (IsOfPart q s) (λ c of f on p is plain. is.part) (λ c of f on is plain. absurd (both_ways true plain refl))
 
 module _ (q : Request) (s : System) (keep : Kept) (system : IsSystem s) (nested : IsNested q.roots s) (f : Function) (listed : Contains s f) (low : f.slot.bus < 256) where

@@ -13,7 +13,7 @@ use Rattle.plan_spec.proofs.Planning.Behind.{any_gives, any_from}
 use Rattle.plan_spec.proofs.Planning.Safe.{order_of}
 use Rattle.settle_spec.specs.Lists.{Request}
 use Rattle.settle_spec.specs.Stands.{rank}
-use Rattle.settle_spec.specs.Items.{Item, Placed, Placing, AllPlaced, Lacks, and_placed, place_next, taken_by, place_each}
+use Rattle.settle_spec.specs.Items.{PlacingItem, Placed, Placing, AllPlaced, Lacks, and_placed, place_next, taken_by, place_each}
 use Rattle.settle_spec.specs.Places.{placed_of, place_among}
 use Rattle.settle_spec.specs.Kept.{Kept}
 use Rattle.settle_spec.specs.Keeping.Places.{space_items, taken_at, placing_on}
@@ -26,19 +26,19 @@ use Rattle.pci_settle_places.proofs.Parts.{rank_one, real_in}
 
 -- ---- what is placed are the items
 
-placed_if : (i : Item) (a : ℕ) (items : List Item) (rest : Placing) → ((p : Placed) → Contains (placed_of rest) p → Contains items p.item) → (p : Placed) → Contains (placed_of (and_placed i a rest)) p → Contains (i ∷ items) p.item
+placed_if : (i : PlacingItem) (a : ℕ) (items : List PlacingItem) (rest : Placing) → ((p : Placed) → Contains (placed_of rest) p → Contains items p.item) → (p : Placed) → Contains (placed_of (and_placed i a rest)) p → Contains (i ∷ items) p.item
 placed_if i a items (AllPlaced placed) of p listed = elim (in_cons_cases (record { item = i; at = a }) placed p listed) [
   | inl here ↦ subst (λ j. Contains (i ∷ items) j) (ap (λ (x : Placed). x.item) here) (in_head i items)
   | inr later ↦ in_tail i items p.item (of p later)
 ]
 placed_if i a items (Lacks j) of p listed = absurd (in_nil p listed)
 
-placed_next : (i : Item) (o : Option ℕ) (items : List Item) (rest : ℕ → Placing) → ((a : ℕ) (p : Placed) → Contains (placed_of (rest a)) p → Contains items p.item)
+placed_next : (i : PlacingItem) (o : Option ℕ) (items : List PlacingItem) (rest : ℕ → Placing) → ((a : ℕ) (p : Placed) → Contains (placed_of (rest a)) p → Contains items p.item)
     → (p : Placed) → Contains (placed_of (place_next i o rest)) p → Contains (i ∷ items) p.item
 placed_next i None items rest of p listed = absurd (in_nil p listed)
 placed_next i (Some a) items rest of p listed = placed_if i a items (rest a) (of a) p listed
 
-placed_in : (find : Item → List Range → Option ℕ) (taken : List Range) (items : List Item) (p : Placed) → Contains (placed_of (place_each find taken items)) p → Contains items p.item
+placed_in : (find : PlacingItem → List Range → Option ℕ) (taken : List Range) (items : List PlacingItem) (p : Placed) → Contains (placed_of (place_each find taken items)) p → Contains items p.item
 placed_in find taken [] p listed = absurd (in_nil p listed)
 placed_in find taken (i ∷ items) p listed =
     placed_next i (find i taken) items (λ a. place_each find (taken_by i a ∷ taken) items) (λ a q. placed_in find (taken_by i a ∷ taken) items q) p listed

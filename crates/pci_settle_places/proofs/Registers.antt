@@ -12,7 +12,7 @@ use Rattle.pci_spec.proofs.Members.{IsMade, in_filter_to, in_map_to, in_map_from
 use Rattle.pci_image.specs.Bars.{decoded_bar_of}
 use Rattle.pci_function.specs.declared.record.Record.{Record}
 use Rattle.pci_function.specs.Values.{record_value}
-use Rattle.pci_place.specs.Records.{IsRecordOf}
+use Rattle.pci_place.specs.Records.{IsRecordInSystem}
 use Rattle.pci_place.proofs.Records.{FunctionAt, function_at}
 use Rattle.pci_place.proofs.Parts.{bars_in, bars_of}
 use Rattle.pci_settle_places.specs.Shown.{HasRegister}
@@ -21,7 +21,7 @@ few_by : (b : Bool) → (if b then 2 else 6) ≤ 6
 few_by true = omega arith
 few_by false = omega arith
 
-pub have_registers : (s : System) (f : Function) (r : Record) → IsRecordOf s f r → All HasRegister r.bars.items
+pub have_registers : (s : System) (f : Function) (r : Record) → IsRecordInSystem s f r → All HasRegister r.bars.items
 have_registers s f r is k d less =
     let bar = get_or r.bars.items k d in
     let all = range_with_len 0 (bar_count (layout f.image)) in

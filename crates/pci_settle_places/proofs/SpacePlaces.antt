@@ -16,7 +16,7 @@ use Rattle.settle_spec.specs.FirstPlace.{is_high, else_at, first_place}
 use Rattle.settle_spec.specs.Lists.{Request}
 use Rattle.settle_spec.specs.Parts.{addresses, bridge_over}
 use Rattle.settle_spec.specs.Stands.{window_part}
-use Rattle.settle_spec.specs.Items.{Item as ItemValue, Placed}
+use Rattle.settle_spec.specs.Items.{PlacingItem as ItemValue, Placed}
 use Rattle.settle_spec.specs.Places.{placed_of, place_among, placed_range, root_ranges, first_lack}
 use Rattle.settle_spec.specs.Kept.{Kept}
 use Rattle.settle_spec.specs.Keeping.Places.{space_items, place_behind, placing_on, new_place}
@@ -32,7 +32,7 @@ use Rattle.pci_image.specs.Windows.{window_of}
 use Rattle.pci_function.specs.declared.record.Bridge.{Bridge}
 use Rattle.pci_function.specs.declared.record.Record.{Record}
 use Rattle.pci_tree.specs.Passes as passes
-use Rattle.pci_place.specs.Records.{IsRecordOf}
+use Rattle.pci_place.specs.Records.{IsRecordInSystem}
 use Rattle.pci_place.specs.Items.{no_function}
 use Rattle.pci_first_fit.specs.declared.kept.Kept.{Kept as CodeKept}
 use Rattle.pci_first_fit.specs.declared.over.Left.{Left}
@@ -45,10 +45,10 @@ use Rattle.pci_kept.proofs.OfRecord.{window_is}
 use Rattle.pci_settle_places.specs.declared.places.Places.{Places}
 use Rattle.pci_settle_places.specs.declared.candidate.Candidate.{Candidate}
 use Rattle.pci_settle_places.specs.Candidates.{candidate_value}
-use Rattle.pci_settle_places.specs.Columns.{kind_number, told_if, told_place, list_at, AreListsFor, range_list}
+use Rattle.pci_settle_places.specs.Columns.{kind_number, told_if, told_place, list_at, AreListsFor, window_range_list}
 use Rattle.pci_settle_places.specs.Windows.{unless_grown, window_range_at, plain_of, prefetch_of, range_alone}
 use Rattle.pci_settle_places.specs.Places.{place_range_in, placed_at, or_kept, NotesOf}
-use Rattle.pci_settle_places.specs.Spaces.{HasWindowsOver, HasNone, KeepsOtherSpace, HasNewPlaces, space_lack}
+use Rattle.pci_settle_places.specs.Spaces.{HasWindowsOver, HasNoPlaceInSpace, KeepsOtherSpace, HasNewPlaces, space_lack}
 use Rattle.pci_settle_places.proofs.Notes.{region}
 use Rattle.pci_settle_places.proofs.Parts.{in_space}
 use Rattle.pci_settle_places.proofs.Told.{kind_told, grown_is, told_alone}
@@ -61,13 +61,13 @@ list_placed : (o : Option Placed) → range_alone (option_map decoded_range_of (
 list_placed None = refl
 list_placed (Some p) = refl
 
-pub list_alone : (o : Option Range) → map decoded_range_of (range_list o) ≡ range_alone (option_map decoded_range_of o)
+pub list_alone : (o : Option Range) → map decoded_range_of (window_range_list o) ≡ range_alone (option_map decoded_range_of o)
 list_alone None = refl
 list_alone (Some r) = refl
 
 -- three lists of the windows of a bridge
 abbrev pub window_lists : Option Range → Option Range → List (List Range)
-window_lists plain prefetch = range_list plain ∷ (range_list plain ∷ (range_list prefetch ∷ []))
+window_lists plain prefetch = window_range_list plain ∷ (window_range_list plain ∷ (window_range_list prefetch ∷ []))
 
 list_by_class : (space : Space) (plain prefetch : Option Range) (windows : WindowKind → Option DecodedRange) → option_map decoded_range_of plain ≡ plain_of space windows → option_map decoded_range_of prefetch ≡ prefetch_of space windows
     → (c : WindowKind) (wide : Bool) → window_space c ≡ space → list_at (window_lists plain prefetch) (kind_number c wide) ≡ range_alone (windows c)
@@ -129,7 +129,7 @@ module _ (q : Request) (s : System) (keep : Kept) (system : IsSystem s) (nested 
 
   -- ---- the roots
 
-  pub placed_roots : (root : ℕ) → root < 256 → is_root q.roots root ≡ true → (old new : List Places) → HasNone s space old → NotesOf s (placed_of (placing_on q s keep space root)) old new → IsPlacedTo q s keep space 0 new
+  pub placed_roots : (root : ℕ) → root < 256 → is_root q.roots root ≡ true → (old new : List Places) → HasNoPlaceInSpace s space old → NotesOf s (placed_of (placing_on q s keep space root)) old new → IsPlacedTo q s keep space 0 new
   placed_roots root low is_one old new none noted = record {
     each = λ k f d part at there of. elim (cases_Bool (is_root q.roots f.slot.bus)) [
       | inl on ↦
@@ -149,7 +149,7 @@ module _ (q : Request) (s : System) (keep : Kept) (system : IsSystem s) (nested 
     ];
   }
 
-  pub placed_nowhere : q.roots ≡ [] → (table : List Places) → HasNone s space table → IsPlacedTo q s keep space 0 table
+  pub placed_nowhere : q.roots ≡ [] → (table : List Places) → HasNoPlaceInSpace s space table → IsPlacedTo q s keep space 0 table
   placed_nowhere empty table none = record {
     each = λ k f d part at there of.
         none k f d part at there of
@@ -179,7 +179,7 @@ module _ (q : Request) (s : System) (keep : Kept) (system : IsSystem s) (nested 
       no_root = false_from_ne_true (is_root q.roots (secondary g)) (is_no_root q.roots s system nested g (secondary g) listed_g bridge (at_secondary q.roots s system nested g (secondary g) listed_g bridge refl))
 
       -- its windows are those over the bus behind it: each where it stays, or at its place in the table
-      module _ (r : Record) (b : Bridge) (is : IsRecordOf s g r) (there : r.bridge ≡ Some b) (left : Left) (tells : TellsKept q s keep left) (table : List Places) (was : IsPlacedTo q s keep space n table) (d : Places) where
+      module _ (r : Record) (b : Bridge) (is : IsRecordInSystem s g r) (there : r.bridge ≡ Some b) (left : Left) (tells : TellsKept q s keep left) (table : List Places) (was : IsPlacedTo q s keep space n table) (d : Places) where
         abbrev own : CodeKept
         own = get_or left.kept.now n nothing_kept
 

@@ -41,11 +41,11 @@ use Rattle.pci_settle_places.specs.declared.staying.Staying.{Staying}
 use Rattle.pci_settle_places.specs.declared.places.Places.{Places}
 use Rattle.pci_settle_places.specs.Candidates.{candidate_value, HasSpaceWindows, HasWindowsIn, KnowsWindows, KnowsRequest, pass}
 use Rattle.pci_settle_places.specs.Staying.{IsStaying, setting}
-use Rattle.pci_settle_places.specs.Columns.{range_list}
+use Rattle.pci_settle_places.specs.Columns.{window_range_list}
 use Rattle.pci_settle_places.specs.Windows.{unless_grown, window_range_at, plain_of, prefetch_of}
 use Rattle.pci_settle_places.specs.BusPlaces.{AreToldEnding, place_beside, ArePlacesIn}
 use Rattle.pci_settle_places.specs.Places.{place_range_in, NotesOf}
-use Rattle.pci_settle_places.specs.Spaces.{HasWindowsOver, grown_by, windows_by, AreNotedFor, AreNotedOnRoots, AreNotedBehind, HasNone, KeepsOtherSpace, AreSpacePlaces, space_lack}
+use Rattle.pci_settle_places.specs.Spaces.{HasWindowsOver, grown_by, windows_by, AreNotedFor, AreNotedOnRoots, AreNotedBehind, HasNoPlaceInSpace, KeepsOtherSpace, AreSpacePlaces, space_lack}
 use Rattle.pci_settle_places.proofs.Buses.{behind_ending}
 use Rattle.pci_settle_places.proofs.SpacePlaces.{window_lists_for, IsPlacedTo, placed_roots, placed_nowhere, placed_same, no_root, windows_over, placed_more, placed_all, others_kept, others_same, others_more, lack_same}
 
@@ -100,7 +100,7 @@ three_are a b c x y z e f g = ap (λ u. u ∷ (b ∷ (c ∷ []))) e ∙ ap (λ u
 pub behind_noted : (roots : List ℕ) (s : System) (space : Space) (t : Terms) (st : Staying) (w : SpaceWindows) (b : Bridge) → is_root roots b.secondary ≡ false → (k : ℕ) (old new : List Places) → k < length old → (e : Places)
     → (own : CodeKept) → ((part : Part) → kept_of own part ≡ kept_of (get_or st.left.kept.now k nothing_kept) part) → (grown : ByKind (Option Range)) → grown ≡ grown_by st k
     → (plain prefetch : Option Range) → option_map decoded_range_of plain ≡ plain_of space (window_range_at own grown b (get_or old k e)) → option_map decoded_range_of prefetch ≡ prefetch_of space (window_range_at own grown b (get_or old k e))
-    → (lists : List (List Range)) → lists ≡ range_list plain ∷ (range_list plain ∷ (range_list prefetch ∷ []))
+    → (lists : List (List Range)) → lists ≡ window_range_list plain ∷ (window_range_list plain ∷ (window_range_list prefetch ∷ []))
     → (placing : Placing) → ArePlacesIn (pass roots s space t st w) b.secondary lists grown placing → (IsSystem s → NotesOf s (placed_of placing) old new) → AreNotedBehind (pass roots s space t st w) k b old new
 behind_noted roots s space t st w b off k old new within e own own_is grown grown_is plain prefetch plain_is prefetch_is lists lists_are placing are noted q keep placed d system stay has over =
     let p = get_or old k e in
@@ -151,7 +151,7 @@ module _ (roots : List ℕ) (s : System) (system : IsSystem s) (nested : IsNeste
       let noted = are q1 k1 known.stay known.lists (windows q1 k1 known.stay) in
       others_kept q1 s k1 system (nested_for q1 k1 known.stay) space root noted.small old new size noted.noted
 
-  pub roots_placed : (old new : List Places) → length old ≡ length s → length new ≡ length old → HasNone s space old → AreNotedOnRoots (pass roots s space t st w) l old new None
+  pub roots_placed : (old new : List Places) → length old ≡ length s → length new ≡ length old → HasNoPlaceInSpace s space old → AreNotedOnRoots (pass roots s space t st w) l old new None
       → IsSpaceTo roots s space l t st w 0 old new
   roots_placed old new count size none are = record {
     count = size ∙ count;

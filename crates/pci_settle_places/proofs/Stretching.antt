@@ -11,7 +11,7 @@ use Rattle.pci_base.specs.declared.range.Range.{Range}
 use Rattle.pci_base.specs.Ranges.{decoded_range_of}
 use Rattle.pci_base.specs.Space.{space_of}
 use Rattle.pci_first_fit.specs.declared.lines.Line.{Line}
-use Rattle.pci_first_fit.specs.Lines.{line_range}
+use Rattle.pci_first_fit.specs.Lines.{line_code_range}
 use Rattle.pci_settle_places.specs.declared.stretch.Stretch.{Stretch}
 use Rattle.pci_settle_places.specs.declared.stretch.Sought.{Sought}
 use Rattle.pci_settle_places.specs.Stretches.{IsCoveredBy, IsStretch, AreStretches, is_row_behind, IsElsewhere, IsFar, AreSought}
@@ -116,22 +116,22 @@ module _ (w : Sought) (stretches : List Stretch) where
         let same : k ≡ n = omega (arith, past, low) in
         ap (λ m. get_or stretches m d) same ∙ sym (is ∙ get_or_default stretches n s d within)
 
-    pub found_add : (old new : List Range) → AreFoundTo w stretches n old → new ≡ old ++ map line_range (filter (is_row_behind w) s.rows.now) → AreFoundTo w stretches (n + 1) new
+    pub found_add : (old new : List Range) → AreFoundTo w stretches n old → new ≡ old ++ map line_code_range (filter (is_row_behind w) s.rows.now) → AreFoundTo w stretches (n + 1) new
     found_add old new was put = record {
-      of = λ t listed. elim (Contains-append_cases old (map line_range (filter (is_row_behind w) s.rows.now)) t (subst (λ xs. Contains xs t) put listed)) [
+      of = λ t listed. elim (Contains-append_cases old (map line_code_range (filter (is_row_behind w) s.rows.now)) t (subst (λ xs. Contains xs t) put listed)) [
         | inl before ↦ was.of t before
         | inr later ↦
-            let made : IsMade line_range (filter (is_row_behind w) s.rows.now) t = in_map_to line_range (filter (is_row_behind w) s.rows.now) t later in
+            let made : IsMade line_code_range (filter (is_row_behind w) s.rows.now) t = in_map_to line_code_range (filter (is_row_behind w) s.rows.now) t later in
             let passed = in_filter_to (is_row_behind w) s.rows.now made.from made.has in
             (made.from, (s, subst (Contains stretches) (sym is) (Contains-get_or stretches n s within), passed.0), passed.1, made.is)
       ];
       near = λ k d low l has covered behind. elim (cases_lt k n) [
         | inl less ↦ elim (was.near k d less l has covered behind) [
-          | inl there ↦ inl (subst (λ xs. Contains xs l.range) (sym put) (Contains-append_left old (map line_range (filter (is_row_behind w) s.rows.now)) l.range there))
+          | inl there ↦ inl (subst (λ xs. Contains xs l.range) (sym put) (Contains-append_left old (map line_code_range (filter (is_row_behind w) s.rows.now)) l.range there))
           | inr far ↦ inr far
         ]
-        | inr past ↦ inl (subst (λ xs. Contains xs l.range) (sym put) (Contains-append_right old (map line_range (filter (is_row_behind w) s.rows.now)) l.range
-            (in_map_from line_range (filter (is_row_behind w) s.rows.now) l (in_filter_from (is_row_behind w) s.rows.now l (subst (λ (x : Stretch). Contains x.rows.now l) (at_last k d past low) has) behind))))
+        | inr past ↦ inl (subst (λ xs. Contains xs l.range) (sym put) (Contains-append_right old (map line_code_range (filter (is_row_behind w) s.rows.now)) l.range
+            (in_map_from line_code_range (filter (is_row_behind w) s.rows.now) l (in_filter_from (is_row_behind w) s.rows.now l (subst (λ (x : Stretch). Contains x.rows.now l) (at_last k d past low) has) behind))))
       ];
     }
 

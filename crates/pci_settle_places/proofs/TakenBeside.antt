@@ -48,12 +48,12 @@ use Rattle.pci_settle_places.specs.declared.staying.Staying.{Staying}
 use Rattle.pci_settle_places.specs.Candidates.{candidate_value}
 use Rattle.pci_settle_places.specs.declared.stretch.Sought.{Sought}
 use Rattle.pci_settle_places.specs.Stretches.{AreSought}
-use Rattle.pci_settle_places.specs.Taken.{AreListed, AreTakenAt, AreNearListed, AreBehindOne, AreBehindTo}
+use Rattle.pci_settle_places.specs.Taken.{AreRangesListed, AreTakenAt, AreNearListed, AreBehindOne, AreNearBehindTo}
 use Rattle.pci_settle_places.proofs.BehindRows.{near_behind}
 
 -- ---- the same ranges
 
-pub same_listed : (ranges : List DecodedRange) (listed : List Range) → AreListed ranges listed → HaveSame (map decoded_range_of listed) ranges
+pub same_listed : (ranges : List DecodedRange) (listed : List Range) → AreRangesListed ranges listed → HaveSame (map decoded_range_of listed) ranges
 same_listed ranges listed are = record { to = are.to; back = are.back }
 
 pub same_after : (before xs ys : List DecodedRange) → HaveSame xs ys → HaveSame (before ++ xs) (before ++ ys)
@@ -196,13 +196,13 @@ module _ (records : List Record) (lines : List Line) (ranges : List Range) (clas
 -- ---- behind one item after another
 
 module _ (q : Request) (s : System) (lists : List (List Range)) (wanted : List Wanted) (candidates : List Candidate) where
-  pub behind_none : (lines : List Line) → lines ≡ [] → AreLines q.roots q.told.ranges lines → (n : ℕ) (behind : List (List Range)) → behind ≡ [] → AreBehindTo q s lists wanted candidates n behind
+  pub behind_none : (lines : List Line) → lines ≡ [] → AreLines q.roots q.told.ranges lines → (n : ℕ) (behind : List (List Range)) → behind ≡ [] → AreNearBehindTo q s lists wanted candidates n behind
   behind_none lines none are n behind empty k d w low =
       none_near (get_or lists (get_or wanted k w).list []) (lines_behind q (candidate_value s (get_or candidates k d)).region) (get_or behind k [])
       (none_behind q lines are none (candidate_value s (get_or candidates k d)).region) (ap (λ xs. get_or xs k []) empty)
 
-  pub behind_more : (n : ℕ) (old new : List (List Range)) → length old ≡ n → AreBehindTo q s lists wanted candidates n old → n < length candidates → n < length wanted → (c : Candidate) (v : Wanted) (b : List Range) → new ≡ old ++ b ∷ []
-      → AreNearListed (get_or lists (get_or wanted n v).list []) (lines_behind q (candidate_value s (get_or candidates n c)).region) b → AreBehindTo q s lists wanted candidates (n + 1) new
+  pub behind_more : (n : ℕ) (old new : List (List Range)) → length old ≡ n → AreNearBehindTo q s lists wanted candidates n old → n < length candidates → n < length wanted → (c : Candidate) (v : Wanted) (b : List Range) → new ≡ old ++ b ∷ []
+      → AreNearListed (get_or lists (get_or wanted n v).list []) (lines_behind q (candidate_value s (get_or candidates n c)).region) b → AreNearBehindTo q s lists wanted candidates (n + 1) new
   behind_more n old new long was within inside c v b put is k d w low = elim (cases_lt k n) [
     | inl less ↦
         subst (λ xs. AreNearListed (get_or lists (get_or wanted k w).list []) (lines_behind q (candidate_value s (get_or candidates k d)).region) xs)

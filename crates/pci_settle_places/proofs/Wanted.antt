@@ -16,7 +16,7 @@ use Rattle.plan_spec.specs.Place.{range_from}
 use Rattle.plan_spec.proofs.Planning.Safe.{slots_of}
 use Rattle.settle_spec.specs.FirstPlace.{is_high, else_at, first_place}
 use Rattle.settle_spec.specs.Lists.{Request}
-use Rattle.settle_spec.specs.Items.{Item as ItemValue, Placed}
+use Rattle.settle_spec.specs.Items.{PlacingItem as ItemValue, Placed}
 use Rattle.settle_spec.specs.Lines.{lines_behind}
 use Rattle.settle_spec.specs.Kept.{Kept}
 use Rattle.settle_spec.specs.Keeping.Places.{space_items}
@@ -41,7 +41,7 @@ use Rattle.pci_settle_places.specs.Candidates.{candidate_value, HasAddressAndAli
 use Rattle.pci_settle_places.specs.Columns.{kind_number, column, list_number, told_place, candidate_wanted, list_at, AreListsFor}
 use Rattle.pci_settle_places.specs.Places.{AreEndingAt}
 use Rattle.pci_settle_places.specs.BusPlaces.{place_beside}
-use Rattle.pci_settle_places.specs.Taken.{AreNearListed, AreBehindTo}
+use Rattle.pci_settle_places.specs.Taken.{AreNearListed, AreNearBehindTo}
 use Rattle.pci_settle_places.proofs.BehindRows.{same_place}
 use Rattle.pci_settle_places.proofs.Parts.{real_in}
 
@@ -136,7 +136,7 @@ module _ (q : Request) (s : System) (keep : Kept) (system : IsSystem s) (space :
           ends = ending (get_or candidates k d) (listed_at k d within);
         })
 
-    pub are_wanted : (placed : ℕ → List Placed) (lists behind : List (List Range)) → AreListsFor q s keep space placed bus lists places grown → All HasAddressAndAlignment candidates → AreBehindTo q s lists wanted candidates (length candidates) behind
+    pub are_wanted : (placed : ℕ → List Placed) (lists behind : List (List Range)) → AreListsFor q s keep space placed bus lists places grown → All HasAddressAndAlignment candidates → AreNearBehindTo q s lists wanted candidates (length candidates) behind
         → (d : Candidate) → AreWanted lists behind (place_beside q s keep placed) (map (candidate_value s) candidates) wanted
     are_wanted placed lists behind for lawful are d = record {
       count = length-map candidates (candidate_value s) ∙ sym count_is;

@@ -5,7 +5,7 @@ use Rattle.pci_spec.specs.Decoded.{Range as DecodedRange}
 use Rattle.pci_spec.specs.System.{System}
 use Rattle.plan_spec.specs.Place.{range_from}
 use Rattle.settle_spec.specs.Lists.{Request}
-use Rattle.settle_spec.specs.Items.{Item, Placed, Placing, place_each}
+use Rattle.settle_spec.specs.Items.{PlacingItem, Placed, Placing, place_each}
 use Rattle.settle_spec.specs.Lines.{taken_for}
 use Rattle.settle_spec.specs.Kept.{Kept}
 use Rattle.settle_spec.specs.Keeping.Places.{space_items, taken_at, place_of_item}
@@ -41,7 +41,7 @@ AreToldEnding p bus grown =
     (λ a. (range_from a c.item.extent.size).last < 2 ^ 64)
 
 -- the place of an item beside what is taken on its bus: a new window is off what lines hold behind it, too
-abbrev pub place_beside : Request → System → Kept → (ℕ → List Placed) → Item → List DecodedRange → Option ℕ
+abbrev pub place_beside : Request → System → Kept → (ℕ → List Placed) → PlacingItem → List DecodedRange → Option ℕ
 place_beside q s keep placed i taken = place_of_item q s keep placed i (taken_for q i.region taken)
 
 -- they are those that are told, or in some lists of ranges, whatever is told of places on other buses

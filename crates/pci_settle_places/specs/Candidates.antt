@@ -3,7 +3,7 @@ use Rattle.std.specs.Prelude.{◌≡◌, ℕ, ◌<◌, IsTrue, List, ◌++◌, m
 use Rattle.pci_spec.specs.Window.{WindowKind, IoWindow, MemoryWindow, PrefetchWindow}
 use Rattle.pci_spec.specs.System.{System, Space, Io, Memory, has_part}
 use Rattle.settle_spec.specs.Lists.{Lists, Request}
-use Rattle.settle_spec.specs.Items.{Item as ItemValue, bus_items, new_window}
+use Rattle.settle_spec.specs.Items.{PlacingItem as ItemValue, bus_items, new_window}
 use Rattle.settle_spec.specs.Kept.{Kept}
 use Rattle.settle_spec.specs.Keeping.Places.{space_items}
 use Rattle.pci_base.specs.declared.window_kind.WindowKind.{WindowKind as Class}
@@ -21,7 +21,7 @@ use Rattle.pci_settle_places.specs.declared.candidate.Candidate.{Candidate}
 use Rattle.pci_settle_places.specs.declared.candidate.SpaceWindows.{SpaceWindows}
 use Rattle.pci_settle_places.specs.declared.staying.Staying.{Staying}
 use Rattle.pci_settle_places.specs.declared.setting.Pass as declared
-use Rattle.pci_settle_places.specs.Staying.{Setting, setting, setting_of, setting_value, IsStaying}
+use Rattle.pci_settle_places.specs.Staying.{PlaceSetting, setting, place_setting_of, place_setting_value, IsStaying}
 
 abbrev pub of_class : Class → Item → Candidate
 of_class class i = record { class = class; item = i }
@@ -45,7 +45,7 @@ HasPart s c =
 -- ---- of a class
 
 -- to some items those of a bus in a class are added, in turn
-abbrev pub AreAddedOf : Setting → WindowKind → List (Option Extent) → ℕ → List Candidate → List Candidate → Type 0
+abbrev pub AreAddedOf : PlaceSetting → WindowKind → List (Option Extent) → ℕ → List Candidate → List Candidate → Type 0
 AreAddedOf p c windows bus old new =
     (q : Request) (keep : Kept) → IsStaying q keep p → HasNewWindows q p.system c p.terms windows
     → map (candidate_value p.system) new
@@ -54,10 +54,10 @@ AreAddedOf p c windows bus old new =
 
 -- ---- of a space
 
-abbrev pub windows_of : WindowKind → SpaceWindows → List (Option Extent)
-windows_of IoWindow w = w.plain
-windows_of MemoryWindow w = w.plain
-windows_of PrefetchWindow w = w.prefetch
+abbrev pub windows_of_kind : WindowKind → SpaceWindows → List (Option Extent)
+windows_of_kind IoWindow w = w.plain
+windows_of_kind MemoryWindow w = w.plain
+windows_of_kind PrefetchWindow w = w.prefetch
 
 pub record AreSpaceWindows (w : SpaceWindows) : Type 0 where
   pub plain : AreWindows w.plain
@@ -71,7 +71,7 @@ HasSpaceWindows q s Memory t w =
 
 -- what the places of a space are found by: the new windows of its classes too
 pub record Pass : Type 0 where
-  pub setting : Setting
+  pub setting : PlaceSetting
   pub space : Space
   pub windows : SpaceWindows
 
@@ -79,11 +79,11 @@ abbrev pub pass : List ℕ → System → Space → Terms → Staying → SpaceW
 pass roots s space t st w = record { setting = setting roots s t st; space = space; windows = w }
 
 abbrev pub pass_of : Admission → Space → Terms → Staying → SpaceWindows → Pass
-pass_of a space t st w = record { setting = setting_of a t st; space = space; windows = w }
+pass_of a space t st w = record { setting = place_setting_of a t st; space = space; windows = w }
 
 abbrev pub pass_value : {B : Type 0} → declared.Pass B → Pass
 pass_value p = record {
-  setting = setting_value p.setting.now;
+  setting = place_setting_value p.setting.now;
   space = space_of p.space;
   windows = p.windows.now;
 }
@@ -104,7 +104,7 @@ pub record KnowsWindows (p : Pass) : Type 0 where
   pub has : HasAskedWindows request p
 
 -- something can be asked for in these lists of which this stays
-pub record KnowsRequest (p : Setting) (l : Lists) : Type 0 where
+pub record KnowsRequest (p : PlaceSetting) (l : Lists) : Type 0 where
   pub request : Request
   pub keep : Kept
   pub stay : IsStaying request keep p

@@ -8,7 +8,7 @@ use Rattle.pci_spec.specs.System.{System, Space, Io, Memory}
 use Rattle.pci_spec.specs.Bus.{is_root}
 use Rattle.settle_spec.specs.FirstPlace.{is_high, else_at, first_place}
 use Rattle.settle_spec.specs.Lists.{RootRange, Lists, Request, is_had_by}
-use Rattle.settle_spec.specs.Items.{Item as ItemValue, Placed}
+use Rattle.settle_spec.specs.Items.{PlacingItem as ItemValue, Placed}
 use Rattle.settle_spec.specs.Kept.{Kept}
 use Rattle.settle_spec.specs.Keeping.Places.{space_items, place_of_item}
 use Rattle.pci_base.specs.declared.range.Range.{Range}
@@ -96,6 +96,6 @@ pub record HasRootColumns (roots : List ℕ) (l : Lists) (space : Space) (count 
 
 -- ---- of a window
 
-abbrev pub range_list : Option Range → List Range
-range_list None = []
-range_list (Some r) = r ∷ []
+abbrev pub window_range_list : Option Range → List Range
+window_range_list None = []
+window_range_list (Some r) = r ∷ []

@@ -21,7 +21,7 @@ use Rattle.pci_image.specs.declared.bar.Bar.{Bar as CodeBar}
 use Rattle.pci_image.specs.declared.window.Windows.{Windows}
 use Rattle.pci_function.specs.declared.record.Bridge.{Bridge}
 use Rattle.pci_function.specs.declared.record.Record.{Record}
-use Rattle.pci_place.specs.Records.{IsRecordOf}
+use Rattle.pci_place.specs.Records.{IsRecordInSystem}
 use Rattle.pci_first_fit.specs.Keeping.{told_of_kind}
 use Rattle.pci_settle_places.specs.declared.places.Places.{Places}
 use Rattle.pci_settle_places.specs.Places.{place_range_in, placed_at}
@@ -51,9 +51,9 @@ with_windows p kept grown wished w image =
     (with_wished IoWindow wished.io w.io
     (with_optional IoWindow kept.io grown.io w.io p.windows.io image)))))
 
-abbrev pub with_bridge : Places → ByKind Bool → ByKind (Option Range) → ByKind (Option Range) → Option Bridge → List ℕ → List ℕ
-with_bridge p kept grown wished None image = image
-with_bridge p kept grown wished (Some b) image = with_windows p kept grown wished b.windows image
+abbrev pub with_bridge_windows : Places → ByKind Bool → ByKind (Option Range) → ByKind (Option Range) → Option Bridge → List ℕ → List ℕ
+with_bridge_windows p kept grown wished None image = image
+with_bridge_windows p kept grown wished (Some b) image = with_windows p kept grown wished b.windows image
 
 abbrev pub with_placed_rom : List ℕ → Places → ℕ → List ℕ → List ℕ
 with_placed_rom old p register image =
@@ -63,7 +63,7 @@ with_placed_rom old p register image =
 abbrev pub with_parts : List ℕ → Places → ByKind Bool → ByKind (Option Range) → ByKind (Option Range) → Record → List ℕ
 with_parts old p kept grown wished r =
     with_placed_rom old p (rom_place (is_some r.bridge))
-    (with_bridge p kept grown wished r.bridge (with_bars old p r.bars.items old))
+    (with_bridge_windows p kept grown wished r.bridge (with_bars old p r.bars.items old))
 
 -- ---- by the definitions
 
@@ -72,22 +72,22 @@ pub record HasPartPlaces (q : Request) (s : System) (keep : Kept) (f : Function)
     (p : Places) : Type 0 where
   pub system : IsSystem s
   pub nested : IsNested q.roots s
-  pub is : IsRecordOf s f r
+  pub is : IsRecordInSystem s f r
   pub each : (part : Part) → IsTrue (has_part f part)
       → place_range_in p part ≡ placed_at (new_place q s keep record { function = f; part = part })
 
 -- whether the window of a kind is one of those that stay
-abbrev pub is_window_kept : ByKind Bool → WindowKind → Bool
-is_window_kept kept IoWindow = kept.io
-is_window_kept kept MemoryWindow = kept.memory
-is_window_kept kept PrefetchWindow = kept.prefetchable
+abbrev pub is_staying_window : ByKind Bool → WindowKind → Bool
+is_staying_window kept IoWindow = kept.io
+is_staying_window kept MemoryWindow = kept.memory
+is_staying_window kept PrefetchWindow = kept.prefetchable
 
 -- and the windows that stay: to what they grow; and the addresses of those in which room is kept free
 pub record HasPlacesAndWindows (q : Request) (s : System) (keep : Kept) (f : Function) (r : Record)
     (p : Places) (kept : ByKind Bool) (grown wished : ByKind (Option Range)) : Type 0 where
   pub places : HasPartPlaces q s keep f r p
   pub windows : (c : WindowKind) → IsTrue (has_part f (Window c))
-      → is_window_kept kept c ≡ keep.stays (window_part c f)
+      → is_staying_window kept c ≡ keep.stays (window_part c f)
   pub opened : (c : WindowKind) → IsTrue (has_part f (Window c))
       → IsTrue (keep.stays (window_part c f)) → IsTrue (is_open f c)
   pub ranges : (c : WindowKind) → IsTrue (has_part f (Window c))

@@ -5,7 +5,6 @@ use Rattle.pci_spec.specs.System.{System, Function, Space, Part, has_part}
 use Rattle.settle_spec.specs.Lists.{Request}
 use Rattle.settle_spec.specs.Kept.{Kept}
 use Rattle.settle_spec.specs.Keeping.Places.{new_place}
-use Rattle.settle_spec.specs.Keeping.Registers.{is_live_within}
 use Rattle.pci_function.specs.declared.record.Bridge.{Bridge}
 use Rattle.pci_function.specs.declared.record.Record.{Record}
 use Rattle.pci_place.specs.declared.above.Above.{Above}
@@ -16,10 +15,7 @@ use Rattle.pci_settle_places.specs.Places.{place_range_in, placed_at}
 use Rattle.pci_settle_places.specs.declared.answering.Answering.{Answering}
 use Rattle.pci_settle_places.specs.Answers.{is_answering, AreFlagsOfTold}
 use Rattle.pci_settle_places.specs.Claims.{has_kept, is_enabled_by}
-
--- a function is live in a space, wherever it stands
-abbrev pub is_live : Request → System → Kept → Space → Function → Bool
-is_live q s keep space f = is_live_within q s keep space 256 f
+use Rattle.settle_spec.specs.LiveLaws.{is_live}
 
 -- a function on a bus is live
 abbrev pub is_live_on : Request → System → Kept → Space → ℕ → Bool

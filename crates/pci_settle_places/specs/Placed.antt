@@ -17,25 +17,25 @@ use Rattle.pci_first_fit.specs.NewWindows.{HasNewWindows, IsTooLarge}
 use Rattle.pci_settle_places.specs.declared.places.Places.{Places}
 use Rattle.pci_settle_places.specs.declared.anew.Unplaced.{Unplaced}
 use Rattle.pci_settle_places.specs.declared.anew.Unplaced.TheVariants as unplaced
-use Rattle.pci_settle_places.specs.Staying.{Setting, IsStaying}
+use Rattle.pci_settle_places.specs.Staying.{PlaceSetting, IsStaying}
 use Rattle.pci_settle_places.specs.Candidates.{candidate_value}
 use Rattle.pci_settle_places.specs.Places.{place_range_in, placed_at}
 use Rattle.pci_settle_places.specs.Spaces.{HasNewPlaces, space_lack}
 
 -- ---- windows
 
-abbrev pub HasClassWindows : Setting → WindowKind → List (Option Extent) → Type 0
+abbrev pub HasClassWindows : PlaceSetting → WindowKind → List (Option Extent) → Type 0
 HasClassWindows p c windows =
     (q : Request) (keep : Kept) → IsStaying q keep p → HasNewWindows q p.system c p.terms windows
 
 -- a new window of a class is too large, or there was no memory
-abbrev pub IsClassTooLarge : Setting → WindowKind → Refused Unplaced → Type 0
+abbrev pub IsClassTooLarge : PlaceSetting → WindowKind → Refused Unplaced → Type 0
 IsClassTooLarge p c refused.Memory = ⊤
 IsClassTooLarge p c (refused.Fault (unplaced.Lacks x)) = ⊥
 IsClassTooLarge p c (refused.Fault (unplaced.TooLarge class k)) =
     (kind_value class ≡ c) × ((q : Request) (keep : Kept) → IsStaying q keep p → IsTooLarge q p.system c k)
 
-abbrev pub IsSpaceTooLarge : Setting → Space → Refused Unplaced → Type 0
+abbrev pub IsSpaceTooLarge : PlaceSetting → Space → Refused Unplaced → Type 0
 IsSpaceTooLarge p space refused.Memory = ⊤
 IsSpaceTooLarge p space (refused.Fault (unplaced.Lacks x)) = ⊥
 IsSpaceTooLarge p space (refused.Fault (unplaced.TooLarge class k)) =
@@ -50,12 +50,12 @@ pub record IsSpacePlaced (q : Request) (s : System) (keep : Kept) (space : Space
   pub lack : space_lack q s keep space q.roots ≡ None
   pub places : HasNewPlaces q s keep space table
 
-abbrev pub HasPlacesIn : Setting → Space → Lists → List Places → Type 0
+abbrev pub HasPlacesIn : PlaceSetting → Space → Lists → List Places → Type 0
 HasPlacesIn p space l table =
     (q : Request) (keep : Kept) → IsStaying q keep p → q.lists ≡ l → IsSpacePlaced q p.system keep space table
 
 -- an item on the roots is the first that lacks a place, or a new window is too large, or there was no memory
-abbrev pub IsUnplacedIn : Setting → Space → Lists → Refused Unplaced → Type 0
+abbrev pub IsUnplacedIn : PlaceSetting → Space → Lists → Refused Unplaced → Type 0
 IsUnplacedIn p space l refused.Memory = ⊤
 IsUnplacedIn p space l (refused.Fault (unplaced.Lacks x)) =
     (q : Request) (keep : Kept) → IsStaying q keep p → q.lists ≡ l

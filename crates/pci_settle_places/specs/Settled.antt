@@ -3,7 +3,7 @@ use Rattle.std.specs.Prelude.{◌≡◌, ℕ, ◌+◌, Bool, if◌then◌else◌
 use Rattle.pci_spec.specs.Machine.{without_low}
 use Rattle.pci_spec.specs.System.{System, Function, Io, Memory}
 use Rattle.settle_spec.specs.Lists.{Request}
-use Rattle.settle_spec.specs.LiveLaws.{has_live_behind}
+use Rattle.settle_spec.specs.LiveLaws.{has_live_behind, is_live}
 use Rattle.settle_spec.specs.Kept.{Kept}
 use Rattle.pci_function.specs.declared.record.Record.{Record}
 use Rattle.pci_place.specs.declared.above.Above.{Above}
@@ -14,7 +14,6 @@ use Rattle.pci_first_fit.specs.Own.{AreTerms}
 use Rattle.pci_settle_places.specs.declared.places.Places.{Places}
 use Rattle.pci_settle_places.specs.declared.settled.Behind.{Behind}
 use Rattle.pci_settle_places.specs.Claims.{is_enabled_by}
-use Rattle.pci_settle_places.specs.Live.{is_live}
 
 -- Command, where something live in I/O or memory is behind the function or not
 abbrev pub command_by : Places → Above → Terms → Record → Bool → Bool → ℕ

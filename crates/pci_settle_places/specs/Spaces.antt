@@ -9,7 +9,7 @@ use Rattle.pci_spec.specs.Decoded.{Range as DecodedRange}
 use Rattle.settle_spec.specs.Lists.{Lists, Request}
 use Rattle.settle_spec.specs.Parts.{bridge_over}
 use Rattle.settle_spec.specs.FirstPlace.{else_at, first_place}
-use Rattle.settle_spec.specs.Items.{Item as ItemValue, Placed, place_each}
+use Rattle.settle_spec.specs.Items.{PlacingItem as ItemValue, Placed, place_each}
 use Rattle.settle_spec.specs.Places.{placed_of, first_lack}
 use Rattle.settle_spec.specs.Kept.{Kept}
 use Rattle.settle_spec.specs.Keeping.Places.{space_items, taken_at, place_behind, placing_on, new_place}
@@ -90,8 +90,8 @@ AreNotedBehind p k b old new =
 -- ---- of all buses
 
 -- no part of a space has a place
-abbrev pub HasNone : System → Space → List Places → Type 0
-HasNone s space table =
+abbrev pub HasNoPlaceInSpace : System → Space → List Places → Type 0
+HasNoPlaceInSpace s space table =
     (k : ℕ) (f : Function) (d : Places) (part : Part) → slice_get s k ≡ Some f
     → IsTrue (has_part f part) → space_of f part ≡ space
     → place_range_in (slice_index_or table k d) part ≡ None

@@ -4,7 +4,7 @@ ghost use Rattle.std.specs.List.{All};
 ghost use Rattle.pci_first_fit.specs.Placings.{HasListAt};
 ghost use Rattle.pci_settle_places.specs.Candidates.{IsWithin};
 ghost use Rattle.pci_settle_places.specs.Stretches.{AreStretches};
-ghost use Rattle.pci_settle_places.specs.Taken.{AreBehindOne, AreBehindEach};
+ghost use Rattle.pci_settle_places.specs.Taken.{AreBehindOne, AreNearBehindEach};
 
 use crate::candidate::Candidate;
 use crate::staying::Staying;
@@ -71,7 +71,7 @@ pub fn behind_each<A: Allocator + Copy>(
     // each names its list by index
     requires wanted { All (HasListAt (length asked.now.lists.now)) asked.now.wanted.now }
     requires count { length asked.now.wanted.now ≡ length candidates.now }
-    ensures { IfOk result (λ behind. AreBehindEach records.now staying.now.lines.now
+    ensures { IfOk result (λ behind. AreNearBehindEach records.now staying.now.lines.now
         (map (λ list. list.items) asked.now.lists.now) asked.now.wanted.now candidates.now
         (map (λ list. list.items) behind.items)) }
 {

@@ -4,8 +4,8 @@ ghost use Rattle.std.specs.List.{All};
 ghost use Rattle.pci_base.specs.WindowKinds.{kind_value};
 ghost use Rattle.pci_place.specs.Above.{AreAboves, system_in};
 ghost use Rattle.pci_first_fit.specs.Buses.{AreWindows};
-ghost use Rattle.pci_settle_places.specs.Candidates.{of_class, HasAddressAndAlignment, AreAddedOf, AreSpaceWindows, AreCandidatesOf, windows_of, pass_value};
-ghost use Rattle.pci_settle_places.specs.Staying.{setting_value};
+ghost use Rattle.pci_settle_places.specs.Candidates.{of_class, HasAddressAndAlignment, AreAddedOf, AreSpaceWindows, AreCandidatesOf, windows_of_kind, pass_value};
+ghost use Rattle.pci_settle_places.specs.Staying.{place_setting_value};
 
 use crate::setting::Pass;
 use pci_base::memory::OutOfMemory;
@@ -37,7 +37,7 @@ pub struct SpaceWindows {
 impl SpaceWindows {
     /// Those of a class.
     fn of(&self, class: WindowKind) -> &[Option<Extent>; BUSES]
-        ensures { result.now ≡ windows_of (kind_value class) self.now }
+        ensures { result.now ≡ windows_of_kind (kind_value class) self.now }
     {
         match class {
             WindowKind::Io | WindowKind::Memory => &self.plain,
@@ -71,10 +71,10 @@ fn add_class<A: Allocator + Copy, B: Allocator>(
 ) -> Result<(), OutOfMemory>
     requires { AreAboves (system_in pass.now.setting.now.admitted.now)
         pass.now.setting.now.aboves.now }
-    ensures added { OnOk result (AreAddedOf (setting_value pass.now.setting.now) (kind_value class)
-        (windows_of (kind_value class) pass.now.windows.now) bus
+    ensures added { OnOk result (AreAddedOf (place_setting_value pass.now.setting.now) (kind_value class)
+        (windows_of_kind (kind_value class) pass.now.windows.now) bus
         candidates.old.items candidates.new.items) }
-    ensures lawful { AreWindows (windows_of (kind_value class) pass.now.windows.now)
+    ensures lawful { AreWindows (windows_of_kind (kind_value class) pass.now.windows.now)
         → All HasAddressAndAlignment candidates.old.items
         → OnOk result (All HasAddressAndAlignment candidates.new.items) }
 {

@@ -6,7 +6,7 @@ ghost use Rattle.pci_base.specs.Space.{space_of};
 ghost use Rattle.pci_base.specs.Ranges.{decoded_range_of};
 ghost use Rattle.pci_first_fit.specs.Lists.{lists_value, root_range_value};
 ghost use Rattle.pci_tree.specs.Roots.{buses_of};
-ghost use Rattle.pci_settle_places.specs.Columns.{had, AreColumn, range_list, HasRootColumns};
+ghost use Rattle.pci_settle_places.specs.Columns.{had, AreColumn, window_range_list, HasRootColumns};
 
 use pci_base::memory::OutOfMemory;
 use pci_base::range::{Range, RootRange};
@@ -90,7 +90,7 @@ pub fn column_of<A: Allocator + Copy>(
 
 /// A list of one range, or of none.
 fn range_list<A: Allocator>(alloc: A, range: Option<Range>) -> Result<Vec<Range, A>, OutOfMemory>
-    ensures { IfOk result (λ list. list.items ≡ range_list range) }
+    ensures { IfOk result (λ list. list.items ≡ window_range_list range) }
 {
     let mut list = Vec::new(alloc);
     if let Some(range) = range {
@@ -105,9 +105,9 @@ pub fn column_behind<A: Allocator + Copy>(
     plain: Option<Range>,
     prefetch: Option<Range>,
 ) -> Result<Column<A>, OutOfMemory>
-    ensures plain { IfOk result (λ column. column.plain.items ≡ range_list plain) }
-    ensures wide { IfOk result (λ column. column.wide.items ≡ range_list plain) }
-    ensures prefetch { IfOk result (λ column. column.prefetch.items ≡ range_list prefetch) }
+    ensures plain { IfOk result (λ column. column.plain.items ≡ window_range_list plain) }
+    ensures wide { IfOk result (λ column. column.wide.items ≡ window_range_list plain) }
+    ensures prefetch { IfOk result (λ column. column.prefetch.items ≡ window_range_list prefetch) }
 {
     let narrow = range_list(alloc, plain)?;
     let wide = range_list(alloc, plain)?;

@@ -11,9 +11,9 @@ ghost use Rattle.pci_settle_places.specs.Candidates.{AreSpaceWindows, HasWindows
 ghost use Rattle.pci_kept.specs.Held.{AreByLevel};
 ghost use Rattle.pci_first_fit.specs.Lines.{AreLineRows};
 ghost use Rattle.pci_settle_places.specs.Stretches.{AreStretches};
-ghost use Rattle.pci_settle_places.specs.Spaces.{HasNone, KeepsOtherSpace};
+ghost use Rattle.pci_settle_places.specs.Spaces.{HasNoPlaceInSpace, KeepsOtherSpace};
 ghost use Rattle.pci_settle_places.specs.Placed.{HasClassWindows, IsClassTooLarge, IsSpaceTooLarge, IsUnplacedIn, HasPlacesIn, AreAllNone, CanBeLeft, ArePlacesOff, IsUnplacedOff};
-ghost use Rattle.pci_settle_places.specs.Staying.{setting_value};
+ghost use Rattle.pci_settle_places.specs.Staying.{place_setting_value};
 
 use crate::anew::Unplaced;
 use crate::candidate::SpaceWindows;
@@ -46,10 +46,10 @@ fn class_windows<A: Allocator + Copy, B: Allocator>(
     windows: &mut [Option<Extent>; BUSES],
 ) -> Result<(), Refused<Unplaced>>
     requires { AreAboves (system_in setting.now.admitted.now) setting.now.aboves.now }
-    ensures windows { OnOk result (HasClassWindows (setting_value setting.now)
+    ensures windows { OnOk result (HasClassWindows (place_setting_value setting.now)
         (kind_value class) windows.new) }
     ensures lawful { AreWindows windows.new }
-    ensures fault { IfErr result (IsClassTooLarge (setting_value setting.now)
+    ensures fault { IfErr result (IsClassTooLarge (place_setting_value setting.now)
         (kind_value class)) }
 {
     let classing = Classing {
@@ -72,12 +72,12 @@ fn space_windows<A: Allocator + Copy, B: Allocator>(
 ) -> Result<SpaceWindows, Refused<Unplaced>>
     requires { AreAboves (system_in setting.now.admitted.now) setting.now.aboves.now }
     ensures windows { IfOk result (λ windows. HasWindowsIn record {
-      setting = setting_value setting.now;
+      setting = place_setting_value setting.now;
       space = space_of space;
       windows = windows;
     }) }
     ensures lawful { IfOk result AreSpaceWindows }
-    ensures fault { IfErr result (IsSpaceTooLarge (setting_value setting.now)
+    ensures fault { IfErr result (IsSpaceTooLarge (place_setting_value setting.now)
         (space_of space)) }
 {
     let mut plain = [None; BUSES];
@@ -107,14 +107,14 @@ fn place_in<A: Allocator + Copy, B: Allocator>(
     requires held { AreByLevel setting.now.staying.held.now }
     requires lines { AreLineRows setting.now.staying.lines.now }
     requires stretches { AreStretches setting.now.staying.lines.now setting.now.staying.stretches.now }
-    requires known { KnowsRequest (setting_value setting.now) (lists_value lists.now) }
+    requires known { KnowsRequest (place_setting_value setting.now) (lists_value lists.now) }
     requires count { length table.old ≡ length (system_in setting.now.admitted.now) }
-    requires none { HasNone (system_in setting.now.admitted.now) (space_of space) table.old }
-    ensures placed { OnOk result (HasPlacesIn (setting_value setting.now)
+    requires none { HasNoPlaceInSpace (system_in setting.now.admitted.now) (space_of space) table.old }
+    ensures placed { OnOk result (HasPlacesIn (place_setting_value setting.now)
         (space_of space) (lists_value lists.now) table.new) }
     ensures others { OnOk result (KeepsOtherSpace (system_in setting.now.admitted.now) (space_of space)
         table.old table.new) }
-    ensures fault { IfErr result (IsUnplacedIn (setting_value setting.now)
+    ensures fault { IfErr result (IsUnplacedIn (place_setting_value setting.now)
         (space_of space) (lists_value lists.now)) }
 {
     let windows = space_windows(alloc, setting, space)?;

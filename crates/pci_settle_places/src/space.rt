@@ -12,8 +12,8 @@ ghost use Rattle.pci_first_fit.specs.Lines.{AreLineRows};
 ghost use Rattle.pci_settle_places.specs.Stretches.{AreStretches};
 ghost use Rattle.pci_settle_places.specs.Candidates.{AreSpaceWindows, HasWindowsIn, KnowsWindows, KnowsRequest, pass_value};
 ghost use Rattle.pci_settle_places.specs.BusPlaces.{AreToldEnding};
-ghost use Rattle.pci_settle_places.specs.Spaces.{grown_by, IsFirstRoot, AreNotedOnRoots, AreNotedBehind, HasNone, KeepsOtherSpace, AreSpacePlacesIn};
-ghost use Rattle.pci_settle_places.specs.Staying.{setting_value};
+ghost use Rattle.pci_settle_places.specs.Spaces.{grown_by, IsFirstRoot, AreNotedOnRoots, AreNotedBehind, HasNoPlaceInSpace, KeepsOtherSpace, AreSpacePlacesIn};
+ghost use Rattle.pci_settle_places.specs.Staying.{place_setting_value};
 
 use crate::bus::place_bus;
 use crate::candidate::Candidate;
@@ -146,11 +146,11 @@ pub fn place_space<A: Allocator + Copy, B: Allocator>(
     // a new window is as large as what is behind it, which is worked out before
     requires windows { HasWindowsIn (pass_value pass.now) }
     // what stays is worked out before, for the same lists
-    requires known { KnowsRequest (setting_value pass.now.setting.now) (lists_value lists.now) }
+    requires known { KnowsRequest (place_setting_value pass.now.setting.now) (lists_value lists.now) }
     // a function's places stand where its record does
     requires count { length table.old ≡ length (system_in pass.now.setting.now.admitted.now) }
     // what isn't placed keeps its entry, which is none
-    requires none { HasNone (system_in pass.now.setting.now.admitted.now) (space_of pass.now.space)
+    requires none { HasNoPlaceInSpace (system_in pass.now.setting.now.admitted.now) (space_of pass.now.space)
         table.old }
     ensures placed { IfOk result (AreSpacePlacesIn (pass_value pass.now)
         (lists_value lists.now) table.new) }

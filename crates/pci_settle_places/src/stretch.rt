@@ -3,7 +3,7 @@
 ghost use Rattle.std.specs.Prelude.{◌≡◌, ◌++◌, ◌⊎◌, List, IfOk, OnOk, IsFalse, map};
 ghost use Rattle.std.specs.List.{All, filter};
 ghost use Rattle.pci_base.specs.Ranges.{decoded_range_of};
-ghost use Rattle.pci_first_fit.specs.Lines.{line_range};
+ghost use Rattle.pci_first_fit.specs.Lines.{line_code_range};
 ghost use Rattle.pci_settle_places.specs.Stretches.{IsCoveredBy, AreStretches, is_row_behind, IsElsewhere, IsFar, AreSought};
 
 use pci_base::memory::OutOfMemory;
@@ -118,7 +118,7 @@ fn add_rows<A: Allocator>(
     sought: &Sought,
 ) -> Result<(), OutOfMemory>
     ensures { OnOk result (out.new.items
-        ≡ out.old.items ++ map line_range (filter (is_row_behind sought.now) rows.now)) }
+        ≡ out.old.items ++ map line_code_range (filter (is_row_behind sought.now) rows.now)) }
 {
     for row in rows {
         if is_behind(sought, row) {

@@ -2,10 +2,10 @@
 ghost use Rattle.std.specs.Prelude.{◌≡◌, ◌%◌, ◌/◌, ◌^◌, ◌<◌, IsTrue, List, ℕ};
 ghost use Rattle.pci_spec.specs.Port as port;
 ghost use Rattle.pci_spec.specs.Window.{bounds_for};
-ghost use Rattle.settle_spec.specs.Registers.{with_number, with_bounds};
+ghost use Rattle.judge_spec.specs.Windows.{with_number, with_bounds};
 ghost use Rattle.pci_base.specs.WindowKinds.{kind_value};
 ghost use Rattle.pci_base.specs.Bounds.{spec_bounds_of};
-ghost use Rattle.pci_settle_places.specs.Shown.{HasRegister, with_bar, with_rom, with_closed, with_range, with_grown, with_optional, with_wished};
+ghost use Rattle.pci_settle_places.specs.Shown.{HasRegister, with_bar, with_rom, with_closed, with_window_range, with_grown, with_optional, with_wished};
 
 use pci_base::bounds::Bounds;
 use pci_base::image::{IMAGE_LEN, put};
@@ -117,7 +117,7 @@ fn bounds_at(class: WindowKind, nibble: u16, place: Range) -> Bounds
 
 /// Writes a window with these addresses.
 fn write_range(bytes: &mut [u8; IMAGE_LEN], class: WindowKind, window: Window, range: Range)
-    ensures { bytes.new ≡ with_range (kind_value class) window range bytes.old }
+    ensures { bytes.new ≡ with_window_range (kind_value class) window range bytes.old }
 {
     let nibble = u16::from(window.wide());
     write_bounds(bytes, class, bounds_at(class, nibble, range));

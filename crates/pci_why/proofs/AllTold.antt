@@ -121,15 +121,15 @@ early_evident told given t (code.Clash bus space a first first_reg second second
 early_evident told given t (code.Split space a first first_reg second second_reg) old early = absurd (omega (arith, early))
 early_evident told given t _ old early = λ s tree listed there. record { lines = []; text = sym (append-nil old); are = refl }
 
-pub early_held : (told : Told) (given : Given) (t : Tree) (fault : AnyFault) (x : CodeFault) (old : List ℕ) → fault ≡ any.Early x → all_lines.IsResolved fault → IsEvidenceTold told given t (all_lines.fault_of fault) old old
+pub early_held : (told : Told) (given : Given) (t : Tree) (fault : AnyFault) (x : CodeFault) (old : List ℕ) → fault ≡ any.Early x → all_lines.IsResolved fault → IsEvidenceTold told given t (all_lines.any_fault_value fault) old old
 early_held told given t fault x old is resolved =
-    subst (λ (f : AnyFault). IsEvidenceTold told given t (all_lines.fault_of f) old old) (sym is) (early_evident told given t x old (subst (λ (f : AnyFault). all_lines.IsResolved f) is resolved))
+    subst (λ (f : AnyFault). IsEvidenceTold told given t (all_lines.any_fault_value f) old old) (sym is) (early_evident told given t x old (subst (λ (f : AnyFault). all_lines.IsResolved f) is resolved))
 
 not_listed_evident : (told : Told) (given : Given) (t : Tree) (slot : Slot) (old : List ℕ) → IsEvidenceTold told given t (NotListed slot) old old
 not_listed_evident told given t slot old s tree listed there = record { lines = []; text = sym (append-nil old); are = refl }
 
-pub not_listed_held : (told : Told) (given : Given) (t : Tree) (fault : AnyFault) (slot : Slot) (old : List ℕ) → fault ≡ any.NotListed slot → IsEvidenceTold told given t (all_lines.fault_of fault) old old
-not_listed_held told given t fault slot old is = subst (λ (f : AnyFault). IsEvidenceTold told given t (all_lines.fault_of f) old old) (sym is) (not_listed_evident told given t slot old)
+pub not_listed_held : (told : Told) (given : Given) (t : Tree) (fault : AnyFault) (slot : Slot) (old : List ℕ) → fault ≡ any.NotListed slot → IsEvidenceTold told given t (all_lines.any_fault_value fault) old old
+not_listed_held told given t fault slot old is = subst (λ (f : AnyFault). IsEvidenceTold told given t (all_lines.any_fault_value f) old old) (sym is) (not_listed_evident told given t slot old)
 
 -- ---- all lines
 

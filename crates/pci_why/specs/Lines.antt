@@ -38,5 +38,5 @@ abbrev pub palette_line : List ℕ → Slot → Bool → List ℕ
 palette_line word slot is_narrow = fixed_line word slot COMMAND (palette_text is_narrow)
 
 -- whether the bridge at a slot is among those that take what no region of their bus claims
-abbrev pub is_taking : Given → Slot → Bool
-is_taking given slot = list_any (λ entry. same_slot entry.slot slot) given.unclaimed
+abbrev pub is_taking_unclaimed : Given → Slot → Bool
+is_taking_unclaimed given slot = list_any (λ entry. same_slot entry.slot slot) given.unclaimed

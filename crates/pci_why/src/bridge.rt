@@ -8,7 +8,7 @@ ghost use Rattle.pci_base.specs.WindowKinds.{kind_value};
 ghost use Rattle.pci_function.specs.Values.{record_value};
 ghost use Rattle.pci_tree.specs.Ranges.{IsCanonical};
 ghost use Rattle.pci_tree.specs.Reaches.{HasSpans};
-ghost use Rattle.pci_claims.specs.Values.{given_value, told_value};
+ghost use Rattle.pci_claims.specs.Values.{code_given_value, told_value};
 ghost use Rattle.pci_why.specs.Bridges.{line_of_bridge, IsMissed, IsUnreachedTold};
 
 use super::bridge_line::{push_bridge, push_ranges};
@@ -40,7 +40,7 @@ fn push_bridge_line<A: Allocator>(
     prefetch: bool,
 ) -> Result<(), AllocError>
     ensures { OnOk result (string_bytes text.new ≡ string_bytes text.old
-        ++ line_of_bridge (given_value given.now) (record_value function.now) (space_of space)
+        ++ line_of_bridge (code_given_value given.now) (record_value function.now) (space_of space)
         prefetch) }
 {
     let Some(bridge) = function.bridge else {
@@ -64,7 +64,7 @@ fn missed_by<A: Allocator + Copy>(
     // of an empty window no address could be told
     requires spans { HasSpans function.now }
     requires canonical { IsCanonical addresses.now }
-    ensures { IfOk result (λ v. IsMissed (given_value given.now) function.now (kind_value kind)
+    ensures { IfOk result (λ v. IsMissed (code_given_value given.now) function.now (kind_value kind)
         addresses.now v.items) }
 {
     let passed = passed_with(alloc, given, function, kind)?;
@@ -82,7 +82,7 @@ pub fn push_unreached<A: Allocator + Copy, B: Allocator>(
     // so that the addresses of each told range can be counted
     requires { IsTold judged.now.told.now.ranges.now }
     ensures { OnOk result (IsUnreachedTold (told_value judged.now.told.now)
-        (given_value judged.now.given.now) judged.now.outline.now (record {
+        (code_given_value judged.now.given.now) judged.now.outline.now (record {
           region = named_region name.slot name.register;
           space = space_of name.space;
           bridge = bridge;

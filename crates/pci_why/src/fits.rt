@@ -11,7 +11,7 @@ ghost use Rattle.judge_spec.specs.Told.{IsTold};
 ghost use Rattle.judge_spec.specs.Why.{is_said};
 ghost use Rattle.pci_base.specs.Ranges.{decoded_range_of};
 ghost use Rattle.pci_base.specs.Space.{space_of, kind_in};
-ghost use Rattle.pci_claims.specs.Values.{given_value, told_value};
+ghost use Rattle.pci_claims.specs.Values.{code_given_value, told_value};
 ghost use Rattle.pci_claims.specs.ToldOn.{AreOnIn};
 ghost use Rattle.pci_why.specs.Fits.{IsFitIn, IsFitFor, IsFitTold};
 ghost use Rattle.pci_why.specs.Rooms.{IsRoomKept, AreRoomsKept};
@@ -38,7 +38,7 @@ use std::alloc::{AllocError, Allocator};
 /// Whether a bus is a root bus to which all of a space is sent.
 fn is_sent_all<A: Allocator>(given: &Given<'_>, outline: &Outline<A>, bus: u8, space: Space) -> bool
     ensures { result ≡ (is_root outline.now.roots bus
-        && not (is_said (given_value given.now) (space_of space))) }
+        && not (is_said (code_given_value given.now) (space_of space))) }
 {
     outline.roots().has(bus) && ranges_said(given, space).is_none()
 }
@@ -96,14 +96,14 @@ fn fit_by<A: Allocator + Copy>(
     requires some { moving.now.region.first ≤ moving.now.region.last }
     // else it would be of another kind, or of other functions
     requires kept { IsRoomKept (told_value judged.now.told.now)
-        (given_value judged.now.given.now) judged.now.outline.now
+        (code_given_value judged.now.given.now) judged.now.outline.now
         (kind_in (space_of moving.now.space) moving.now.region.prefetch) kept.old }
     ensures kept { OnOk result (IsRoomKept (told_value judged.now.told.now)
-        (given_value judged.now.given.now) judged.now.outline.now
+        (code_given_value judged.now.given.now) judged.now.outline.now
         (kind_in (space_of moving.now.space) moving.now.region.prefetch) kept.new) }
     ensures some { IfOk result (λ o. IfSome o (λ r. r.first ≤ r.last)) }
     ensures exact { IfOk result (λ o. IsFitFor (told_value judged.now.told.now)
-        (given_value judged.now.given.now) judged.now.outline.now (space_of moving.now.space)
+        (code_given_value judged.now.given.now) judged.now.outline.now (space_of moving.now.space)
         moving.now.region moving.now.wide o) }
 {
     make_ready(alloc, kept, on, judged, moving)?;
@@ -119,14 +119,14 @@ fn fit_of<A: Allocator + Copy>(
 ) -> Result<Option<Range>, OutOfMemory>
     requires some { moving.now.region.first ≤ moving.now.region.last }
     requires kept { AreRoomsKept (told_value judged.now.told.now)
-        (given_value judged.now.given.now) judged.now.outline.now rooms.old.on.now rooms.old.io
+        (code_given_value judged.now.given.now) judged.now.outline.now rooms.old.on.now rooms.old.io
         rooms.old.mem rooms.old.pref }
     ensures kept { OnOk result (AreRoomsKept (told_value judged.now.told.now)
-        (given_value judged.now.given.now) judged.now.outline.now rooms.new.on.now rooms.new.io
+        (code_given_value judged.now.given.now) judged.now.outline.now rooms.new.on.now rooms.new.io
         rooms.new.mem rooms.new.pref) }
     ensures some { IfOk result (λ o. IfSome o (λ r. r.first ≤ r.last)) }
     ensures exact { IfOk result (λ o. IsFitFor (told_value judged.now.told.now)
-        (given_value judged.now.given.now) judged.now.outline.now (space_of moving.now.space)
+        (code_given_value judged.now.given.now) judged.now.outline.now (space_of moving.now.space)
         moving.now.region moving.now.wide o) }
 {
     let on = rooms.on;
@@ -167,13 +167,13 @@ fn push_own_fits<A: Allocator + Copy, B: Allocator>(
     // those from here on name told ranges
     requires low { place.reg < 256 }
     requires kept { AreRoomsKept (told_value judged.now.told.now)
-        (given_value judged.now.given.now) judged.now.outline.now rooms.old.on.now rooms.old.io
+        (code_given_value judged.now.given.now) judged.now.outline.now rooms.old.on.now rooms.old.io
         rooms.old.mem rooms.old.pref }
     ensures kept { OnOk result (AreRoomsKept (told_value judged.now.told.now)
-        (given_value judged.now.given.now) judged.now.outline.now rooms.new.on.now rooms.new.io
+        (code_given_value judged.now.given.now) judged.now.outline.now rooms.new.on.now rooms.new.io
         rooms.new.mem rooms.new.pref) }
     ensures told { OnOk result (IsFitTold (all_named judged.now.probe.now)
-        (told_value judged.now.told.now) (given_value judged.now.given.now) judged.now.outline.now
+        (told_value judged.now.told.now) (code_given_value judged.now.given.now) judged.now.outline.now
         (named_region place.slot place.reg) (space_of place.space)
         (string_bytes text.old) (string_bytes text.new)) }
 {
@@ -221,13 +221,13 @@ pub fn push_fits<A: Allocator + Copy, B: Allocator>(
     // its slots rise, so a block is found by halving
     requires rising { IsDump judged.now.probe.now }
     requires kept { AreRoomsKept (told_value judged.now.told.now)
-        (given_value judged.now.given.now) judged.now.outline.now rooms.old.on.now rooms.old.io
+        (code_given_value judged.now.given.now) judged.now.outline.now rooms.old.on.now rooms.old.io
         rooms.old.mem rooms.old.pref }
     ensures kept { OnOk result (AreRoomsKept (told_value judged.now.told.now)
-        (given_value judged.now.given.now) judged.now.outline.now rooms.new.on.now rooms.new.io
+        (code_given_value judged.now.given.now) judged.now.outline.now rooms.new.on.now rooms.new.io
         rooms.new.mem rooms.new.pref) }
     ensures told { OnOk result (IsFitTold (all_named judged.now.probe.now)
-        (told_value judged.now.told.now) (given_value judged.now.given.now) judged.now.outline.now
+        (told_value judged.now.told.now) (code_given_value judged.now.given.now) judged.now.outline.now
         (named_region name.slot name.register) (space_of name.space)
         (string_bytes text.old) (string_bytes text.new)) }
 {

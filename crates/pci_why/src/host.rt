@@ -7,7 +7,7 @@ ghost use Rattle.pci_base.specs.Ranges.{decoded_range_of};
 ghost use Rattle.pci_base.specs.Space.{space_of};
 ghost use Rattle.judge_spec.specs.Told.{IsTold};
 ghost use Rattle.judge_spec.specs.Why.{ranges_for, ranges_words, host_line};
-ghost use Rattle.pci_claims.specs.Values.{host_value, given_value, told_value};
+ghost use Rattle.pci_claims.specs.Values.{host_value, code_given_value, told_value};
 ghost use Rattle.pci_why.specs.Lines.{spaced};
 ghost use Rattle.pci_why.specs.Hosts.{IsRootAbove, IsNowhere, IsOutsideTold};
 
@@ -108,7 +108,7 @@ pub fn push_outside<A: Allocator + Copy, B: Allocator>(
     // so that the addresses of each told range can be counted
     requires { IsTold judged.now.told.now.ranges.now }
     ensures { OnOk result (IsOutsideTold (told_value judged.now.told.now)
-        (given_value judged.now.given.now) judged.now.outline.now
+        (code_given_value judged.now.given.now) judged.now.outline.now
         (named_region name.slot name.register) (space_of name.space)
         (string_bytes text.old) (string_bytes text.new)) }
 {

@@ -4,7 +4,7 @@ ghost use Rattle.std.specs.String.{string_bytes};
 ghost use Rattle.pci_spec.specs.Listing.{words};
 ghost use Rattle.pci_base.specs.Space.{space_of};
 ghost use Rattle.judge_spec.specs.Why.{isa_words};
-ghost use Rattle.pci_claims.specs.Values.{given_value};
+ghost use Rattle.pci_claims.specs.Values.{code_given_value};
 ghost use Rattle.pci_why.specs.Lines.{spaced};
 
 use pci_base::slot::Slot;
@@ -15,7 +15,7 @@ use std::alloc::{AllocError, Allocator};
 
 /// The word behind the window of a space of the bridge at a slot, behind a space.
 fn isa_word(given: &Given<'_>, space: Space, slot: Slot) -> &'static str
-    ensures { result.now ≡ spaced (isa_words (given_value given.now) (space_of space) slot) }
+    ensures { result.now ≡ spaced (isa_words (code_given_value given.now) (space_of space) slot) }
 {
     match space {
         Space::Io => { if has_isa(given, slot) { " isa" } else { "" } }
@@ -25,7 +25,7 @@ fn isa_word(given: &Given<'_>, space: Space, slot: Slot) -> &'static str
 
 /// The same, with the end of the line.
 pub fn window_end(given: &Given<'_>, space: Space, slot: Slot) -> &'static str
-    ensures { result.now ≡ words (isa_words (given_value given.now) (space_of space) slot) }
+    ensures { result.now ≡ words (isa_words (code_given_value given.now) (space_of space) slot) }
 {
     match space {
         Space::Io => { if has_isa(given, slot) { " isa\n" } else { "\n" } }
@@ -41,7 +41,7 @@ pub fn push_isa_word<A: Allocator>(
     slot: Slot,
 ) -> Result<(), AllocError>
     ensures { OnOk result (string_bytes text.new
-        ≡ string_bytes text.old ++ spaced (isa_words (given_value given.now) (space_of space) slot)) }
+        ≡ string_bytes text.old ++ spaced (isa_words (code_given_value given.now) (space_of space) slot)) }
 {
     text.push_str(isa_word(given, space, slot))
 }

@@ -4,7 +4,7 @@ ghost use Rattle.std.specs.String.{string_bytes};
 ghost use Rattle.pci_spec.specs.Slot.{same_slot};
 ghost use Rattle.pci_base.specs.Space.{space_of};
 ghost use Rattle.judge_spec.specs.Why.{is_narrow_among, has_legacy_part, legacy_words, legacy_text, palette_text};
-ghost use Rattle.pci_claims.specs.Values.{given_value, legacy_value};
+ghost use Rattle.pci_claims.specs.Values.{code_given_value, legacy_value};
 ghost use Rattle.pci_why.specs.Lines.{spaced, fixed_line, legacy_line, palette_line};
 
 use pci_base::offset::{BRIDGE_CONTROL, COMMAND};
@@ -42,7 +42,7 @@ pub fn is_narrow(bridges: &[LegacyBridge], slot: Slot) -> bool
 
 /// Whether the bridge at a slot has a legacy part.
 fn has_legacy_part(given: &Given<'_>, slot: Slot) -> bool
-    ensures { result ≡ has_legacy_part (given_value given.now) slot }
+    ensures { result ≡ has_legacy_part (code_given_value given.now) slot }
 {
     for entry in given.legacy {
         if is_at(entry, slot) {
@@ -54,7 +54,7 @@ fn has_legacy_part(given: &Given<'_>, slot: Slot) -> bool
 
 /// The word by which the legacy part of the bridge at a slot decodes I/O addresses, behind a space.
 fn legacy_word(given: &Given<'_>, slot: Slot) -> &'static str
-    ensures { result.now ≡ spaced (legacy_words (given_value given.now) slot) }
+    ensures { result.now ≡ spaced (legacy_words (code_given_value given.now) slot) }
 {
     if is_narrow(given.legacy, slot) {
         " vga"
@@ -72,7 +72,7 @@ pub fn push_legacy_word<A: Allocator>(
     slot: Slot,
 ) -> Result<(), AllocError>
     ensures { OnOk result (string_bytes text.new
-        ≡ string_bytes text.old ++ spaced (legacy_words (given_value given.now) slot)) }
+        ≡ string_bytes text.old ++ spaced (legacy_words (code_given_value given.now) slot)) }
 {
     text.push_str(legacy_word(given, slot))
 }

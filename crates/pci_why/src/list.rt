@@ -5,9 +5,9 @@ ghost use Rattle.pci_spec.specs.Text.{IsDump};
 ghost use Rattle.pci_spec.specs.Mark.{all_named};
 ghost use Rattle.judge_spec.specs.Told.{IsTold};
 ghost use Rattle.judge_spec.specs.FaultsText.{yes_line};
-ghost use Rattle.pci_claims.specs.Values.{given_value, told_value};
+ghost use Rattle.pci_claims.specs.Values.{code_given_value, told_value};
 ghost use Rattle.pci_claims.specs.ToldOn.{AreOnIn};
-ghost use Rattle.pci_faults.specs.AllLines.{fault_of};
+ghost use Rattle.pci_faults.specs.AllLines.{any_fault_value};
 ghost use Rattle.pci_why.specs.Lists.{AreReasonedTold, IsReasonedTextOf};
 
 use super::judged::Judged;
@@ -33,8 +33,8 @@ fn push_reasoned<A: Allocator + Copy, B: Allocator>(
     requires told { IsTold judged.now.told.now.ranges.now }
     requires on { AreOnIn (told_value judged.now.told.now) judged.now.outline.now on.now }
     ensures { OnOk result (AreReasonedTold (all_named judged.now.probe.now)
-        (told_value judged.now.told.now) (given_value judged.now.given.now) judged.now.outline.now
-        (map fault_of faults.now) (string_bytes text.old) (string_bytes text.new)) }
+        (told_value judged.now.told.now) (code_given_value judged.now.given.now) judged.now.outline.now
+        (map any_fault_value faults.now) (string_bytes text.old) (string_bytes text.new)) }
 {
     let mut rooms = no_rooms(on);
     for fault in faults {
@@ -46,7 +46,7 @@ fn push_reasoned<A: Allocator + Copy, B: Allocator>(
 
 /// The text of a list before any of its faults: `yes` where there is none.
 fn begun<A: Allocator>(alloc: A, faults: &[AnyFault]) -> Result<String<A>, AllocError>
-    ensures { IfOk result (λ text. string_bytes text ≡ yes_line (map fault_of faults.now)) }
+    ensures { IfOk result (λ text. string_bytes text ≡ yes_line (map any_fault_value faults.now)) }
 {
     let mut text = String::new(alloc);
     if faults.is_empty() {
@@ -67,8 +67,8 @@ pub fn reasoned_text<A: Allocator + Copy>(
     // they are read of a text
     requires told { IsTold judged.now.told.now.ranges.now }
     ensures { IfOk result (λ text. IsReasonedTextOf (all_named judged.now.probe.now)
-        (told_value judged.now.told.now) (given_value judged.now.given.now) judged.now.outline.now
-        (map fault_of faults.now) (string_bytes text)) }
+        (told_value judged.now.told.now) (code_given_value judged.now.given.now) judged.now.outline.now
+        (map any_fault_value faults.now) (string_bytes text)) }
 {
     let on = ranges_on(alloc, judged.told, judged.outline)?;
     let mut text = begun(alloc, faults)?;

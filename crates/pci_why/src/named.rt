@@ -5,7 +5,7 @@ ghost use Rattle.pci_spec.specs.Fault.{named_region};
 ghost use Rattle.judge_spec.specs.Told.{IsTold};
 ghost use Rattle.pci_base.specs.Space.{space_of};
 ghost use Rattle.pci_tree.specs.Ranges.{IsCanonical};
-ghost use Rattle.pci_claims.specs.Values.{given_value, told_value};
+ghost use Rattle.pci_claims.specs.Values.{code_given_value, told_value};
 ghost use Rattle.pci_why.specs.Named.{shown_line, is_shown_prefetchable, HasOwnAddress, IsNamedInEach, NoneNamed};
 
 use super::judged::{Judged, RegionName, TOLD_FROM};
@@ -82,9 +82,9 @@ fn legacy_named<'a, A: Allocator + Copy>(
     ensures canonical { IfOk result (λ o. IfSome o (λ n. IsCanonical n.addresses.items)) }
     ensures some { IfOk result (λ o. IfSome o (λ n. HasOwnAddress n.shown)) }
     ensures exact { IfOk result (λ o. MatchOption o
-        (NoneNamed (told_value judged.now.told.now) (given_value judged.now.given.now)
+        (NoneNamed (told_value judged.now.told.now) (code_given_value judged.now.given.now)
         judged.now.outline.now slot BRIDGE_CONTROL (space_of space))
-        (λ n. IsNamedInEach (told_value judged.now.told.now) (given_value judged.now.given.now)
+        (λ n. IsNamedInEach (told_value judged.now.told.now) (code_given_value judged.now.given.now)
         judged.now.outline.now (named_region slot BRIDGE_CONTROL) (space_of space) n.shown
         n.addresses.items)) }
 {
@@ -112,9 +112,9 @@ fn palette_named<'a, A: Allocator + Copy>(
     ensures canonical { IfOk result (λ o. IfSome o (λ n. IsCanonical n.addresses.items)) }
     ensures some { IfOk result (λ o. IfSome o (λ n. HasOwnAddress n.shown)) }
     ensures exact { IfOk result (λ o. MatchOption o
-        (NoneNamed (told_value judged.now.told.now) (given_value judged.now.given.now)
+        (NoneNamed (told_value judged.now.told.now) (code_given_value judged.now.given.now)
         judged.now.outline.now slot COMMAND (space_of space))
-        (λ n. IsNamedInEach (told_value judged.now.told.now) (given_value judged.now.given.now)
+        (λ n. IsNamedInEach (told_value judged.now.told.now) (code_given_value judged.now.given.now)
         judged.now.outline.now (named_region slot COMMAND) (space_of space) n.shown
         n.addresses.items)) }
 {
@@ -152,9 +152,9 @@ fn own_named<'a, A: Allocator + Copy>(
     ensures canonical { IfOk result (λ o. IfSome o (λ n. IsCanonical n.addresses.items)) }
     ensures some { IfOk result (λ o. IfSome o (λ n. HasOwnAddress n.shown)) }
     ensures exact { IfOk result (λ o. MatchOption o
-        (NoneNamed (told_value judged.now.told.now) (given_value judged.now.given.now)
+        (NoneNamed (told_value judged.now.told.now) (code_given_value judged.now.given.now)
         judged.now.outline.now slot reg (space_of space))
-        (λ n. IsNamedInEach (told_value judged.now.told.now) (given_value judged.now.given.now)
+        (λ n. IsNamedInEach (told_value judged.now.told.now) (code_given_value judged.now.given.now)
         judged.now.outline.now (named_region slot reg) (space_of space) n.shown n.addresses.items)) }
 {
     let Some(region) = region_at(alloc, judged.outline, slot, reg, space)? else {
@@ -179,9 +179,9 @@ fn told_named<'a, A: Allocator + Copy>(
     ensures canonical { IfOk result (λ o. IfSome o (λ n. IsCanonical n.addresses.items)) }
     ensures some { IfOk result (λ o. IfSome o (λ n. HasOwnAddress n.shown)) }
     ensures exact { IfOk result (λ o. MatchOption o
-        (NoneNamed (told_value judged.now.told.now) (given_value judged.now.given.now)
+        (NoneNamed (told_value judged.now.told.now) (code_given_value judged.now.given.now)
         judged.now.outline.now name.slot name.register (space_of name.space))
-        (λ n. IsNamedInEach (told_value judged.now.told.now) (given_value judged.now.given.now)
+        (λ n. IsNamedInEach (told_value judged.now.told.now) (code_given_value judged.now.given.now)
         judged.now.outline.now (named_region name.slot name.register) (space_of name.space) n.shown
         n.addresses.items)) }
 {
@@ -212,9 +212,9 @@ pub fn region_named<'a, A: Allocator + Copy>(
     // so that they can be counted
     ensures some { IfOk result (λ o. IfSome o (λ n. HasOwnAddress n.shown)) }
     ensures exact { IfOk result (λ o. MatchOption o
-        (NoneNamed (told_value judged.now.told.now) (given_value judged.now.given.now)
+        (NoneNamed (told_value judged.now.told.now) (code_given_value judged.now.given.now)
         judged.now.outline.now name.slot name.register (space_of name.space))
-        (λ n. IsNamedInEach (told_value judged.now.told.now) (given_value judged.now.given.now)
+        (λ n. IsNamedInEach (told_value judged.now.told.now) (code_given_value judged.now.given.now)
         judged.now.outline.now (named_region name.slot name.register) (space_of name.space) n.shown
         n.addresses.items)) }
 {
@@ -243,7 +243,7 @@ pub fn push_shown<A: Allocator>(
     requires { HasOwnAddress shown.now }
     ensures { OnOk result (string_bytes text.new
         ≡ string_bytes text.old
-        ++ shown_line (given_value given.now) word.now (space_of space) shown.now) }
+        ++ shown_line (code_given_value given.now) word.now (space_of space) shown.now) }
 {
     match shown {
         Shown::Own(region) => push_given_line(text, given, word, space, region),

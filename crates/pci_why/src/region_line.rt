@@ -6,7 +6,7 @@ ghost use Rattle.pci_base.specs.Ranges.{decoded_range_of};
 ghost use Rattle.pci_base.specs.Space.{space_of};
 ghost use Rattle.pci_why.specs.RegionLines.{bar_words, window_at, part_words, line_ended, isa_words_at, given_line_of};
 ghost use Rattle.pci_spec.specs.Listing.{words};
-ghost use Rattle.pci_claims.specs.Values.{given_value};
+ghost use Rattle.pci_claims.specs.Values.{code_given_value};
 ghost use Rattle.pci_why.specs.Lines.{ended};
 
 use super::isa::window_end;
@@ -154,7 +154,7 @@ fn push_region_ended<A: Allocator>(
 
 /// What ends the line of a region: ` isa` stands behind the I/O window of a bridge with ISA Enable.
 fn region_end(given: &Given<'_>, space: Space, region: &Region) -> &'static str
-    ensures { result.now ≡ words (isa_words_at (given_value given.now) (space_of space) region.now) }
+    ensures { result.now ≡ words (isa_words_at (code_given_value given.now) (space_of space) region.now) }
 {
     match region.part {
         Part::Bar | Part::Rom => "\n",
@@ -173,7 +173,7 @@ pub fn push_given_line<A: Allocator>(
     // the line tells how many addresses the region has
     requires { region.now.first ≤ region.now.last }
     ensures { OnOk result (string_bytes text.new ≡ string_bytes text.old
-        ++ given_line_of (given_value given.now) word.now (space_of space) region.now) }
+        ++ given_line_of (code_given_value given.now) word.now (space_of space) region.now) }
 {
     let end = region_end(given, space, region);
     push_region_ended(text, word, space, region, end)

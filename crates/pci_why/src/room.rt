@@ -6,8 +6,8 @@ ghost use Rattle.judge_spec.specs.Told.{IsTold};
 ghost use Rattle.judge_spec.specs.ToldClaims.{Told as ToldValue};
 ghost use Rattle.pci_base.specs.Space.{space_of, kind_in};
 ghost use Rattle.pci_tree.specs.Outline.{Tree};
-ghost use Rattle.pci_claims.specs.Values.{given_value, told_value};
-ghost use Rattle.pci_claims.specs.AllClaims.{IsBoard};
+ghost use Rattle.pci_claims.specs.Values.{code_given_value, told_value};
+ghost use Rattle.pci_claims.specs.AllClaims.{IsClaimsBoard};
 ghost use Rattle.pci_claims.specs.ToldOn.{AreOnIn};
 ghost use Rattle.pci_why.specs.Free.{AreClaimsBesideInEach};
 ghost use Rattle.pci_why.specs.Rooms.{IsRoomKept, AreRoomsKept, IsRoomFor};
@@ -105,10 +105,10 @@ fn claims_beside<A: Allocator + Copy>(
     bus: u8,
     space: Space,
 ) -> Result<Vec<Claim<A>, A>, OutOfMemory>
-    requires { IsBoard (told_value board.now.told) board.now.outline.now board.now.on.now
+    requires { IsClaimsBoard (told_value board.now.told) board.now.outline.now board.now.on.now
         board.now.bridges.now }
     ensures { IfOk result (λ v. AreClaimsBesideInEach (told_value board.now.told)
-        (given_value board.now.given) board.now.outline.now bus (space_of space) v.items) }
+        (code_given_value board.now.given) board.now.outline.now bus (space_of space) v.items) }
 {
     if board.outline.roots().has(bus) {
         claims_of_roots(alloc, board, space)
@@ -127,7 +127,7 @@ fn room_of<A: Allocator + Copy>(
     requires told { IsTold judged.now.told.now.ranges.now }
     requires on { AreOnIn (told_value judged.now.told.now) judged.now.outline.now on.now }
     ensures { IfOk result (λ o. IsRoomFor (told_value judged.now.told.now)
-        (given_value judged.now.given.now) judged.now.outline.now moving.now.region.slot
+        (code_given_value judged.now.given.now) judged.now.outline.now moving.now.region.slot
         (kind_in (space_of moving.now.space) moving.now.region.prefetch) o) }
 {
     let slot = moving.region.slot;
@@ -169,10 +169,10 @@ pub fn make_ready<A: Allocator + Copy>(
     requires told { IsTold judged.now.told.now.ranges.now }
     requires on { AreOnIn (told_value judged.now.told.now) judged.now.outline.now on.now }
     // else it would be of another kind, or of other functions
-    requires kept { IsRoomKept (told_value judged.now.told.now) (given_value judged.now.given.now)
+    requires kept { IsRoomKept (told_value judged.now.told.now) (code_given_value judged.now.given.now)
         judged.now.outline.now (kind_in (space_of moving.now.space) moving.now.region.prefetch) kept.old }
     ensures { OnOk result (IsRoomFor (told_value judged.now.told.now)
-        (given_value judged.now.given.now) judged.now.outline.now moving.now.region.slot
+        (code_given_value judged.now.given.now) judged.now.outline.now moving.now.region.slot
         (kind_in (space_of moving.now.space) moving.now.region.prefetch) kept.new) }
 {
     if is_on(kept, moving.region.slot.bus()) {

@@ -4,7 +4,7 @@ ghost use Rattle.std.specs.String.{string_bytes};
 ghost use Rattle.pci_spec.specs.Fault.{named_regions};
 ghost use Rattle.judge_spec.specs.Told.{IsTold};
 ghost use Rattle.pci_base.specs.Space.{space_of};
-ghost use Rattle.pci_claims.specs.Values.{given_value, told_value};
+ghost use Rattle.pci_claims.specs.Values.{code_given_value, told_value};
 ghost use Rattle.pci_why.specs.Two.{AreTwoTold};
 
 use super::bridge_line::push_ranges;
@@ -24,7 +24,7 @@ pub fn push_two<A: Allocator + Copy, B: Allocator>(
     // so that the addresses of each told range can be counted
     requires { IsTold judged.now.told.now.ranges.now }
     ensures { OnOk result (AreTwoTold (told_value judged.now.told.now)
-        (given_value judged.now.given.now) judged.now.outline.now (space_of two.now.space)
+        (code_given_value judged.now.given.now) judged.now.outline.now (space_of two.now.space)
         (named_regions two.now.first.slot two.now.first.register two.now.second.slot
         two.now.second.register)
         (string_bytes text.old) (string_bytes text.new)) }

@@ -3,8 +3,8 @@ ghost use Rattle.std.specs.Prelude.{◌≡◌, ◌++◌, OnOk};
 ghost use Rattle.std.specs.String.{string_bytes};
 ghost use Rattle.pci_spec.specs.Slot.{same_slot};
 ghost use Rattle.judge_spec.specs.Why.{unclaimed_words};
-ghost use Rattle.pci_claims.specs.Values.{given_value};
-ghost use Rattle.pci_why.specs.Lines.{spaced, is_taking};
+ghost use Rattle.pci_claims.specs.Values.{code_given_value};
+ghost use Rattle.pci_why.specs.Lines.{spaced, is_taking_unclaimed};
 
 use pci_base::slot::Slot;
 use pci_claims::given::{Given, TakingBridge};
@@ -19,7 +19,7 @@ fn is_at(entry: &TakingBridge<'_>, slot: Slot) -> bool
 
 /// Whether the bridge at a slot is among those that take what no region of their bus claims.
 fn is_taking(given: &Given<'_>, slot: Slot) -> bool
-    ensures { result ≡ is_taking (given_value given.now) slot }
+    ensures { result ≡ is_taking_unclaimed (code_given_value given.now) slot }
 {
     for entry in given.unclaimed {
         if is_at(entry, slot) {
@@ -31,7 +31,7 @@ fn is_taking(given: &Given<'_>, slot: Slot) -> bool
 
 /// ` unclaimed`, where the bridge at a slot takes what no region of its bus claims.
 fn unclaimed_word(given: &Given<'_>, slot: Slot) -> &'static str
-    ensures { result.now ≡ spaced (unclaimed_words (given_value given.now) slot) }
+    ensures { result.now ≡ spaced (unclaimed_words (code_given_value given.now) slot) }
 {
     if is_taking(given, slot) {
         " unclaimed"
@@ -47,7 +47,7 @@ pub fn push_unclaimed_word<A: Allocator>(
     slot: Slot,
 ) -> Result<(), AllocError>
     ensures { OnOk result (string_bytes text.new
-        ≡ string_bytes text.old ++ spaced (unclaimed_words (given_value given.now) slot)) }
+        ≡ string_bytes text.old ++ spaced (unclaimed_words (code_given_value given.now) slot)) }
 {
     text.push_str(unclaimed_word(given, slot))
 }

@@ -6,8 +6,8 @@ ghost use Rattle.pci_spec.specs.Mark.{all_named};
 ghost use Rattle.pci_spec.specs.Fault.{named_region};
 ghost use Rattle.judge_spec.specs.Told.{IsTold};
 ghost use Rattle.pci_base.specs.Space.{space_of};
-ghost use Rattle.pci_claims.specs.Values.{given_value, told_value};
-ghost use Rattle.pci_faults.specs.AllLines.{fault_of, IsResolved};
+ghost use Rattle.pci_claims.specs.Values.{code_given_value, told_value};
+ghost use Rattle.pci_faults.specs.AllLines.{any_fault_value, IsResolved};
 ghost use Rattle.pci_why.specs.Rooms.{AreRoomsKept};
 ghost use Rattle.pci_why.specs.Whys.{IsEvidenceTold, IsAdvisedBy, NoneAdvised, IsAdviceTold, IsWhyTold};
 
@@ -37,8 +37,8 @@ fn push_evidence<A: Allocator + Copy, B: Allocator>(
     requires told { IsTold judged.now.told.now.ranges.now }
     requires resolved { IsResolved fault.now }
     ensures { OnOk result (IsEvidenceTold (told_value judged.now.told.now)
-        (given_value judged.now.given.now) judged.now.outline.now
-        (fault_of fault.now) (string_bytes text.old) (string_bytes text.new)) }
+        (code_given_value judged.now.given.now) judged.now.outline.now
+        (any_fault_value fault.now) (string_bytes text.old) (string_bytes text.new)) }
 {
     match *fault {
         AnyFault::OutsideHost(o) => push_outside(
@@ -67,8 +67,8 @@ fn push_evidence<A: Allocator + Copy, B: Allocator>(
 /// second is a told range.
 fn to_move(given: &Given<'_>, fault: &AnyFault) -> Option<RegionName>
     requires { IsResolved fault.now }
-    ensures { MatchOption result (NoneAdvised (given_value given.now) (fault_of fault.now))
-        (λ name. IsAdvisedBy (given_value given.now) (fault_of fault.now)
+    ensures { MatchOption result (NoneAdvised (code_given_value given.now) (any_fault_value fault.now))
+        (λ name. IsAdvisedBy (code_given_value given.now) (any_fault_value fault.now)
         (named_region name.slot name.register) (space_of name.space)) }
 {
     match *fault {
@@ -96,14 +96,14 @@ fn push_advice<A: Allocator + Copy, B: Allocator>(
     // its slots rise, so a block is found by halving
     requires rising { IsDump judged.now.probe.now }
     requires kept { AreRoomsKept (told_value judged.now.told.now)
-        (given_value judged.now.given.now) judged.now.outline.now rooms.old.on.now rooms.old.io
+        (code_given_value judged.now.given.now) judged.now.outline.now rooms.old.on.now rooms.old.io
         rooms.old.mem rooms.old.pref }
     ensures kept { OnOk result (AreRoomsKept (told_value judged.now.told.now)
-        (given_value judged.now.given.now) judged.now.outline.now rooms.new.on.now rooms.new.io
+        (code_given_value judged.now.given.now) judged.now.outline.now rooms.new.on.now rooms.new.io
         rooms.new.mem rooms.new.pref) }
     ensures told { OnOk result (IsAdviceTold (all_named judged.now.probe.now)
-        (told_value judged.now.told.now) (given_value judged.now.given.now) judged.now.outline.now
-        (fault_of fault.now) (string_bytes text.old) (string_bytes text.new)) }
+        (told_value judged.now.told.now) (code_given_value judged.now.given.now) judged.now.outline.now
+        (any_fault_value fault.now) (string_bytes text.old) (string_bytes text.new)) }
 {
     match to_move(judged.given, fault) {
         Some(name) => push_fits(alloc, text, rooms, judged, name),
@@ -127,14 +127,14 @@ pub fn push_why<A: Allocator + Copy, B: Allocator>(
     // its slots rise, so a block is found by halving
     requires rising { IsDump judged.now.probe.now }
     requires kept { AreRoomsKept (told_value judged.now.told.now)
-        (given_value judged.now.given.now) judged.now.outline.now rooms.old.on.now rooms.old.io
+        (code_given_value judged.now.given.now) judged.now.outline.now rooms.old.on.now rooms.old.io
         rooms.old.mem rooms.old.pref }
     ensures kept { OnOk result (AreRoomsKept (told_value judged.now.told.now)
-        (given_value judged.now.given.now) judged.now.outline.now rooms.new.on.now rooms.new.io
+        (code_given_value judged.now.given.now) judged.now.outline.now rooms.new.on.now rooms.new.io
         rooms.new.mem rooms.new.pref) }
     ensures told { OnOk result (IsWhyTold (all_named judged.now.probe.now)
-        (told_value judged.now.told.now) (given_value judged.now.given.now) judged.now.outline.now
-        (fault_of fault.now) (string_bytes text.old) (string_bytes text.new)) }
+        (told_value judged.now.told.now) (code_given_value judged.now.given.now) judged.now.outline.now
+        (any_fault_value fault.now) (string_bytes text.old) (string_bytes text.new)) }
 {
     let fault = resolved(fault);
     push_evidence(alloc, text, judged, &fault)?;

@@ -13,8 +13,8 @@ use Rattle.pciplan_c.specs.Puts.{IsPutInto}
 use Rattle.pciplan_c.specs.declared.put.Withheld.{Withheld}
 use Rattle.pciplan_c.specs.declared.put.Withheld.TheVariants.{Memory, NoRoom}
 use Rattle.pciplan_c.specs.declared.refusal.Refusal.TheVariants.{Root, Dump, Probe}
-use Rattle.pciplan_c.specs.FaultsWords.{HaveMeaning, IsBadWord, IsNotSaid, IsSaidBy, IsWordWant}
-use Rattle.pciplan_c.specs.Listings.{AreListed, IsListing, IsListingTooLong, IsNoListOf, IsNotListed, IsTextPut, MayWantToList, is_why, listing_of}
+use Rattle.pciplan_c.specs.FaultsWords.{HaveMeaning, IsBadWord, IsNotSaid, IsSaidByFaultsWords, IsWordWant}
+use Rattle.pciplan_c.specs.Listings.{AreFaultsListed, IsListing, IsListingTooLong, IsNoListOf, IsWhyNoFaultsListed, IsTextPut, MayWantToList, is_why, listing_of}
 use Rattle.pciplan_c.specs.NoLists.{IsListMade, no_list_text}
 use Rattle.pciplan_c.specs.declared.faults_words.FaultsWord.{FaultsWord}
 use Rattle.pciplan_c.specs.declared.faults_words.FaultsWords.{FaultsWords}
@@ -25,7 +25,7 @@ use Rattle.pciplan_c.specs.declared.no_list.NoList.TheVariants.{BadWord, Unread}
 
 -- ---- the words
 
-pub have_meaning : (roots : List ℕ) (words : FaultsWords) (beside : Beside) → IsSaidBy roots words beside → HaveMeaning roots words
+pub have_meaning : (roots : List ℕ) (words : FaultsWords) (beside : Beside) → IsSaidByFaultsWords roots words beside → HaveMeaning roots words
 have_meaning roots words beside said =
     ((beside.words, said.are_words), (beside.host.io, said.io), (beside.host.mem, said.mem))
 
@@ -39,36 +39,36 @@ list_wants roots dump probe words (Unread (Probe fault)) is made = (is.1.0, inr 
 
 -- ---- what is read, below root buses of which the flags are kept
 
-said_below : (buses roots : List ℕ) (words : FaultsWords) (beside : Beside) → buses ≡ roots → IsSaidBy buses words beside → IsSaidBy roots words beside
-said_below buses roots words beside same said = subst (λ rs. IsSaidBy rs words beside) same said
+said_below : (buses roots : List ℕ) (words : FaultsWords) (beside : Beside) → buses ≡ roots → IsSaidByFaultsWords buses words beside → IsSaidByFaultsWords roots words beside
+said_below buses roots words beside same said = subst (λ rs. IsSaidByFaultsWords rs words beside) same said
 
 pub bad_word : (buses roots dump probe : List ℕ) (words : FaultsWords) (bad : FaultsWord) → buses ≡ roots → IsRootList roots
-    → IsNotSaid buses words (refusals.Fault bad) → IsNotListed roots dump probe words (refusals.Fault (BadWord bad))
+    → IsNotSaid buses words (refusals.Fault bad) → IsWhyNoFaultsListed roots dump probe words (refusals.Fault (BadWord bad))
 bad_word buses roots dump probe words bad same rising is = (rising, subst (λ rs. IsBadWord rs words bad) same is)
 
 pub word_want : (buses roots dump probe : List ℕ) (words : FaultsWords) → buses ≡ roots → IsRootList roots
-    → IsNotSaid buses words refusals.Memory → IsNotListed roots dump probe words refusals.Memory
+    → IsNotSaid buses words refusals.Memory → IsWhyNoFaultsListed roots dump probe words refusals.Memory
 word_want buses roots dump probe words same rising is = (rising, inl (subst (λ rs. IsWordWant rs words) same is))
 
 pub text_want : (buses roots dump probe : List ℕ) (words : FaultsWords) (beside : Beside) → buses ≡ roots → IsRootList roots
-    → IsSaidBy buses words beside → IsNotListed roots dump probe words refusals.Memory
+    → IsSaidByFaultsWords buses words beside → IsWhyNoFaultsListed roots dump probe words refusals.Memory
 text_want buses roots dump probe words beside same rising said =
     (rising, inr (have_meaning roots words beside (said_below buses roots words beside same said)))
 
 pub bad_dump : (buses roots dump probe : List ℕ) (words : FaultsWords) (beside : Beside) (fault : ReadFault) → buses ≡ roots → IsRootList roots
-    → IsSaidBy buses words beside → IsTextFault dump fault → IsNotListed roots dump probe words (refusals.Fault (Unread (Dump fault)))
+    → IsSaidByFaultsWords buses words beside → IsTextFault dump fault → IsWhyNoFaultsListed roots dump probe words (refusals.Fault (Unread (Dump fault)))
 bad_dump buses roots dump probe words beside fault same rising said is =
     (have_meaning roots words beside (said_below buses roots words beside same said), (rising, is))
 
 pub bad_probe : (buses roots dump probe : List ℕ) (words : FaultsWords) (beside : Beside) (listed : List Block) (fault : ReadFault) → buses ≡ roots
-    → IsRootList roots → IsSaidBy buses words beside → IsTextOf dump listed → IsTextFault probe fault
-    → IsNotListed roots dump probe words (refusals.Fault (Unread (Probe fault)))
+    → IsRootList roots → IsSaidByFaultsWords buses words beside → IsTextOf dump listed → IsTextFault probe fault
+    → IsWhyNoFaultsListed roots dump probe words (refusals.Fault (Unread (Probe fault)))
 bad_probe buses roots dump probe words beside listed fault same rising said text is =
     (have_meaning roots words beside (said_below buses roots words beside same said), (rising, (listed, text), is))
 
 pub are_listed : (buses roots dump probe : List ℕ) (words : FaultsWords) (beside : Beside) (why : Bool) (listed read_back : List Block) (answer : Answer)
-    → buses ≡ roots → IsRootList roots → IsSaidBy buses words beside → IsTextOf dump listed → IsTextOf probe read_back → why ≡ is_why words.why
-    → IsFaultsAnswer beside why listed read_back answer → AreListed roots dump probe words answer
+    → buses ≡ roots → IsRootList roots → IsSaidByFaultsWords buses words beside → IsTextOf dump listed → IsTextOf probe read_back → why ≡ is_why words.why
+    → IsFaultsAnswer beside why listed read_back answer → AreFaultsListed roots dump probe words answer
 are_listed buses roots dump probe words beside why listed read_back answer same rising said dump_text probe_text asked is = record {
   rising = rising;
   beside = beside;
@@ -88,22 +88,22 @@ no_remarks [] text answer is = ap (λ (a : Answer). a.remarks) is
 no_remarks (x ∷ rest) text answer is = ap (λ (a : Answer). a.remarks) is
 
 by_status : (roots dump probe : List ℕ) (words : FaultsWords) (refused : Bool) (text : List ℕ)
-    → AreListed roots dump probe words (record { status = if refused then 1 else 0; text = text; remarks = [] })
+    → AreFaultsListed roots dump probe words (record { status = if refused then 1 else 0; text = text; remarks = [] })
     → IsListing roots dump probe words (listing_of refused) text
 by_status roots dump probe words false text is = is
 by_status roots dump probe words true text is = is
 
 list_is : {A : Type 0} (roots dump probe : List ℕ) (words : FaultsWords) (reply : Reply A)
-    → AreListed roots dump probe words (answer_of reply)
+    → AreFaultsListed roots dump probe words (answer_of reply)
     → IsListing roots dump probe words (listing_of reply.refused) (answer_of reply).text
 list_is roots dump probe words reply is =
     let told = is.is.is.means.are in
     by_status roots dump probe words reply.refused (text_bytes reply.text)
-    (subst (λ remarks. AreListed roots dump probe words (record { status = if reply.refused then 1 else 0; text = text_bytes reply.text; remarks = remarks }))
+    (subst (λ remarks. AreFaultsListed roots dump probe words (record { status = if reply.refused then 1 else 0; text = text_bytes reply.text; remarks = remarks }))
     (no_remarks told.faults told.text (answer_of reply) told.line) is)
 
 pub list_put : {A : Type 0} (roots dump probe : List ℕ) (words : FaultsWords) (reply : Reply A) (old new : List ℕ) (listed : Listed)
-    → AreListed roots dump probe words (answer_of reply) → IsPutInto old new (answer_of reply).text
+    → AreFaultsListed roots dump probe words (answer_of reply) → IsPutInto old new (answer_of reply).text
     → (listed.listing ≡ listing_of reply.refused) × (listed.used ≡ length (answer_of reply).text)
     → IsTextPut (IsListing roots dump probe words listed.listing) old new listed.used
 list_put roots dump probe words reply old new listed is put told = record {
@@ -115,7 +115,7 @@ list_put roots dump probe words reply old new listed is put told = record {
 
 -- where it is put at all
 pub list_put_if : {A : Type 0} (roots dump probe : List ℕ) (words : FaultsWords) (reply : Reply A) (old new : List ℕ) (r : Result Listed Withheld)
-    → AreListed roots dump probe words (answer_of reply) → IfOk r (λ _. IsPutInto old new (answer_of reply).text)
+    → AreFaultsListed roots dump probe words (answer_of reply) → IfOk r (λ _. IsPutInto old new (answer_of reply).text)
     → IfOk r (λ listed. (listed.listing ≡ listing_of reply.refused) × (listed.used ≡ length (answer_of reply).text))
     → IfOk r (λ listed. IsTextPut (IsListing roots dump probe words listed.listing) old new listed.used)
 list_put_if roots dump probe words reply old new (Ok listed) is put told = list_put roots dump probe words reply old new listed is put told
@@ -130,7 +130,7 @@ no_message false why is = cc is
 no_message true why is = cc is
 
 pub list_too_long : {A : Type 0} (roots dump probe : List ℕ) (words : FaultsWords) (reply : Reply A) (bytes : List ℕ) (held : Withheld)
-    → AreListed roots dump probe words (answer_of reply)
+    → AreFaultsListed roots dump probe words (answer_of reply)
     → (held ≡ NoRoom (length (answer_of reply).text)) × (length bytes < length (answer_of reply).text)
     → (needed : ℕ) → held ≡ NoRoom needed → IsListingTooLong roots dump probe words bytes needed
 list_too_long roots dump probe words reply bytes held is longer needed named =

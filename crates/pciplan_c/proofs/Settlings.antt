@@ -5,7 +5,7 @@ use Rattle.pci_spec.specs.Machine as spec
 use Rattle.pci_spec.specs.Sound.{IsSound}
 use Rattle.settle_spec.specs.Sparing.{without_slots}
 use Rattle.pci_base.specs.declared.memory.Refused.TheVariants as refused
-use Rattle.pci_faults.specs.Every.{AreReady}
+use Rattle.pci_faults.specs.Every.{AreReadyForJudging}
 use Rattle.pci_tree.specs.Admission.{Admission, IsAdmitted}
 use Rattle.pci_place.specs.Above.{system_in}
 use Rattle.pci_plan.specs.Writes.{write_value}
@@ -23,8 +23,8 @@ use Rattle.pciplan_c.specs.declared.register_write.RegisterWrite.{RegisterWrite}
 use Rattle.pciplan_c.specs.declared.unread.Unread.{Unread}
 use Rattle.pciplan_c.specs.declared.unread.Unread.TheVariants as unread
 use Rattle.pciplan_c.specs.DeniedSpares.{denied_value_of}
-use Rattle.pciplan_c.specs.SettleWords.{HaveMeaning, IsAskedBy, IsRequestOf, said_demand, said_of}
-use Rattle.pciplan_c.specs.SettleAnswers.{asked_request, AreSettled, IsAskedWith, IsNotSettled, IsSettledBy, IsSettleSafeFrom, IsUnreadBehind}
+use Rattle.pciplan_c.specs.SettleWords.{HaveSettleMeaning, IsAskedBy, IsRequestOfWords, said_demand, said_of_asked}
+use Rattle.pciplan_c.specs.SettleAnswers.{asked_request, AreSettled, IsAskedWith, IsNotSettled, IsSettledAsAsked, IsSettleSafeFrom, IsUnreadBehind}
 use Rattle.pciplan_c.specs.declared.denied_spare.DeniedSpare.{DeniedSpare}
 use Rattle.pciplan_c.specs.declared.ending.HeldBack.{HeldBack}
 use Rattle.pciplan_c.specs.declared.ending.HeldBack.TheVariants as held_back
@@ -38,8 +38,8 @@ use Rattle.pciplan_c.proofs.Wants.{said_meaning}
 
 -- ---- why the texts aren't admitted, where the words have a meaning
 
-pub have_meaning : {A : Type 0} (words : SettleWords) (asked : Asked A) → IsAskedBy words asked → HaveMeaning words
-have_meaning words asked by = said_meaning words (said_of asked) by.said
+pub have_meaning : {A : Type 0} (words : SettleWords) (asked : Asked A) → IsAskedBy words asked → HaveSettleMeaning words
+have_meaning words asked by = said_meaning words (said_of_asked asked) by.said
 
 pub unread_behind : {A : Type 0} (roots dump probe : List ℕ) (words : SettleWords) (asked : Asked A) (why : Unread)
     → IsAskedWith roots dump probe words asked → IsUnreadOf roots dump probe why → IsUnreadBehind roots dump probe words why
@@ -53,13 +53,13 @@ unread_behind roots dump probe words asked (unread.NotAdmitted fault) asks is =
 
 -- words that were read ask for this
 request_of_words : {A : Type 0} (roots dump probe : List ℕ) (a : Admission) (words : SettleWords) (asked : Asked A) → IsAskedWith roots dump probe words asked
-    → IsRequestOf a.roots a.dump words (asked_request a asked)
+    → IsRequestOfWords a.roots a.dump words (asked_request a asked)
 request_of_words roots dump probe a words asked asks = record {
-  said = said_of asked;
+  said = said_of_asked asked;
   are = asks.by.said;
   told = asked.told;
   told_text = asks.told.text;
-  is = ap (λ anew. request a.roots (said_demand (said_of asked) asked.told a.dump) asked.fixed.items anew) asks.by.anew;
+  is = ap (λ anew. request a.roots (said_demand (said_of_asked asked) asked.told a.dump) asked.fixed.items anew) asks.by.anew;
 }
 
 -- the two are ready to be judged with what is told
@@ -67,7 +67,7 @@ ready_as_told : {A : Type 0} (roots dump probe : List ℕ) (a : Admission) (word
     → IsAskedWith roots dump probe words asked → IsReadyAsTold (asked_request a asked).told a.roots a.dump a.probe
 ready_as_told roots dump probe a words asked texts asks = elim asks.told.ready [
   | inl none ↦ inl none
-  | inr ready ↦ inr (subst (λ buses. AreReady (told_ranges asked.told) buses a.dump a.probe) (sym texts.buses)
+  | inr ready ↦ inr (subst (λ buses. AreReadyForJudging (told_ranges asked.told) buses a.dump a.probe) (sym texts.buses)
       (ready_with roots dump probe asked.told a.dump a.probe texts.dump_text texts.probe_text ready))
 ]
 
@@ -84,7 +84,7 @@ stops_from a closing safe_from made (inr none) stops k past = let all = none.1 i
 
 module _ {A : Type 0} (roots dump probe : List ℕ) (words : SettleWords) (asked : Asked A) (a : Admission) (texts : AreTexts roots dump probe a)
     (admitted : IsAdmitted a) (asks : IsAskedWith roots dump probe words asked) where
-  pub are_settled : {B : Type 0} (settled : SettledOfCode B) → IsSettledBy a asked settled → (denied : List DeniedSpare) (items : List RegisterWrite) (safe_from : ℕ)
+  pub are_settled : {B : Type 0} (settled : SettledOfCode B) → IsSettledAsAsked a asked settled → (denied : List DeniedSpare) (items : List RegisterWrite) (safe_from : ℕ)
       → IsSettleSafeFrom a settled.writes.closings safe_from → map denied_value_of denied ≡ map denied_value settled.denied.items
       → map write_value_of items ≡ map write_value settled.writes.all.items → AreSettled roots dump probe words denied items safe_from
   are_settled settled is denied items safe_from safe spares are = record {

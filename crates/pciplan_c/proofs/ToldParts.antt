@@ -18,13 +18,13 @@ use Rattle.judge_spec.specs.ToldText.{told_text}
 use Rattle.judge_spec.proofs.DeterminedTexts.{same_slots}
 use Rattle.pci_function.specs.declared.fault.Fault as code
 use Rattle.pci_function.specs.Fault.{fault_of}
-use Rattle.pci_faults.specs.Every.{AreBefore, AreReady}
+use Rattle.pci_faults.specs.Every.{AreBefore, AreReadyForJudging}
 use Rattle.pciplan_c.specs.Texts.{IsNotAdmitted}
 use Rattle.pciplan_c.specs.declared.refusal.Refusal.TheVariants.{Root, Dump, Probe}
 use Rattle.pciplan_c.specs.declared.unread.Unread.TheVariants as unread
 use Rattle.pciplan_c.specs.SettleAnswers.{IsAskedWith, IsNoSettlingOf}
-use Rattle.pciplan_c.specs.SettleWords.{HaveMeaning, IsAskedBy, asked_with_told}
-use Rattle.pciplan_c.specs.ToldTexts.{AreReadyTexts, AreTold, IsEarlyFirst, IsUntold, told_ranges}
+use Rattle.pciplan_c.specs.SettleWords.{HaveSettleMeaning, IsAskedBy, asked_with_told}
+use Rattle.pciplan_c.specs.ToldTexts.{AreReadyTexts, AreRangesTold, IsEarlyFirst, IsWhyNoRangesTold, told_ranges}
 use Rattle.pciplan_c.specs.declared.no_writes.NoWrites.{NoWrites}
 use Rattle.pciplan_c.specs.declared.no_writes.NoWrites.TheVariants.{BadWord, Unread, Also, NotReady, NotPlanned, NotSettled}
 use Rattle.pciplan_c.specs.declared.settle_words.Asked.{Asked}
@@ -69,10 +69,10 @@ one_dump : (bytes : List ℕ) (blocks others : List Block) → IsTextOf bytes bl
 one_dump bytes blocks others h k = text_same blocks others h.0.each k.0.each (sym h.1 ∙ k.1)
 
 pub ready_with : (roots dump probe : List ℕ) (told : List ToldRange) (listed read_back : List Block) → IsTextOf dump listed → IsTextOf probe read_back
-    → AreReadyTexts roots dump probe told → AreReady (told_ranges told) roots listed read_back
+    → AreReadyTexts roots dump probe told → AreReadyForJudging (told_ranges told) roots listed read_back
 ready_with roots dump probe told listed read_back of_dump of_probe ready =
-    subst (λ blocks. AreReady (told_ranges told) roots blocks read_back) (one_dump dump ready.listed listed ready.dump_text of_dump)
-    (subst (λ blocks. AreReady (told_ranges told) roots ready.listed blocks) (one_dump probe ready.read_back read_back ready.probe_text of_probe) ready.ready)
+    subst (λ blocks. AreReadyForJudging (told_ranges told) roots blocks read_back) (one_dump dump ready.listed listed ready.dump_text of_dump)
+    (subst (λ blocks. AreReadyForJudging (told_ranges told) roots ready.listed blocks) (one_dump probe ready.read_back read_back ready.probe_text of_probe) ready.ready)
 
 early_is_there : (told : Told) (roots : List ℕ) (dump probe : List Block) (fault : plain.Fault) → IsThere roots dump probe fault → IsEarlyThere told roots dump probe fault
 early_is_there told roots dump probe fault = elim fault as (λ fault. IsThere roots dump probe fault → IsEarlyThere told roots dump probe fault) [
@@ -86,7 +86,7 @@ before_judging (Clash bus space address first first_register second second_regis
 before_judging (Split space address first first_register second second_register) low = omega (arith, low)
 before_judging _ low = omega arith
 
-pub none_also : (roots dump probe also : List ℕ) (told : List ToldRange) (fault : code.Fault) → AreTold roots dump probe also told
+pub none_also : (roots dump probe also : List ℕ) (told : List ToldRange) (fault : code.Fault) → AreRangesTold roots dump probe also told
     → IsNotAdmitted roots dump probe fault → also ≡ []
 none_also roots dump probe also told fault are has = elim are.ready [
   | inl none ↦ are.text.1 ∙ ap told_text none
@@ -97,14 +97,14 @@ none_also roots dump probe also told fault are has = elim are.ready [
 -- ---- what is told where words have a meaning
 
 pub asked_with : {A : Type 0} (roots dump probe : List ℕ) (words : SettleWords) (asked : Asked A) (told : List ToldRange) → IsAskedBy words asked
-    → AreTold roots dump probe words.also.now told → IsAskedWith roots dump probe words (asked_with_told asked told)
+    → AreRangesTold roots dump probe words.also.now told → IsAskedWith roots dump probe words (asked_with_told asked told)
 asked_with roots dump probe words asked told by are = record {
   by = record { said = by.said; anew = by.anew };
   told = are;
 }
 
-pub untold_settling : (roots dump probe : List ℕ) (words : SettleWords) (why : NoWrites) → HaveMeaning words
-    → IsUntold roots dump probe words.also.now why → IsNoSettlingOf roots dump probe words why
+pub untold_settling : (roots dump probe : List ℕ) (words : SettleWords) (why : NoWrites) → HaveSettleMeaning words
+    → IsWhyNoRangesTold roots dump probe words.also.now why → IsNoSettlingOf roots dump probe words why
 untold_settling roots dump probe words (BadWord bad) said is = absurd is
 untold_settling roots dump probe words (Unread (unread.Refused Root)) said is = is
 untold_settling roots dump probe words (Unread (unread.Refused (Dump fault))) said is = (said, is)

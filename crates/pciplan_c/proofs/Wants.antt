@@ -10,7 +10,7 @@ use Rattle.pciplan_c.specs.Answers.{IsTooLong}
 use Rattle.pciplan_c.specs.NoWrites.{IsMade}
 use Rattle.pciplan_c.specs.PlanAnswers.{IsNoPlanOf}
 use Rattle.pciplan_c.specs.SettleAnswers.{IsNoSettlingOf, MayWant}
-use Rattle.pciplan_c.specs.SettleWords.{AreSaid, HaveMeaning, Said}
+use Rattle.pciplan_c.specs.SettleWords.{AreSaid, HaveSettleMeaning, Said}
 use Rattle.pciplan_c.specs.declared.answer.Answer.TheVariants.{Refused}
 use Rattle.pciplan_c.specs.declared.no_writes.NoWrites.{NoWrites}
 use Rattle.pciplan_c.specs.declared.no_writes.NoWrites.TheVariants.{BadWord, Unread, Also, NotReady, NotPlanned, NotSettled}
@@ -48,7 +48,7 @@ plan_wants roots dump probe pools (NotReady why) is made = absurd is
 plan_wants roots dump probe pools (NotPlanned fault) is made = is.texts.rising
 plan_wants roots dump probe pools (NotSettled fault) is made = absurd is
 
-pub said_meaning : (words : SettleWords) (said : Said) → AreSaid words said → HaveMeaning words
+pub said_meaning : (words : SettleWords) (said : Said) → AreSaid words said → HaveSettleMeaning words
 said_meaning words said are = (
   ((said.io, are.io_list), (said.mem, are.mem_list), (said.pref, are.pref_list), (said.fixed, are.fixed_slots)),
   (said.spares, are.spares),

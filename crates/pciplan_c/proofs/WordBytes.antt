@@ -19,8 +19,8 @@ use Rattle.pciplan_lists.specs.PoolWords.{IsAddressWord, IsPoolWord}
 use Rattle.pciplan_lists.specs.ListWords.{IsListWord, IsRangeWord, bus_text}
 use Rattle.pciplan_lists.specs.ModelWords.{IsModelWord, IsNameWord}
 use Rattle.pciplan_lists.specs.SlotWords.{IsSlotWord}
-use Rattle.pciplan_lists.specs.SpareWords.{Wanted, IsWantedWord, size_of, said}
-use Rattle.pciplan_c.specs.FaultsWords.{HasNoRanges, HasNoWords}
+use Rattle.pciplan_lists.specs.SpareWords.{Wanted, IsWantedWord, wanted_size, said}
+use Rattle.pciplan_c.specs.FaultsWords.{HasNoHostRanges, HasNoModelWords}
 use Rattle.pciplan_c.specs.SettleWords.{HasNoHotPlugSlots, HasNoList, HasNoSlots, HasNoSpares}
 
 one : (byte : ℕ) → byte < 128 → IsAscii (byte ∷ [])
@@ -109,7 +109,7 @@ class_utf8 PrefetchWindow =
 wanted_utf8 : (word : List ℕ) (w : Wanted) → IsWantedWord word w → IsUtf8 word
 wanted_utf8 word w is = subst (λ t. IsUtf8 t) (sym is.text)
     (IsUtf8-append (window_name w.class) (58 ∷ is.digits) (class_utf8 w.class)
-    (before 58 is.digits (omega arith) (address_utf8 is.digits (size_of w) is.size)))
+    (before 58 is.digits (omega arith) (address_utf8 is.digits (wanted_size w) is.size)))
 
 -- ---- words by which functions are taken
 
@@ -164,16 +164,16 @@ no_hot_plug_slots (first ∷ rest) (byte ∷ more) other None is = is
 no_hot_plug_slots (first ∷ rest) (byte ∷ more) other (Some slots) is =
     other (behind_utf8 IsSlotWord slot_utf8 (byte ∷ more) slots is.joined)
 
-pub no_words : (word : List ℕ) → (IsUtf8 word → ⊥) → HasNoWords word
+pub no_words : (word : List ℕ) → (IsUtf8 word → ⊥) → HasNoModelWords word
 no_words [] other = other IsUtf8-nil
 no_words (byte ∷ more) other = λ words is. other (model_utf8 (byte ∷ more) words is)
 
 -- a word that has a byte, and is read as no words
 pub none_read : (word text : List ℕ) (empty : Bool) → empty ≡ (length word == 0) → empty ≡ false → text ≡ word
-    → ((words : Words) → IsModelWord text words → ⊥) → HasNoWords word
+    → ((words : Words) → IsModelWord text words → ⊥) → HasNoModelWords word
 none_read [] text empty is some same none = absurd (cc (is, some))
 none_read (byte ∷ more) text empty is some same none = λ words named. none words (subst (λ t. IsModelWord t words) (sym same) named)
 
-pub no_ranges : (word roots : List ℕ) → (IsUtf8 word → ⊥) → HasNoRanges word roots
+pub no_ranges : (word roots : List ℕ) → (IsUtf8 word → ⊥) → HasNoHostRanges word roots
 no_ranges [] roots other = other IsUtf8-nil
 no_ranges (byte ∷ more) roots other = λ list is good. other (list_utf8 (byte ∷ more) list is)

@@ -13,7 +13,7 @@ use Rattle.pciplan_c.specs.declared.ending.NotPut.{NotPut}
 use Rattle.pciplan_c.specs.declared.ending.NotPut.TheVariants as not_put
 
 -- the writes stand at the front of the array
-pub record ArePut (AreSo : List RegisterWrite → ℕ → Type 0) (old new : List RegisterWrite)
+pub record AreWritesPutInFront (AreSo : List RegisterWrite → ℕ → Type 0) (old new : List RegisterWrite)
     (count safe_from : ℕ) : Type 0 where
   pub writes : List RegisterWrite
   pub so : AreSo writes safe_from
@@ -30,11 +30,11 @@ pub record AreTooMany (AreSo : List RegisterWrite → ℕ → Type 0) (array : L
   pub more : length array < needed
 
 -- why no writes are put
-abbrev pub IsNotPut : (List RegisterWrite → ℕ → Type 0) → (NoWrites → Type 0) → List RegisterWrite
+abbrev pub IsWhyNoWritesPut : (List RegisterWrite → ℕ → Type 0) → (NoWrites → Type 0) → List RegisterWrite
     → NotPut → Type 0
-IsNotPut AreSo IsWhy array (not_put.NoWrites why) = IsWhy why
-IsNotPut AreSo IsWhy array not_put.Memory = Unit {0}
-IsNotPut AreSo IsWhy array (not_put.Writes needed) = AreTooMany AreSo array needed
+IsWhyNoWritesPut AreSo IsWhy array (not_put.NoWrites why) = IsWhy why
+IsWhyNoWritesPut AreSo IsWhy array not_put.Memory = Unit {0}
+IsWhyNoWritesPut AreSo IsWhy array (not_put.Writes needed) = AreTooMany AreSo array needed
 
 -- why there are none stands at the front of the line
 pub record IsNoneTold (IsWhy : NoWrites → Type 0) (status : ℕ) (old new : List ℕ)
@@ -53,9 +53,9 @@ pub record IsNoneTooLong (IsWhy : NoWrites → Type 0) (line : List ℕ) (needed
   pub more : length line < needed
 
 -- this is told
-abbrev pub IsToldOf : NoWrites → List ℕ → List ℕ → Ending → Type 0
-IsToldOf why old new (ends.Writes count safe_from) = ⊥
-IsToldOf why old new (ends.NoWrites told used) =
+abbrev pub IsReasonTold : NoWrites → List ℕ → List ℕ → Ending → Type 0
+IsReasonTold why old new (ends.Writes count safe_from) = ⊥
+IsReasonTold why old new (ends.NoWrites told used) =
     (told ≡ why) × IsPutInto old new (no_writes_text why) × (used ≡ length (no_writes_text why))
 
 -- this is too long
@@ -77,7 +77,7 @@ lent array line = record { array = array; line = line }
 abbrev pub IsEnding : (List RegisterWrite → ℕ → Type 0) → (NoWrites → Type 0) → Lent → Lent → Ending
     → Type 0
 IsEnding AreSo IsWhy old new (ends.Writes count safe_from) =
-    ArePut AreSo old.array new.array count safe_from × (new.line ≡ old.line)
+    AreWritesPutInFront AreSo old.array new.array count safe_from × (new.line ≡ old.line)
 IsEnding AreSo IsWhy old new (ends.NoWrites why used) =
     IsNoneTold IsWhy (no_writes_status why) old.line new.line used × (new.array ≡ old.array)
 

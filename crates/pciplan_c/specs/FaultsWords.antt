@@ -9,7 +9,7 @@ use Rattle.pci_model.specs.WordsValue.{words_value}
 use Rattle.pci_model.specs.declared.words.Words.{Words}
 use Rattle.pci_tree.specs.Roots.{buses_of}
 use Rattle.pciplan_lists.specs.HostLists.{IsGoodHostList}
-use Rattle.pciplan_lists.specs.ListWords.{HasRanges, IsListWord}
+use Rattle.pciplan_lists.specs.ListWords.{HasListedRanges, IsListWord}
 use Rattle.pciplan_lists.specs.ModelWords.{IsModelWord}
 use Rattle.pciplan_tasks.specs.declared.task.Also.TheVariants.{Told}
 use Rattle.pciplan_tasks.specs.declared.task.Beside.{Beside}
@@ -39,7 +39,7 @@ AreRangesBy (byte ∷ more) roots (Some list) =
     IsListWord (byte ∷ more) list.items × IsGoodHostList roots list.items
 
 -- below these roots the words say this; no third text is read
-pub record IsSaidBy (roots : List ℕ) (words : FaultsWords) (said : Beside) : Type 0 where
+pub record IsSaidByFaultsWords (roots : List ℕ) (words : FaultsWords) (said : Beside) : Type 0 where
   pub are_roots : buses_of said.roots ≡ roots
   pub are_words : AreWordsBy words.model.now said.words
   pub io : AreRangesBy words.host_io.now roots said.host.io
@@ -48,13 +48,13 @@ pub record IsSaidBy (roots : List ℕ) (words : FaultsWords) (said : Beside) : T
 
 -- ---- the first word that has no meaning
 
-abbrev pub HasNoWords : List ℕ → Type 0
-HasNoWords [] = ⊥
-HasNoWords (byte ∷ more) = (words : model.Words) → IsModelWord (byte ∷ more) words → ⊥
+abbrev pub HasNoModelWords : List ℕ → Type 0
+HasNoModelWords [] = ⊥
+HasNoModelWords (byte ∷ more) = (words : model.Words) → IsModelWord (byte ∷ more) words → ⊥
 
-abbrev pub HasNoRanges : List ℕ → List ℕ → Type 0
-HasNoRanges [] roots = ⊥
-HasNoRanges (byte ∷ more) roots =
+abbrev pub HasNoHostRanges : List ℕ → List ℕ → Type 0
+HasNoHostRanges [] roots = ⊥
+HasNoHostRanges (byte ∷ more) roots =
     (list : List RootRange) → IsListWord (byte ∷ more) list → IsGoodHostList roots list → ⊥
 
 abbrev pub HasWords : List ℕ → Type 0
@@ -65,11 +65,11 @@ HasHostRanges word roots = (ranges : Option (Vec RootRange)) × AreRangesBy word
 
 -- they are looked at in this order
 abbrev pub IsBadWord : List ℕ → FaultsWords → FaultsWord → Type 0
-IsBadWord roots words Model = HasNoWords words.model.now
-IsBadWord roots words HostIo = HasWords words.model.now × HasNoRanges words.host_io.now roots
+IsBadWord roots words Model = HasNoModelWords words.model.now
+IsBadWord roots words HostIo = HasWords words.model.now × HasNoHostRanges words.host_io.now roots
 IsBadWord roots words HostMem =
     HasWords words.model.now × HasHostRanges words.host_io.now roots
-    × HasNoRanges words.host_mem.now roots
+    × HasNoHostRanges words.host_mem.now roots
 
 -- all words have a meaning
 abbrev pub HaveMeaning : List ℕ → FaultsWords → Type 0
@@ -81,15 +81,15 @@ HaveMeaning roots words =
 
 -- a list has no meaning, or a growth was refused for its ranges
 abbrev pub IsNoRanges : FaultsWord → List ℕ → List ℕ → Refused FaultsWord → Type 0
-IsNoRanges named word roots (refused.Fault bad) = (bad ≡ named) × HasNoRanges word roots
-IsNoRanges named word roots refused.Memory = HasRanges word
+IsNoRanges named word roots (refused.Fault bad) = (bad ≡ named) × HasNoHostRanges word roots
+IsNoRanges named word roots refused.Memory = HasListedRanges word
 
 -- a growth was refused for what a word spells: those before it have a meaning
 abbrev pub IsWordWant : List ℕ → FaultsWords → Type 0
 IsWordWant roots words =
     HasWords words.model.now
-    × (HasRanges words.host_io.now
-    ⊎ (HasHostRanges words.host_io.now roots × HasRanges words.host_mem.now))
+    × (HasListedRanges words.host_io.now
+    ⊎ (HasHostRanges words.host_io.now roots × HasListedRanges words.host_mem.now))
 
 abbrev pub IsNotSaid : List ℕ → FaultsWords → Refused FaultsWord → Type 0
 IsNotSaid roots words (refused.Fault bad) = IsBadWord roots words bad

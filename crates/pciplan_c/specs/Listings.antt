@@ -11,7 +11,7 @@ use Rattle.pciplan_c.specs.declared.refusal.Refusal.{Refusal}
 use Rattle.pciplan_c.specs.declared.refusal.Refusal.TheVariants.{Root}
 use Rattle.pci_base.specs.declared.memory.Refused.{Refused as RefusedOf}
 use Rattle.pci_base.specs.declared.memory.Refused.TheVariants as refusals
-use Rattle.pciplan_c.specs.FaultsWords.{HaveMeaning, IsBadWord, IsSaidBy, IsWordWant}
+use Rattle.pciplan_c.specs.FaultsWords.{HaveMeaning, IsBadWord, IsSaidByFaultsWords, IsWordWant}
 use Rattle.pciplan_c.specs.NoLists.{no_list_text}
 use Rattle.pciplan_c.specs.declared.faults_words.FaultsWords.{FaultsWords}
 use Rattle.pciplan_c.specs.declared.listing.Listing.{Listing}
@@ -24,11 +24,11 @@ abbrev pub is_why : ℕ → Bool
 is_why why = not (why == 0)
 
 -- `faults` answers this to the two texts, with what the words say beside them
-pub record AreListed (roots dump probe : List ℕ) (words : FaultsWords)
+pub record AreFaultsListed (roots dump probe : List ℕ) (words : FaultsWords)
     (answer : Answer) : Type 0 where
   pub rising : IsRootList roots
   pub beside : Beside
-  pub said : IsSaidBy roots words beside
+  pub said : IsSaidByFaultsWords roots words beside
   pub listed : List Block
   pub read_back : List Block
   pub dump_text : IsTextOf dump listed
@@ -49,8 +49,8 @@ IsNoListOf roots dump probe words (Unread refusal) =
 
 -- what is answered, with its text: the list that `faults` prints at status 0 or 1, or the message
 abbrev pub IsListing : List ℕ → List ℕ → List ℕ → FaultsWords → Listing → List ℕ → Type 0
-IsListing roots dump probe words Sound text = AreListed roots dump probe words (done text)
-IsListing roots dump probe words Faults text = AreListed roots dump probe words (refused text)
+IsListing roots dump probe words Sound text = AreFaultsListed roots dump probe words (done text)
+IsListing roots dump probe words Faults text = AreFaultsListed roots dump probe words (refused text)
 IsListing roots dump probe words (Refused why) text =
     IsNoListOf roots dump probe words why × (text ≡ no_list_text why)
 
@@ -80,6 +80,6 @@ abbrev pub MayWantToList : List ℕ → FaultsWords → Type 0
 MayWantToList roots words = IsRootList roots × (IsWordWant roots words ⊎ HaveMeaning roots words)
 
 -- why nothing is listed
-abbrev pub IsNotListed : List ℕ → List ℕ → List ℕ → FaultsWords → RefusedOf NoList → Type 0
-IsNotListed roots dump probe words (refusals.Fault why) = IsNoListOf roots dump probe words why
-IsNotListed roots dump probe words refusals.Memory = MayWantToList roots words
+abbrev pub IsWhyNoFaultsListed : List ℕ → List ℕ → List ℕ → FaultsWords → RefusedOf NoList → Type 0
+IsWhyNoFaultsListed roots dump probe words (refusals.Fault why) = IsNoListOf roots dump probe words why
+IsWhyNoFaultsListed roots dump probe words refusals.Memory = MayWantToList roots words

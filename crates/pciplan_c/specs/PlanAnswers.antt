@@ -39,7 +39,7 @@ IsNoPlanOf roots dump probe pools (NotPlanned fault) = IsNotPlanned roots dump p
 IsNoPlanOf roots dump probe pools (NotSettled fault) = ⊥
 
 -- these are the writes of a plan of the two texts, which are admitted
-pub record ArePlanned (roots dump probe : List ℕ) (pools : plan.Pools) (writes : List RegisterWrite)
+pub record AreWritesOfPlan (roots dump probe : List ℕ) (pools : plan.Pools) (writes : List RegisterWrite)
     (safe_from : ℕ) : Type 0 where
   pub start : Admission
   pub texts : AreTexts roots dump probe start

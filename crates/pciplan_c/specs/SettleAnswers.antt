@@ -25,9 +25,9 @@ use Rattle.pciplan_c.specs.declared.unread.Unread.TheVariants as unread
 use Rattle.pciplan_c.specs.Puts.{IsPutInto}
 use Rattle.pciplan_tasks.specs.SettleAnswers.{IsReadyAsTold}
 use Rattle.pciplan_c.specs.DeniedSpares.{denied_value_of}
-use Rattle.pciplan_c.specs.Endings.{ArePut, IsHeldBack, IsNotPut}
-use Rattle.pciplan_c.specs.SettleWords.{said_demand, said_of, IsAskedBy, IsRequestOf, IsBadWord, IsWordWant, HaveMeaning}
-use Rattle.pciplan_c.specs.ToldTexts.{AreTold, IsAlsoFault, IsNotReady}
+use Rattle.pciplan_c.specs.Endings.{AreWritesPutInFront, IsHeldBack, IsWhyNoWritesPut}
+use Rattle.pciplan_c.specs.SettleWords.{said_demand, said_of_asked, IsAskedBy, IsRequestOfWords, IsBadSettleWord, IsSettleWordWant, HaveSettleMeaning}
+use Rattle.pciplan_c.specs.ToldTexts.{AreRangesTold, IsThirdTextFault, IsUnreadyOfTexts}
 use Rattle.pciplan_c.specs.declared.denied_spare.DeniedSpare.{DeniedSpare}
 use Rattle.pciplan_c.specs.declared.ending.Ending.{Ending}
 use Rattle.pciplan_c.specs.declared.ending.Ending.TheVariants as ends
@@ -62,16 +62,16 @@ pub record AreWritesFor (q : Request) (a : Admission) (denied : List DeniedSpare
 -- what is asked for, as it was read
 abbrev pub asked_request : {A : Type 0} → Admission → Asked A → Request
 asked_request a asked =
-    request a.roots (said_demand (said_of asked) asked.told a.dump) asked.fixed.items asked.anew
+    request a.roots (said_demand (said_of_asked asked) asked.told a.dump) asked.fixed.items asked.anew
 
 -- the words ask for it, and the text of the ranges that are told was read beside the two
 pub record IsAskedWith {A : Type 0} (roots dump probe : List ℕ) (words : SettleWords)
     (asked : Asked A) : Type 0 where
   pub by : IsAskedBy words asked
-  pub told : AreTold roots dump probe words.also.now asked.told
+  pub told : AreRangesTold roots dump probe words.also.now asked.told
 
 -- what settling what is admitted comes to, as this is asked for
-pub record IsSettledBy {A B : Type 0} (a : Admission) (asked : Asked A)
+pub record IsSettledAsAsked {A B : Type 0} (a : Admission) (asked : Asked A)
     (settled : SettledOfCode B) : Type 0 where
   pub sized : HasNoAssumed a
   pub is : IsSpared (asked_request a asked) a settled.dump
@@ -89,7 +89,7 @@ pub record AreSettled (roots dump probe : List ℕ) (words : SettleWords) (denie
   pub texts : AreTexts roots dump probe start
   pub admitted : IsAdmitted start
   pub request : Request
-  pub asked : IsRequestOf start.roots start.dump words request
+  pub asked : IsRequestOfWords start.roots start.dump words request
   pub ready : IsReadyAsTold request.told start.roots start.dump start.probe
   pub are : AreWritesFor request start denied writes safe_from
 
@@ -106,7 +106,7 @@ pub record IsNotSettled (roots dump probe : List ℕ) (words : SettleWords)
   pub texts : AreTexts roots dump probe start
   pub admitted : IsAdmitted start
   pub request : Request
-  pub asked : IsRequestOf start.roots start.dump words request
+  pub asked : IsRequestOfWords start.roots start.dump words request
   pub ready : IsReadyAsTold request.told start.roots start.dump start.probe
   pub stands : IsRefusal start (without_slots request) (refused.Fault fault)
 
@@ -116,26 +116,26 @@ abbrev pub IsUnreadBehind : List ℕ → List ℕ → List ℕ → SettleWords �
 IsUnreadBehind roots dump probe words (unread.Refused Root) =
     IsUnreadOf roots dump probe (unread.Refused Root)
 IsUnreadBehind roots dump probe words (unread.NotAdmitted fault) =
-    HaveMeaning words × IsUnreadOf roots dump probe (unread.NotAdmitted fault)
+    HaveSettleMeaning words × IsUnreadOf roots dump probe (unread.NotAdmitted fault)
     × (words.also.now ≡ [])
-IsUnreadBehind roots dump probe words other = HaveMeaning words × IsUnreadOf roots dump probe other
+IsUnreadBehind roots dump probe words other = HaveSettleMeaning words × IsUnreadOf roots dump probe other
 
 -- why nothing is settled
 abbrev pub IsNoSettlingOf : List ℕ → List ℕ → List ℕ → SettleWords → NoWrites → Type 0
-IsNoSettlingOf roots dump probe words (BadWord bad) = IsRootList roots × IsBadWord words bad
+IsNoSettlingOf roots dump probe words (BadWord bad) = IsRootList roots × IsBadSettleWord words bad
 IsNoSettlingOf roots dump probe words (Unread unread) =
     IsUnreadBehind roots dump probe words unread
 IsNoSettlingOf roots dump probe words (Also fault) =
-    HaveMeaning words × IsAlsoFault roots dump probe words.also.now fault
+    HaveSettleMeaning words × IsThirdTextFault roots dump probe words.also.now fault
 IsNoSettlingOf roots dump probe words (NotReady why) =
-    HaveMeaning words × IsNotReady roots dump probe words.also.now why
+    HaveSettleMeaning words × IsUnreadyOfTexts roots dump probe words.also.now why
 IsNoSettlingOf roots dump probe words (NotPlanned fault) = ⊥
 IsNoSettlingOf roots dump probe words (NotSettled fault) =
     IsNotSettled roots dump probe words fault
 
 -- where memory may be wanted: the root list is one, and what a word spells takes memory or all words have a meaning
 abbrev pub MayWant : List ℕ → SettleWords → Type 0
-MayWant roots words = IsRootList roots × (IsWordWant words ⊎ HaveMeaning words)
+MayWant roots words = IsRootList roots × (IsSettleWordWant words ⊎ HaveSettleMeaning words)
 
 -- why it isn't known what is asked for
 abbrev pub IsNotAskedWith : List ℕ → List ℕ → List ℕ → SettleWords → Refused NoWrites → Type 0
@@ -158,7 +158,7 @@ pub record AreAllPut (roots dump probe : List ℕ) (words : SettleWords) (old ne
   pub denied : List DeniedSpare
   pub put : IsPutInto old.denied new.denied denied
   pub number : count_denied ≡ length denied
-  pub writes : ArePut (AreSettled roots dump probe words denied) old.writes new.writes count safe_from
+  pub writes : AreWritesPutInFront (AreSettled roots dump probe words denied) old.writes new.writes count safe_from
 
 -- these windows are more than the array has room for
 pub record AreTooManyDenied (roots dump probe : List ℕ) (words : SettleWords)
@@ -173,7 +173,7 @@ pub record AreTooManyDenied (roots dump probe : List ℕ) (words : SettleWords)
 -- why no writes are put
 abbrev pub IsUnput : List ℕ → List ℕ → List ℕ → SettleWords → Arrays → Unput → Type 0
 IsUnput roots dump probe words old (unput.NotPut why) =
-    IsNotPut (AreSettledSome roots dump probe words) (IsNoSettlingOf roots dump probe words) old.writes
+    IsWhyNoWritesPut (AreSettledSome roots dump probe words) (IsNoSettlingOf roots dump probe words) old.writes
     why
 IsUnput roots dump probe words old (unput.Denied needed) =
     AreTooManyDenied roots dump probe words old.denied needed

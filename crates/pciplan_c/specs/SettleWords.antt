@@ -13,7 +13,7 @@ use Rattle.pci_base.specs.declared.window_kind.ByKind.{ByKind}
 use Rattle.pci_first_fit.specs.Lists.{root_range_value}
 use Rattle.pci_first_fit.specs.Slots.{Demand}
 use Rattle.pci_settle.specs.Requests.{request}
-use Rattle.pciplan_lists.specs.ListWords.{HasRanges, IsListWord}
+use Rattle.pciplan_lists.specs.ListWords.{HasListedRanges, IsListWord}
 use Rattle.pciplan_lists.specs.SlotWords.{IsSlotList as SpellsSlots, IsSlotListWord}
 use Rattle.pciplan_lists.specs.SpareWords.{IsSpareWord}
 use Rattle.pciplan_tasks.specs.Slots.{slots_for, spares_said}
@@ -78,7 +78,7 @@ said_demand said told dump = record {
 }
 
 -- this is what they ask of a dump below these roots
-pub record IsRequestOf (roots : List ℕ) (dump : List Block) (words : SettleWords) (q : Request) : Type 0 where
+pub record IsRequestOfWords (roots : List ℕ) (dump : List Block) (words : SettleWords) (q : Request) : Type 0 where
   pub said : Said
   pub are : AreSaid words said
   pub told : List ToldRange
@@ -118,21 +118,21 @@ HaveListsAndFixed words =
     × HasSlots words.fixed.now
 
 -- the lists are looked at in their order, then the fixed slots, the spares, and the bridges that have hot-plug slots
-abbrev pub IsBadWord : SettleWords → SettleWord → Type 0
-IsBadWord words Io = HasNoList words.io.now
-IsBadWord words Mem = HasList words.io.now × HasNoList words.mem.now
-IsBadWord words Pref = HasList words.io.now × HasList words.mem.now × HasNoList words.pref.now
-IsBadWord words Fixed =
+abbrev pub IsBadSettleWord : SettleWords → SettleWord → Type 0
+IsBadSettleWord words Io = HasNoList words.io.now
+IsBadSettleWord words Mem = HasList words.io.now × HasNoList words.mem.now
+IsBadSettleWord words Pref = HasList words.io.now × HasList words.mem.now × HasNoList words.pref.now
+IsBadSettleWord words Fixed =
     HasList words.io.now × HasList words.mem.now × HasList words.pref.now
     × HasNoSlots words.fixed.now
-IsBadWord words Spare = HaveListsAndFixed words × HasNoSpares words.spare.now
-IsBadWord words Slots =
+IsBadSettleWord words Spare = HaveListsAndFixed words × HasNoSpares words.spare.now
+IsBadSettleWord words Slots =
     HaveListsAndFixed words × HasSpares words.spare.now
     × HasNoHotPlugSlots words.spare.now words.slots.now
 
 -- all words have a meaning
-abbrev pub HaveMeaning : SettleWords → Type 0
-HaveMeaning words =
+abbrev pub HaveSettleMeaning : SettleWords → Type 0
+HaveSettleMeaning words =
     HaveListsAndFixed words × HasSpares words.spare.now
     × HasHotPlugSlots words.spare.now words.slots.now
 
@@ -141,7 +141,7 @@ HaveMeaning words =
 -- a list has no meaning, or a growth was refused for its ranges
 abbrev pub IsNoList : SettleWord → List ℕ → Refused SettleWord → Type 0
 IsNoList named word (refused.Fault bad) = (bad ≡ named) × HasNoList word
-IsNoList named word refused.Memory = HasRanges word
+IsNoList named word refused.Memory = HasListedRanges word
 
 abbrev pub AreNoSlots : List ℕ → Refused SettleWord → Type 0
 AreNoSlots word (refused.Fault bad) = (bad ≡ Fixed) × HasNoSlots word
@@ -155,8 +155,8 @@ abbrev pub asked_with_told : {A : Type 0} → Asked A → List ToldRange → Ask
 asked_with_told asked told = record asked { told = told }
 
 -- what is read says this
-abbrev pub said_of : {A : Type 0} → Asked A → Said
-said_of asked = record {
+abbrev pub said_of_asked : {A : Type 0} → Asked A → Said
+said_of_asked asked = record {
   io = asked.io.items;
   mem = asked.mem.items;
   pref = asked.pref.items;
@@ -167,18 +167,18 @@ said_of asked = record {
 
 -- what they ask for, whatever the text tells
 pub record IsAskedBy {A : Type 0} (words : SettleWords) (asked : Asked A) : Type 0 where
-  pub said : AreSaid words (said_of asked)
+  pub said : AreSaid words (said_of_asked asked)
   pub anew : asked.anew ≡ is_anew words.anew
 
 -- a growth was refused for what a word spells: those before it have a meaning
-abbrev pub IsWordWant : SettleWords → Type 0
-IsWordWant words =
-    HasRanges words.io.now ⊎ (HasList words.io.now × HasRanges words.mem.now)
-    ⊎ (HasList words.io.now × HasList words.mem.now × HasRanges words.pref.now)
+abbrev pub IsSettleWordWant : SettleWords → Type 0
+IsSettleWordWant words =
+    HasListedRanges words.io.now ⊎ (HasList words.io.now × HasListedRanges words.mem.now)
+    ⊎ (HasList words.io.now × HasList words.mem.now × HasListedRanges words.pref.now)
     ⊎ (HasList words.io.now × HasList words.mem.now × HasList words.pref.now
     × SpellsSlots words.fixed.now)
     ⊎ (HaveListsAndFixed words × HasSpares words.spare.now × SpellsSlots words.slots.now)
 
 abbrev pub IsNotAsked : SettleWords → Refused SettleWord → Type 0
-IsNotAsked words (refused.Fault bad) = IsBadWord words bad
-IsNotAsked words refused.Memory = IsWordWant words
+IsNotAsked words (refused.Fault bad) = IsBadSettleWord words bad
+IsNotAsked words refused.Memory = IsSettleWordWant words

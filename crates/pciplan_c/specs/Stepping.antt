@@ -5,7 +5,7 @@ use Rattle.pci_dump.specs.ReadFault.{IsTextFault}
 use Rattle.pci_plan.specs.ApplyText.{apply_fault_number}
 use Rattle.pci_plan.specs.declared.apply_fault.ApplyFault.{ApplyFault}
 use Rattle.pci_plan.specs.declared.apply_fault.ApplyFault.TheVariants.{Changed, Port, Stuck}
-use Rattle.pci_plan.specs.Steps.{Step, all_shown}
+use Rattle.pci_plan.specs.Steps.{AccessStep, all_shown}
 use Rattle.pci_plan.specs.declared.step.Kind.{Kind}
 use Rattle.pci_plan.specs.declared.step.Kind.TheVariants.{Compare, Make, ReadBack}
 use Rattle.pciplan_c.specs.Puts.{IsPutInto}
@@ -15,17 +15,17 @@ use Rattle.pciplan_c.specs.declared.stepping.RegisterStep.{RegisterStep}
 use Rattle.pciplan_c.specs.declared.starting.NoStart.{NoStart}
 use Rattle.pciplan_c.specs.declared.starting.NoStart.TheVariants.{Memory, Dump, Registers}
 
-abbrev pub kind_of : ℕ → Kind
-kind_of kind = if kind == 0 then Compare else if kind == 1 then Make else ReadBack
+abbrev pub step_kind_of : ℕ → Kind
+step_kind_of kind = if kind == 0 then Compare else if kind == 1 then Make else ReadBack
 
 -- an access as C has it
-abbrev pub c_step_value : RegisterStep → Step
+abbrev pub c_step_value : RegisterStep → AccessStep
 c_step_value s =
-    record { kind = kind_of s.kind; register = write_value_of s.register; done = s.done }
+    record { kind = step_kind_of s.kind; register = write_value_of s.register; done = s.done }
 
 -- what an access shows: nothing is known of one that failed
-abbrev pub shown_value : ℕ → ℕ → Option ℕ
-shown_value answered shown = if answered == 0 then None else Some shown
+abbrev pub shown_by_access : ℕ → ℕ → Option ℕ
+shown_by_access answered shown = if answered == 0 then None else Some shown
 
 -- 0 where the next access is to be made, or the number of the fault that ends them
 abbrev pub answer_number : Result (Unit {0}) ApplyFault → ℕ
@@ -33,8 +33,8 @@ answer_number (Ok _) = 0
 answer_number (Err fault) = apply_fault_number fault
 
 -- what the number says of an access: a fault is one of its register, or of how many writes stand
-abbrev pub said_of : Step → ℕ → Result (Unit {0}) ApplyFault
-said_of step number =
+abbrev pub answer_by_number : AccessStep → ℕ → Result (Unit {0}) ApplyFault
+answer_by_number step number =
     if number == 0 then Ok tt
     else if number == 80 then Err (Changed step.register.slot step.register.offset)
     else if number == 81 then Err (Port step.done)

@@ -15,7 +15,7 @@ use Rattle.pci_base.specs.declared.memory.Refused.TheVariants as refused
 use Rattle.pci_dump.specs.declared.read_fault.ReadFault.{ReadFault}
 use Rattle.pci_function.specs.Fault.{fault_of}
 use Rattle.pci_faults.specs.AllLines.{plain_fault}
-use Rattle.pci_faults.specs.Every.{AreBefore, AreReady}
+use Rattle.pci_faults.specs.Every.{AreBefore, AreReadyForJudging}
 use Rattle.pci_dump.specs.ToldFaults.{IsToldTextFault}
 use Rattle.pci_tree.specs.Roots.{IsRootList}
 use Rattle.pciplan_c.specs.Refusals.{IsHeldRefusal}
@@ -37,10 +37,10 @@ pub record AreReadyTexts (roots dump probe : List ℕ) (told : List ToldRange) :
   pub read_back : List Block
   pub dump_text : IsTextOf dump listed
   pub probe_text : IsTextOf probe read_back
-  pub ready : AreReady (told_ranges told) roots listed read_back
+  pub ready : AreReadyForJudging (told_ranges told) roots listed read_back
 
 -- the text tells of these ranges; where there are some, nothing stands in the way
-pub record AreTold (roots dump probe also : List ℕ) (told : List ToldRange) : Type 0 where
+pub record AreRangesTold (roots dump probe also : List ℕ) (told : List ToldRange) : Type 0 where
   pub text : IsToldTextOf also told
   pub ready : (told ≡ []) ⊎ AreReadyTexts roots dump probe told
 
@@ -64,19 +64,19 @@ IsEarlyFirst (told_fault.Known (untold.Outside slot register space address) ∷ 
 IsEarlyFirst (told_fault.NotListed slot ∷ rest) = Unit {0}
 
 -- it is this one
-abbrev pub IsFirst : List Fault → Unready → Type 0
-IsFirst [] why = ⊥
-IsFirst (fault ∷ rest) why = fault ≡ unready_fault why
+abbrev pub IsFirstUnready : List Fault → Unready → Type 0
+IsFirstUnready [] why = ⊥
+IsFirstUnready (fault ∷ rest) why = fault ≡ unready_fault why
 
 -- it is the first of all faults that are there before judging
 pub record IsUnready (told : List ToldRange) (roots : List ℕ) (dump probe : List Block)
     (why : Unready) : Type 0 where
   pub faults : List Fault
   pub before : AreBefore (told_ranges told) nothing_given roots dump probe faults
-  pub first : IsFirst faults why
+  pub first : IsFirstUnready faults why
 
 -- dump and probe are texts, and the third has this fault
-pub record IsAlsoFault (roots dump probe also : List ℕ) (fault : ReadFault) : Type 0 where
+pub record IsThirdTextFault (roots dump probe also : List ℕ) (fault : ReadFault) : Type 0 where
   pub rising : IsRootList roots
   pub listed : List Block
   pub read_back : List Block
@@ -85,7 +85,7 @@ pub record IsAlsoFault (roots dump probe also : List ℕ) (fault : ReadFault) : 
   pub is : IsToldTextFault also fault
 
 -- all three are texts, and this fault is there with what is told
-pub record IsNotReady (roots dump probe also : List ℕ) (why : Unready) : Type 0 where
+pub record IsUnreadyOfTexts (roots dump probe also : List ℕ) (why : Unready) : Type 0 where
   pub rising : IsRootList roots
   pub listed : List Block
   pub read_back : List Block
@@ -96,17 +96,17 @@ pub record IsNotReady (roots dump probe also : List ℕ) (why : Unready) : Type 
   pub is : IsUnready told roots listed read_back why
 
 -- why nothing is told
-abbrev pub IsUntold : List ℕ → List ℕ → List ℕ → List ℕ → NoWrites → Type 0
-IsUntold roots dump probe also (BadWord bad) = ⊥
-IsUntold roots dump probe also (Unread (unread.Refused refusal)) =
+abbrev pub IsWhyNoRangesTold : List ℕ → List ℕ → List ℕ → List ℕ → NoWrites → Type 0
+IsWhyNoRangesTold roots dump probe also (BadWord bad) = ⊥
+IsWhyNoRangesTold roots dump probe also (Unread (unread.Refused refusal)) =
     IsHeldRefusal roots dump probe refusal
-IsUntold roots dump probe also (Unread (unread.NotAdmitted fault)) = ⊥
-IsUntold roots dump probe also (Also fault) = IsAlsoFault roots dump probe also fault
-IsUntold roots dump probe also (NotReady why) = IsNotReady roots dump probe also why
-IsUntold roots dump probe also (NotPlanned fault) = ⊥
-IsUntold roots dump probe also (NotSettled fault) = ⊥
+IsWhyNoRangesTold roots dump probe also (Unread (unread.NotAdmitted fault)) = ⊥
+IsWhyNoRangesTold roots dump probe also (Also fault) = IsThirdTextFault roots dump probe also fault
+IsWhyNoRangesTold roots dump probe also (NotReady why) = IsUnreadyOfTexts roots dump probe also why
+IsWhyNoRangesTold roots dump probe also (NotPlanned fault) = ⊥
+IsWhyNoRangesTold roots dump probe also (NotSettled fault) = ⊥
 
 -- the same, or there was no memory
 abbrev pub IsNotTold : List ℕ → List ℕ → List ℕ → List ℕ → Refused NoWrites → Type 0
-IsNotTold roots dump probe also (refused.Fault why) = IsUntold roots dump probe also why
+IsNotTold roots dump probe also (refused.Fault why) = IsWhyNoRangesTold roots dump probe also why
 IsNotTold roots dump probe also refused.Memory = Unit {0}

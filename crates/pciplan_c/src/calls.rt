@@ -12,11 +12,11 @@ ghost use Rattle.pci_check.specs.declared.outcome.Outcome.TheVariants.{Yes, No};
 ghost use Rattle.pciplan_c.specs.Answers.{IsVerdictText, IsAnswerTold, IsTooLong};
 ghost use Rattle.pciplan_c.specs.Listings.{IsListing, IsListingTooLong, IsTextPut, MayWantToList};
 ghost use Rattle.pciplan_c.specs.RegisterWrites.{write_value_of};
-ghost use Rattle.pciplan_c.specs.Endings.{ArePut, AreTooMany, IsNoneTold, IsNoneTooLong};
-ghost use Rattle.pciplan_c.specs.PlanAnswers.{ArePlanned, IsNoPlanOf, pools_of};
+ghost use Rattle.pciplan_c.specs.Endings.{AreWritesPutInFront, AreTooMany, IsNoneTold, IsNoneTooLong};
+ghost use Rattle.pciplan_c.specs.PlanAnswers.{AreWritesOfPlan, IsNoPlanOf, pools_of};
 ghost use Rattle.pciplan_c.specs.SettleAnswers.{AreAllPut, AreSettledSome, AreTooManyDenied, IsNoSettlingOf, MayWant, arrays};
 ghost use Rattle.pciplan_c.specs.Numbering.{stepped_of};
-ghost use Rattle.pciplan_c.specs.Stepping.{IsStartPut, IsStartTooLong, answer_number, said_of, shown_value, c_step_value};
+ghost use Rattle.pciplan_c.specs.Stepping.{IsStartPut, IsStartTooLong, answer_number, answer_by_number, shown_by_access, c_step_value};
 ghost use Rattle.pciplan_c.specs.declared.answer.Answer.TheVariants.{Verdict, Refused};
 ghost use Rattle.pciplan_c.specs.declared.listing.Listing.{Listing};
 ghost use Rattle.pciplan_c.specs.declared.no_list.NoList.{NoList};
@@ -122,7 +122,7 @@ pub extern "C" fn pciplan_plan(
     line_used: &mut usize,
 ) -> u8
     ensures plan { result ≡ 0
-        → ArePut (ArePlanned roots.now dump.now probe.now (pools_of pools.now)) writes.old writes.new
+        → AreWritesPutInFront (AreWritesOfPlan roots.now dump.now probe.now (pools_of pools.now)) writes.old writes.new
         writes_used.new safe_from.new
         × (line.new ≡ line.old) × (line_used.new ≡ 0) }
     // where there is no plan no write is put that could be made by mistake
@@ -138,7 +138,7 @@ pub extern "C" fn pciplan_plan(
     // no memory helps a list that is none
     ensures wanted { result ≡ 3 → IsRootList roots.now }
     ensures room { result ≡ 4
-        → AreTooMany (ArePlanned roots.now dump.now probe.now (pools_of pools.now)) writes.old
+        → AreTooMany (AreWritesOfPlan roots.now dump.now probe.now (pools_of pools.now)) writes.old
         writes_used.new
         × (line_used.new ≡ 0)
         ⊎ IsNoneTooLong (IsNoPlanOf roots.now dump.now probe.now (pools_of pools.now)) line.old
@@ -432,10 +432,10 @@ pub extern "C" fn pciplan_step(
 #[unsafe(no_mangle)]
 pub extern "C" fn pciplan_judge(step: &RegisterStep, answered: u8, shown: u32) -> u8
     ensures number { result
-        ≡ answer_number (judged (c_step_value step.now) (shown_value answered shown)) }
+        ≡ answer_number (judged (c_step_value step.now) (shown_by_access answered shown)) }
     // so the fault's slot and offset, or its count of writes, are those of the access
-    ensures says { said_of (c_step_value step.now) result
-        ≡ judged (c_step_value step.now) (shown_value answered shown) }
+    ensures says { answer_by_number (c_step_value step.now) result
+        ≡ judged (c_step_value step.now) (shown_by_access answered shown) }
 {
     if answered == 0 {
         judge(step, None)

@@ -1,6 +1,6 @@
 //! What planning or settling ends with.
 ghost use Rattle.std.specs.Prelude.{◌≡◌, ◌≢◌, ◌≤◌, ℕ, length, IfOk, IfErr};
-ghost use Rattle.pciplan_c.specs.Endings.{IsToldOf, IsTooLongFor};
+ghost use Rattle.pciplan_c.specs.Endings.{IsReasonTold, IsTooLongFor};
 ghost use Rattle.pciplan_c.specs.NoWrites.{IsMade, no_writes_text};
 
 use crate::no_writes::NoWrites;
@@ -49,7 +49,7 @@ pub enum HeldBack {
 fn put_text(why: NoWrites, text: &[u8], line: &mut [u8]) -> Result<Ending, HeldBack>
     requires text { text.now ≡ no_writes_text why }
     requires short { length text.now ≤ 96 }
-    ensures told { IfOk result (IsToldOf why line.old line.new) }
+    ensures told { IfOk result (IsReasonTold why line.old line.new) }
     ensures quiet { IfErr result (λ _. line.new ≡ line.old) }
     ensures room { IfErr result (IsTooLongFor why line.old) }
     ensures short { IfErr result
@@ -66,7 +66,7 @@ fn put_text(why: NoWrites, text: &[u8], line: &mut [u8]) -> Result<Ending, HeldB
 /// Puts why there are no writes into a line.
 #[tactic(auto, using(crate::proofs::Lengths::no_writes_short))]
 pub fn tell<A: Allocator>(alloc: A, why: NoWrites, line: &mut [u8]) -> Result<Ending, HeldBack>
-    ensures told { IfOk result (IsToldOf why line.old line.new) }
+    ensures told { IfOk result (IsReasonTold why line.old line.new) }
     // part of a line must not be taken for one
     ensures quiet { IfErr result (λ _. line.new ≡ line.old) }
     ensures room { IfErr result (IsTooLongFor why line.old) }

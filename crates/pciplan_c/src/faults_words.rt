@@ -1,7 +1,7 @@
 //! The words by which C says what is given beside two texts whose faults are to be listed.
 ghost use Rattle.std.specs.Prelude.{◌≡◌, IfOk, IfErr, MatchResult};
 ghost use Rattle.pci_tree.specs.Roots.{buses_of};
-ghost use Rattle.pciplan_c.specs.FaultsWords.{AreRangesBy, AreWordsBy, HasNoWords, IsNotSaid, IsNoRanges, IsSaidBy};
+ghost use Rattle.pciplan_c.specs.FaultsWords.{AreRangesBy, AreWordsBy, HasNoModelWords, IsNotSaid, IsNoRanges, IsSaidByFaultsWords};
 
 use pci_base::memory::Refused;
 use pci_base::range::RootRange;
@@ -68,7 +68,7 @@ impl fmt::Display for FaultsWord {
 /// The words by which functions are taken, where they are said.
 fn words_of(word: &[u8]) -> Result<Option<Words>, FaultsWord>
     ensures { MatchResult result (AreWordsBy word.now)
-        (λ bad. (bad ≡ FaultsWord.Model) × HasNoWords word.now) }
+        (λ bad. (bad ≡ FaultsWord.Model) × HasNoModelWords word.now) }
 {
     if word.is_empty() {
         return Ok(None);
@@ -118,7 +118,7 @@ pub fn beside_of(
     roots: Roots,
     words: &FaultsWords<'_>,
 ) -> Result<Beside, Refused<FaultsWord>>
-    ensures said { IfOk result (IsSaidBy (buses_of roots) words.now) }
+    ensures said { IfOk result (IsSaidByFaultsWords (buses_of roots) words.now) }
     ensures why { IfErr result (IsNotSaid (buses_of roots) words.now) }
 {
     let taken = match words_of(words.model) {

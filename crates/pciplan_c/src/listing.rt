@@ -1,8 +1,8 @@
 //! The list of all faults of two texts that lie in memory.
 ghost use Rattle.std.specs.Prelude.{◌≡◌, ◌<◌, ◌≤◌, ℕ, length, IfOk, IfErr};
 ghost use Rattle.pciplan_c.specs.Puts.{IsPutInto};
-ghost use Rattle.pciplan_tasks.specs.Answers.{AreLines, answer_of};
-ghost use Rattle.pciplan_c.specs.Listings.{AreListed, IsListing, IsListingTooLong, IsNotListed, IsTextPut, MayWantToList, listing_of};
+ghost use Rattle.pciplan_tasks.specs.Answers.{AreReplyLines, answer_of};
+ghost use Rattle.pciplan_c.specs.Listings.{AreFaultsListed, IsListing, IsListingTooLong, IsWhyNoFaultsListed, IsTextPut, MayWantToList, listing_of};
 ghost use Rattle.pciplan_c.specs.NoLists.{IsListMade, no_list_text};
 
 use crate::admitting::read;
@@ -47,9 +47,9 @@ fn list_texts(
     words: &FaultsWords<'_>,
 ) -> Result<Reply<Global>, Refused<NoList>>
     ensures list { IfOk result
-        (λ reply. AreListed roots.now dump.now probe.now words.now (answer_of reply)) }
-    ensures lines { IfOk result (λ reply. AreLines reply.text) }
-    ensures why { IfErr result (IsNotListed roots.now dump.now probe.now words.now) }
+        (λ reply. AreFaultsListed roots.now dump.now probe.now words.now (answer_of reply)) }
+    ensures lines { IfOk result (λ reply. AreReplyLines reply.text) }
+    ensures why { IfErr result (IsWhyNoFaultsListed roots.now dump.now probe.now words.now) }
 {
     let Some(roots) = Roots::of(roots) else {
         return Err(Refused::Fault(NoList::Unread(Refusal::Root)));
@@ -81,7 +81,7 @@ fn list_texts(
 
 /// Puts a list at the front of `text`.
 fn put_list(reply: &Reply<Global>, text: &mut [u8]) -> Result<Listed, Withheld>
-    requires { AreLines reply.now.text }
+    requires { AreReplyLines reply.now.text }
     ensures put { IfOk result (λ listed. IsPutInto text.old text.new (answer_of reply.now).text) }
     ensures told { IfOk result (λ listed. (listed.listing ≡ listing_of reply.now.refused)
         × (listed.used ≡ length (answer_of reply.now).text)) }

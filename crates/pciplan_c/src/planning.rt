@@ -2,8 +2,8 @@
 ghost use Rattle.std.specs.Prelude.{◌≡◌, ◌≤◌, ℕ, List, IfOk, IfErr};
 ghost use Rattle.pci_tree.specs.Roots.{IsRootList};
 ghost use Rattle.pciplan_c.specs.Texts.{AreTexts};
-ghost use Rattle.pciplan_c.specs.PlanAnswers.{ArePlanned, IsNoPlanOf, pools_of};
-ghost use Rattle.pciplan_c.specs.Endings.{ArePut, IsEnding, IsHeldBack, IsNotPut, lent};
+ghost use Rattle.pciplan_c.specs.PlanAnswers.{AreWritesOfPlan, IsNoPlanOf, pools_of};
+ghost use Rattle.pciplan_c.specs.Endings.{AreWritesPutInFront, IsEnding, IsHeldBack, IsWhyNoWritesPut, lent};
 
 use crate::admitting::{admit_texts, empty_place};
 use crate::ending::{Ending, HeldBack, NotPut, Steps, tell};
@@ -28,11 +28,11 @@ fn put_plan<A: Allocator + Copy>(
     // of all texts that these dumps are of
     ensures put { IfOk result (λ s. (roots dump probe : List ℕ)
         → AreTexts roots dump probe admitted.now
-        → ArePut (ArePlanned roots dump probe (pools_of pools.now)) writes.old writes.new s.count s.safe_from) }
+        → AreWritesPutInFront (AreWritesOfPlan roots dump probe (pools_of pools.now)) writes.old writes.new s.count s.safe_from) }
     ensures quiet { IfErr result (λ _. writes.new ≡ writes.old) }
     ensures why { IfErr result (λ why. (roots dump probe : List ℕ)
         → AreTexts roots dump probe admitted.now
-        → IsNotPut (ArePlanned roots dump probe (pools_of pools.now))
+        → IsWhyNoWritesPut (AreWritesOfPlan roots dump probe (pools_of pools.now))
         (IsNoPlanOf roots dump probe (pools_of pools.now)) writes.old why) }
 {
     // Read for what it says of what was admitted.
@@ -59,11 +59,11 @@ fn plan_texts<A: Allocator + Copy>(
     pools: &PoolsOfC,
     writes: &mut [RegisterWrite],
 ) -> Result<Steps, NotPut>
-    ensures put { IfOk result (λ s. ArePut
-        (ArePlanned roots.now dump.now probe.now (pools_of pools.now)) writes.old writes.new s.count s.safe_from) }
+    ensures put { IfOk result (λ s. AreWritesPutInFront
+        (AreWritesOfPlan roots.now dump.now probe.now (pools_of pools.now)) writes.old writes.new s.count s.safe_from) }
     ensures quiet { IfErr result (λ _. writes.new ≡ writes.old) }
     ensures why { IfErr result
-        (IsNotPut (ArePlanned roots.now dump.now probe.now (pools_of pools.now))
+        (IsWhyNoWritesPut (AreWritesOfPlan roots.now dump.now probe.now (pools_of pools.now))
         (IsNoPlanOf roots.now dump.now probe.now (pools_of pools.now)) writes.old) }
     ensures memory { IfErr result (λ why. why ≡ NotPut.Memory → IsRootList roots.now) }
 {
@@ -105,14 +105,14 @@ pub fn plan_into<A: Allocator + Copy>(
     line: &mut [u8],
 ) -> Result<Ending, HeldBack>
     ensures ending { IfOk result (IsEnding
-        (ArePlanned roots.now dump.now probe.now (pools_of pools.now))
+        (AreWritesOfPlan roots.now dump.now probe.now (pools_of pools.now))
         (IsNoPlanOf roots.now dump.now probe.now (pools_of pools.now))
         (lent writes.old line.old) (lent writes.new line.new)) }
     // half a plan must not be taken for one
     ensures writes { IfErr result (λ _. writes.new ≡ writes.old) }
     ensures line { IfErr result (λ _. line.new ≡ line.old) }
     ensures room { IfErr result
-        (IsHeldBack (ArePlanned roots.now dump.now probe.now (pools_of pools.now))
+        (IsHeldBack (AreWritesOfPlan roots.now dump.now probe.now (pools_of pools.now))
         (IsNoPlanOf roots.now dump.now probe.now (pools_of pools.now)) writes.old line.old) }
     // so 96 bytes always have room
     ensures short { IfErr result

@@ -2,8 +2,8 @@
 ghost use Rattle.std.specs.Prelude.{◌≡◌, ◌≤◌, ℕ, List, IfOk, IfErr};
 ghost use Rattle.pci_tree.specs.Roots.{IsRootList, buses_of};
 ghost use Rattle.pciplan_c.specs.Texts.{AreTexts};
-ghost use Rattle.pciplan_c.specs.SettleWords.{said_demand, said_of};
-ghost use Rattle.pciplan_c.specs.SettleAnswers.{AreAllPut, AreSettledSome, IsAskedWith, IsNoSettlingOf, IsNotAskedWith, IsSettleEnding, IsSettleHeldBack, IsSettleSafeFrom, IsSettledBy, IsUnput, MayWant, arrays, asked_request};
+ghost use Rattle.pciplan_c.specs.SettleWords.{said_demand, said_of_asked};
+ghost use Rattle.pciplan_c.specs.SettleAnswers.{AreAllPut, AreSettledSome, IsAskedWith, IsNoSettlingOf, IsNotAskedWith, IsSettleEnding, IsSettleHeldBack, IsSettleSafeFrom, IsSettledAsAsked, IsUnput, MayWant, arrays, asked_request};
 ghost use Rattle.pciplan_c.specs.Endings.{IsEnding, lent};
 ghost use Rattle.pciplan_c.specs.declared.ending.HeldBack.TheVariants as held_back;
 ghost use Rattle.pciplan_c.specs.declared.ending.NotPut.TheVariants as not_put;
@@ -90,8 +90,8 @@ fn settled_behind<'a, A: Allocator + Copy>(
     bridges: &'a [Slot],
 ) -> Result<Settled<A>, Refused<SettleFault>>
     requires { bridges.now
-        ≡ (said_demand (said_of asked.now) asked.now.told admitted.now.dump).slots }
-    ensures settled { IfOk result (IsSettledBy admitted.now asked.now) }
+        ≡ (said_demand (said_of_asked asked.now) asked.now.told admitted.now.dump).slots }
+    ensures settled { IfOk result (IsSettledAsAsked admitted.now asked.now) }
     ensures refusal { IfErr result
         (IsRefusal admitted.now (without_slots (asked_request admitted.now asked.now))) }
 {
@@ -116,7 +116,7 @@ fn settled_of<A: Allocator + Copy>(
     admitted: &Admitted<A>,
     asked: &Asked<A>,
 ) -> Result<Settled<A>, Refused<SettleFault>>
-    ensures settled { IfOk result (IsSettledBy admitted.now asked.now) }
+    ensures settled { IfOk result (IsSettledAsAsked admitted.now asked.now) }
     ensures refusal { IfErr result
         (IsRefusal admitted.now (without_slots (asked_request admitted.now asked.now))) }
 {

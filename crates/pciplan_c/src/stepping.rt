@@ -4,7 +4,7 @@ ghost use Rattle.std.specs.List.{slice_get};
 ghost use Rattle.std.specs.Option.{option_map};
 ghost use Rattle.pci_plan.specs.Steps.{judged, steps_of};
 ghost use Rattle.pciplan_c.specs.RegisterWrites.{write_value_of};
-ghost use Rattle.pciplan_c.specs.Stepping.{answer_number, said_of, c_step_value};
+ghost use Rattle.pciplan_c.specs.Stepping.{answer_number, answer_by_number, c_step_value};
 
 use crate::register_write::RegisterWrite;
 use pci_plan::step::{Place, place_at};
@@ -60,7 +60,7 @@ pub fn step_at(
 /// the fault that ends it, 80 to 82.
 pub fn judge(step: &RegisterStep, shown: Option<u32>) -> u8
     ensures number { result ≡ answer_number (judged (c_step_value step.now) shown) }
-    ensures says { said_of (c_step_value step.now) result ≡ judged (c_step_value step.now) shown }
+    ensures says { answer_by_number (c_step_value step.now) result ≡ judged (c_step_value step.now) shown }
 {
     let Some(shown) = shown else {
         return 81;

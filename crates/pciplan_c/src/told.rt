@@ -1,11 +1,11 @@
 //! The ranges that a third text tells of, beside a dump and its probe.
 ghost use Rattle.std.specs.Prelude.{◌≡◌, ℕ, List, map, IfOk, IfErr, MatchOption};
 ghost use Rattle.judge_spec.specs.ToldText.{IsToldTextOf};
-ghost use Rattle.pci_faults.specs.AllLines.{fault_of};
-ghost use Rattle.pci_faults.specs.Every.{AreReady};
+ghost use Rattle.pci_faults.specs.AllLines.{any_fault_value};
+ghost use Rattle.pci_faults.specs.Every.{AreReadyForJudging};
 ghost use Rattle.pci_dump.specs.ToldFaults.{IsToldTextFault};
 ghost use Rattle.pci_tree.specs.Roots.{IsRootList, buses_of};
-ghost use Rattle.pciplan_c.specs.ToldTexts.{AreTold, IsEarlyFirst, IsFirst, IsNotTold, IsUnready, told_ranges};
+ghost use Rattle.pciplan_c.specs.ToldTexts.{AreRangesTold, IsEarlyFirst, IsFirstUnready, IsNotTold, IsUnready, told_ranges};
 
 use crate::admitting::read;
 use crate::held::Bytes;
@@ -39,8 +39,8 @@ fn ranges_of<A: Allocator>(alloc: A, also: &[u8]) -> Result<ToldList<A>, Refused
 
 /// The first of some faults, which is looked for before judging.
 fn first_of(faults: &[AnyFault]) -> Unready
-    requires { IsEarlyFirst (map fault_of faults.now) }
-    ensures { IsFirst (map fault_of faults.now) result }
+    requires { IsEarlyFirst (map any_fault_value faults.now) }
+    ensures { IsFirstUnready (map any_fault_value faults.now) result }
 {
     match faults.first() {
         Some(AnyFault::NotListed(slot)) => Unready::NotListed(*slot),
@@ -58,7 +58,7 @@ fn unready_of<A: Allocator + Copy>(
     list: &ToldList<A>,
 ) -> Result<Option<Unready>, OutOfMemory>
     ensures { IfOk result (λ found. MatchOption found
-        (AreReady (told_ranges list.now) (buses_of roots) dump.now probe.now)
+        (AreReadyForJudging (told_ranges list.now) (buses_of roots) dump.now probe.now)
         (IsUnready list.now (buses_of roots) dump.now probe.now)) }
 {
     // slots rise in both, so a list of 30 is none of judging
@@ -90,7 +90,7 @@ pub fn told_of<A: Allocator + Copy>(
 ) -> Result<ToldList<A>, Refused<NoWrites>>
     // of the list of which the roots were made
     ensures told { IfOk result (λ told. (buses : List ℕ) → buses_of roots ≡ buses
-        → AreTold buses dump.now probe.now also.now told) }
+        → AreRangesTold buses dump.now probe.now also.now told) }
     ensures why { IfErr result (λ why. (buses : List ℕ) → buses_of roots ≡ buses
         → IsRootList buses → IsNotTold buses dump.now probe.now also.now why) }
 {

@@ -7,7 +7,7 @@ use Rattle.pci_machine.specs.declared.assuming.Assuming.TheVariants.{Nothing, Di
 use Rattle.pci_tree.specs.declared.roots.Roots.{Roots}
 use Rattle.pciplan_cli.specs.FaultsAsked.{IsFaultsOf, AreFaultsRefused}
 use Rattle.pciplan_cli.specs.MapAsked.{IsMapOf, IsMapRefused}
-use Rattle.pciplan_cli.specs.SettleAsked.{IsSettlingOf, IsSettlingRefused}
+use Rattle.pciplan_cli.specs.SettleAsked.{IsSettlingAskedFor, IsSettlingRefused}
 use Rattle.pciplan_cli.specs.OptionWords.{AreRootsOf, HasNoRoots}
 use Rattle.pciplan_lists.specs.PoolWords.{IsPoolWord, HasNoPool}
 use Rattle.pciplan_words.specs.declared.asked.Asked.{Asked}
@@ -45,13 +45,13 @@ IsTaskOf (asked.Faults words) t = IsFaultsOf words t
 IsTaskOf (asked.Map words) t = IsMapOf words t
 IsTaskOf asked.Size t = t ≡ task.Size
 IsTaskOf (asked.Plan words) t = IsPlanningOf words t
-IsTaskOf (asked.Settle words) t = IsSettlingOf None words t
+IsTaskOf (asked.Settle words) t = IsSettlingAskedFor None words t
 IsTaskOf (asked.Probe exact least) t =
     (assuming : Assuming) × IsAssumingOf exact least assuming × (t ≡ task.Probe assuming)
 
 -- with a form of the writes, which `settle` alone has
 abbrev pub IsFormOf : Form → Asked → Task → Type 0
-IsFormOf form (asked.Settle words) t = IsSettlingOf (Some form) words t
+IsFormOf form (asked.Settle words) t = IsSettlingAskedFor (Some form) words t
 IsFormOf form _ t = ⊥
 
 abbrev pub IsTaskWith : Option Form → Asked → Task → Type 0

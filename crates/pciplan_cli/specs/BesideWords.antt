@@ -7,7 +7,7 @@ use Rattle.pci_base.specs.declared.space.Space.TheVariants.{Io, Mem}
 use Rattle.pci_model.specs.declared.words.Words.{Words}
 use Rattle.pci_tree.specs.Roots.{buses_of}
 use Rattle.pci_tree.specs.declared.roots.Roots.{Roots}
-use Rattle.pciplan_cli.specs.OptionWords.{AreRootsOf, AreWordsOf, AreRangesOf, HasNoRoots, HasNoWords, HasNoRanges, SpellsRanges}
+use Rattle.pciplan_cli.specs.OptionWords.{AreRootsOf, AreWordsOf, AreOptionRanges, HasNoRoots, HasNoWords, HasNoRanges, SpellsRanges}
 use Rattle.pciplan_tasks.specs.declared.task.Also.TheVariants.{Told}
 use Rattle.pciplan_tasks.specs.declared.task.Beside.{Beside}
 use Rattle.pciplan_tasks.specs.declared.failure.Failure.{Failure}
@@ -28,8 +28,8 @@ beside_words root model host_io host_mem =
 pub record IsSaidBeside (asked : BesideWords) (said : Beside) : Type 0 where
   pub are_roots : AreRootsOf asked.root said.roots
   pub are_words : AreWordsOf asked.model said.words
-  pub io : AreRangesOf asked.host_io (buses_of said.roots) said.host.io
-  pub mem : AreRangesOf asked.host_mem (buses_of said.roots) said.host.mem
+  pub io : AreOptionRanges asked.host_io (buses_of said.roots) said.host.io
+  pub mem : AreOptionRanges asked.host_mem (buses_of said.roots) said.host.mem
   pub also : said.also ≡ Told []
 
 pub record IsNoModel (asked : BesideWords) : Type 0 where
@@ -50,7 +50,7 @@ pub record IsNoHostMem (asked : BesideWords) : Type 0 where
   pub ranges : Option (Vec RootRange)
   pub are_roots : AreRootsOf asked.root roots
   pub are_words : AreWordsOf asked.model words
-  pub io : AreRangesOf asked.host_io (buses_of roots) ranges
+  pub io : AreOptionRanges asked.host_io (buses_of roots) ranges
   pub none : HasNoRanges asked.host_mem (buses_of roots)
 
 -- a growth was refused for the ranges that `--host-io` spells: the words before them say something
@@ -68,7 +68,7 @@ pub record IsHostMemWant (asked : BesideWords) : Type 0 where
   pub ranges : Option (Vec RootRange)
   pub are_roots : AreRootsOf asked.root roots
   pub are_words : AreWordsOf asked.model words
-  pub io : AreRangesOf asked.host_io (buses_of roots) ranges
+  pub io : AreOptionRanges asked.host_io (buses_of roots) ranges
   pub mem : SpellsRanges asked.host_mem
 
 -- the first of them that says nothing

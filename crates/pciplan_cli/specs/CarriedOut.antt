@@ -4,7 +4,7 @@ use Rattle.std.specs.String.{string_bytes}
 use Rattle.pci_dump.specs.ReadFault.{IsTextFault}
 use Rattle.pci_dump.specs.declared.read_fault.ReadFault.{ReadFault}
 use Rattle.pci_dump.specs.declared.read_fault.ReadFault.TheVariants as faults
-use Rattle.pciplan_tasks.specs.Tasks.{HasDump, IsAnswered, IsBegun, IsFaultOfLeft}
+use Rattle.pciplan_tasks.specs.Tasks.{HasDump, IsTaskAnswered, IsAnswerBegun, IsFaultOfLeft}
 use Rattle.pciplan_tasks.specs.declared.failure.Failure.{Failure}
 use Rattle.pciplan_tasks.specs.declared.failure.Failure.TheVariants.{Dump, Probe, Sizes}
 use Rattle.pciplan_tasks.specs.declared.task.Task.{Task}
@@ -24,14 +24,14 @@ pub record IsCarriedOut (line : Invocation) (dump second : TextsByPath) (status 
     (IsWritten AreTold : List ℕ → Type 0) : Type 0 where
   pub dump_stands : dump.stands (string_bytes line.dump)
   pub second_stands : second.stands (string_bytes line.probe)
-  pub answered : IsAnswered line.task (dump.bytes_at (string_bytes line.dump))
+  pub answered : IsTaskAnswered line.task (dump.bytes_at (string_bytes line.dump))
       (second.bytes_at (string_bytes line.probe)) status IsWritten AreTold
 
 -- a beginning of that answer was written
 abbrev pub IsCarriedOutBegun : Invocation → (List ℕ → Option (List ℕ)) → (List ℕ → Option (List ℕ))
     → Option (List ℕ) → Option (List ℕ) → Type 0
 IsCarriedOutBegun line dump_at second_at before after =
-    IsBegun line.task (dump_at (string_bytes line.dump))
+    IsAnswerBegun line.task (dump_at (string_bytes line.dump))
     (second_at (string_bytes line.probe)) before after
 
 -- ---- a text can't be opened

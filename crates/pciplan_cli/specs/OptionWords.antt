@@ -9,7 +9,7 @@ use Rattle.pci_model.specs.declared.words.Words.{Words}
 use Rattle.pci_model.specs.WordsValue.{words_value}
 use Rattle.pci_tree.specs.Roots.{buses_of}
 use Rattle.pci_tree.specs.declared.roots.Roots.{Roots}
-use Rattle.pciplan_lists.specs.ListWords.{HasRanges, IsListWord}
+use Rattle.pciplan_lists.specs.ListWords.{HasListedRanges, IsListWord}
 use Rattle.pciplan_lists.specs.HostLists.{IsGoodHostList}
 use Rattle.pciplan_lists.specs.ModelWords.{IsModelWord}
 use Rattle.pciplan_cli.specs.RootWords.{IsRootWord}
@@ -36,10 +36,10 @@ HasNoWords None = ⊥
 HasNoWords (Some list) = (words : model.Words) → IsModelWord list.now words → ⊥
 
 -- the ranges of the list of what the host sends, which it can send to these roots: none are said where there is no list
-abbrev pub AreRangesOf : Option (Bor (List ℕ)) → List ℕ → Option (Vec RootRange) → Type 0
-AreRangesOf None roots ranges = ranges ≡ None
-AreRangesOf (Some word) roots None = ⊥
-AreRangesOf (Some word) roots (Some list) =
+abbrev pub AreOptionRanges : Option (Bor (List ℕ)) → List ℕ → Option (Vec RootRange) → Type 0
+AreOptionRanges None roots ranges = ranges ≡ None
+AreOptionRanges (Some word) roots None = ⊥
+AreOptionRanges (Some word) roots (Some list) =
     IsListWord word.now list.items × IsGoodHostList roots list.items
 
 abbrev pub HasNoRanges : Option (Bor (List ℕ)) → List ℕ → Type 0
@@ -50,7 +50,7 @@ HasNoRanges (Some word) roots =
 -- the word is a list with ranges, for which memory is asked
 abbrev pub SpellsRanges : Option (Bor (List ℕ)) → Type 0
 SpellsRanges None = ⊥
-SpellsRanges (Some word) = HasRanges word.now
+SpellsRanges (Some word) = HasListedRanges word.now
 
 -- why there are no ranges: the word is no such list, or a growth was refused for the ranges that it spells
 abbrev pub IsNoListFor : Option (Bor (List ℕ)) → List ℕ → Space → Failure → Type 0

@@ -9,7 +9,7 @@ use Rattle.pci_script.specs.declared.form.Form.{Form as ScriptForm}
 use Rattle.pci_script.specs.declared.form.Form.TheVariants as scripts
 use Rattle.pci_model.specs.declared.words.Words.{Words}
 use Rattle.pci_tree.specs.declared.roots.Roots.{Roots}
-use Rattle.pciplan_lists.specs.ListWords.{HasRanges, IsListWord}
+use Rattle.pciplan_lists.specs.ListWords.{HasListedRanges, IsListWord}
 use Rattle.pciplan_lists.specs.SlotWords.{IsSlotList, IsSlotListWord}
 use Rattle.pciplan_lists.specs.SpareWords.{IsSpareWord}
 use Rattle.pciplan_words.specs.declared.asked.SettleWords.{SettleWords}
@@ -36,15 +36,15 @@ AreFixed None slots = slots.items ≡ []
 AreFixed (Some word) slots = IsSlotListWord word.now slots.items
 
 -- how much the word of `--spare` wants: nothing where there is no word
-abbrev pub AreSpares : Option (Bor (List ℕ)) → ByKind ℕ → Type 0
-AreSpares None sizes = sizes ≡ record { io = 0; memory = 0; prefetchable = 0 }
-AreSpares (Some word) sizes = IsSpareWord word.now sizes
+abbrev pub AreOptionSpares : Option (Bor (List ℕ)) → ByKind ℕ → Type 0
+AreOptionSpares None sizes = sizes ≡ record { io = 0; memory = 0; prefetchable = 0 }
+AreOptionSpares (Some word) sizes = IsSpareWord word.now sizes
 
 -- the slots of the word of `--slots`: those of the dump are meant where there is no word
-abbrev pub AreSlots : Option (Bor (List ℕ)) → Option (Vec Slot) → Type 0
-AreSlots None slots = slots ≡ None
-AreSlots (Some word) None = ⊥
-AreSlots (Some word) (Some slots) = IsSlotListWord word.now slots.items
+abbrev pub AreOptionSlots : Option (Bor (List ℕ)) → Option (Vec Slot) → Type 0
+AreOptionSlots None slots = slots ≡ None
+AreOptionSlots (Some word) None = ⊥
+AreOptionSlots (Some word) (Some slots) = IsSlotListWord word.now slots.items
 
 -- the script of a form that a word names
 abbrev pub script_form : Form → ScriptForm
@@ -58,7 +58,7 @@ printed_of None true = Writes
 printed_of None false = Dump
 
 -- the settling that the words ask for: each list is that of its own option; no third text is read yet
-pub record IsSettlingOf (form : Option Form) (asked : SettleWords) (t : Task) : Type 0 where
+pub record IsSettlingAskedFor (form : Option Form) (asked : SettleWords) (t : Task) : Type 0 where
   pub request : SettleRequest
   pub are_roots : AreRootsOf asked.root request.roots
   pub are_words : AreWordsOf asked.model request.words
@@ -68,8 +68,8 @@ pub record IsSettlingOf (form : Option Form) (asked : SettleWords) (t : Task) : 
   pub fixed : AreFixed asked.fixed request.fixed
   pub anew : request.anew ≡ asked.anew
   pub untold : request.also ≡ Told []
-  pub spares : AreSpares asked.spare request.spares
-  pub slots : AreSlots asked.slots request.slots
+  pub spares : AreOptionSpares asked.spare request.spares
+  pub slots : AreOptionSlots asked.slots request.slots
   pub is : t ≡ task.Settle request (printed_of form asked.writes)
 
 -- ---- the first word that is none
@@ -108,7 +108,7 @@ abbrev pub HasFixed : SettleWords → Type 0
 HasFixed asked = HasPref asked × ((slots : Vec Slot) × AreFixed asked.fixed slots)
 
 abbrev pub HasSpare : SettleWords → Type 0
-HasSpare asked = HasFixed asked × ((sizes : ByKind ℕ) × AreSpares asked.spare sizes)
+HasSpare asked = HasFixed asked × ((sizes : ByKind ℕ) × AreOptionSpares asked.spare sizes)
 
 -- the word of `--fixed` or of `--slots` is a list of slots, for which memory is asked
 abbrev pub SpellsSlots : Option (Bor (List ℕ)) → Type 0
@@ -118,8 +118,8 @@ SpellsSlots (Some word) = IsSlotList word.now
 -- a growth was refused for what a word spells: the words before it have their meaning
 abbrev pub IsSettlingWant : SettleWords → Type 0
 IsSettlingWant asked =
-    (HasSettleModel asked × HasRanges asked.io.now) ⊎ (HasSettleIo asked × HasRanges asked.mem.now)
-    ⊎ (HasSettleMem asked × HasRanges asked.pref.now) ⊎ (HasPref asked × SpellsSlots asked.fixed)
+    (HasSettleModel asked × HasListedRanges asked.io.now) ⊎ (HasSettleIo asked × HasListedRanges asked.mem.now)
+    ⊎ (HasSettleMem asked × HasListedRanges asked.pref.now) ⊎ (HasPref asked × SpellsSlots asked.fixed)
     ⊎ (HasSpare asked × SpellsSlots asked.slots)
 
 -- the root list is looked at, then the words of `--model`, then the lists of I/O, memory and prefetchable memory, then the fixed

@@ -3,7 +3,7 @@ ghost use Rattle.std.specs.Prelude.{◌≡◌, MatchOption, MatchResult};
 ghost use Rattle.pci_tree.specs.Roots.{buses_of};
 ghost use Rattle.pciplan_lists.specs.PoolWords.{HasNoPool, IsPoolWord};
 ghost use Rattle.pciplan_tasks.specs.declared.failure.Failure.{Failure};
-ghost use Rattle.pciplan_cli.specs.OptionWords.{AreRootsOf, AreWordsOf, AreRangesOf, HasNoRoots, HasNoWords, IsNoListFor};
+ghost use Rattle.pciplan_cli.specs.OptionWords.{AreRootsOf, AreWordsOf, AreOptionRanges, HasNoRoots, HasNoWords, IsNoListFor};
 
 use crate::root_list::roots_of_list;
 use pci_base::range::{Range, RootRange};
@@ -56,7 +56,7 @@ pub fn ranges_of(
     word: Option<&str>,
     space: Space,
 ) -> Result<Option<Vec<RootRange>>, Failure>
-    ensures { MatchResult result (AreRangesOf word.entry (buses_of roots.now))
+    ensures { MatchResult result (AreOptionRanges word.entry (buses_of roots.now))
         (IsNoListFor word.entry (buses_of roots.now) space) }
 {
     let Some(word) = word else {

@@ -1,7 +1,7 @@
 //! The settling that a command line asks for.
 ghost use Rattle.std.specs.Prelude.{◌≡◌, ◌⊎◌, MatchResult};
-ghost use Rattle.pciplan_cli.specs.SettleAsked.{AreFixed, AreSlots, AreSpares, HasNoListWord, HasNoSlotsWord, HasNoSpareWord, IsListOf, IsSettlingOf, IsSettlingRefused, SpellsSlots, printed_of};
-ghost use Rattle.pciplan_lists.specs.ListWords.{HasRanges};
+ghost use Rattle.pciplan_cli.specs.SettleAsked.{AreFixed, AreOptionSlots, AreOptionSpares, HasNoListWord, HasNoSlotsWord, HasNoSpareWord, IsListOf, IsSettlingAskedFor, IsSettlingRefused, SpellsSlots, printed_of};
+ghost use Rattle.pciplan_lists.specs.ListWords.{HasListedRanges};
 ghost use Rattle.pciplan_tasks.specs.declared.failure.Failure.{Failure};
 
 use crate::option_words::{roots_of, words_of};
@@ -21,7 +21,7 @@ use std::alloc::Global;
 /// The list of the word of an option.
 fn list_of(alloc: Global, word: &str, option: PoolOption) -> Result<Vec<RootRange>, Failure>
     ensures { MatchResult result (IsListOf word.entry)
-        (λ failure. ((failure ≡ Failure.Memory) × HasRanges word.now)
+        (λ failure. ((failure ≡ Failure.Memory) × HasListedRanges word.now)
         ⊎ ((failure ≡ Failure.Pool option) × HasNoListWord word.entry)) }
 {
     list_of_word(alloc, word)?.ok_or(Failure::Pool(option))
@@ -41,7 +41,7 @@ fn fixed_of(alloc: Global, word: Option<&str>) -> Result<Vec<Slot>, Failure>
 
 /// How many addresses of each class the word of `--spare` wants, 0 where there is no word.
 fn spares_of(word: Option<&str>) -> Result<ByKind<u64>, Failure>
-    ensures { MatchResult result (AreSpares word.entry)
+    ensures { MatchResult result (AreOptionSpares word.entry)
         (λ failure. (failure ≡ Failure.Spare) × HasNoSpareWord word.entry) }
 {
     match word {
@@ -56,7 +56,7 @@ fn spares_of(word: Option<&str>) -> Result<ByKind<u64>, Failure>
 
 /// The slots of the word of `--slots`, None where there is no word.
 fn slots_of(alloc: Global, word: Option<&str>) -> Result<Option<Vec<Slot>>, Failure>
-    ensures { MatchResult result (AreSlots word.entry)
+    ensures { MatchResult result (AreOptionSlots word.entry)
         (λ failure. ((failure ≡ Failure.Memory) × SpellsSlots word.entry)
         ⊎ ((failure ≡ Failure.Slots) × HasNoSlotsWord word.entry)) }
 {
@@ -87,7 +87,7 @@ pub fn settling_of(
     asked: &SettleWords<'_>,
     form: Option<Form>,
 ) -> Result<Task, Failure>
-    ensures { MatchResult result (IsSettlingOf form asked.now) (IsSettlingRefused asked.now) }
+    ensures { MatchResult result (IsSettlingAskedFor form asked.now) (IsSettlingRefused asked.now) }
 {
     let roots = roots_of(asked.root).ok_or(Failure::Root)?;
     let words = words_of(asked.model)?;

@@ -15,7 +15,7 @@ use Rattle.pci_here.specs.declared.trouble.Trouble.{Trouble}
 use Rattle.pci_here.specs.declared.trouble.Trouble.TheVariants.{Memory, Unread, Short, NoRoot, TooMany}
 use Rattle.pci_here.specs.declared.trouble.TroubleAt.{TroubleAt}
 use Rattle.pciplan_tasks.specs.Answers.{Answer}
-use Rattle.pciplan_front.specs.HereTold.{ArePieces, AreBegun, AreTold, IsCutOff, IsPiece, IsPieceOut, IsPrint, IsTrouble, Piece, greater, text_of_pieces}
+use Rattle.pciplan_front.specs.HereTold.{AreDomainPieces, AreBegun, AreDomainsTold, IsCutOff, IsPiece, IsPieceOut, IsPrint, IsTrouble, Piece, greater, text_of_pieces}
 use Rattle.pciplan_front.specs.Went.{went}
 use Rattle.pciplan_front.specs.declared.here_asked.What.{What}
 
@@ -47,8 +47,8 @@ begun_before o n a b (rest, up) = (
 
 -- a piece more
 pub pieces_more : (shown : Option Shown) (what : What) (headed : Bool) (first : List ℕ) (pieces : List Piece) (p : Piece)
-    → ArePieces shown what headed first pieces → IsPiece shown what headed p
-    → ArePieces shown what headed (first ++ p.domain ∷ []) (pieces ++ p ∷ [])
+    → AreDomainPieces shown what headed first pieces → IsPiece shown what headed p
+    → AreDomainPieces shown what headed (first ++ p.domain ∷ []) (pieces ++ p ∷ [])
 pieces_more shown what headed first pieces p are is =
     record {
       of_domains = map-append (λ (q : Piece). q.domain) pieces (p ∷ []) ∙ ap (λ v. v ++ p.domain ∷ []) are.of_domains;
@@ -64,20 +64,20 @@ status_more pieces p =
     ap (fold greater 0) (map-append (λ (q : Piece). q.status) pieces (p ∷ [])) ∙ fold-append greater 0 (map (λ (q : Piece). q.status) pieces) (p.status ∷ [])
 
 -- nothing is told yet
-pub told_none : (shown : Option Shown) (what : What) (headed : Bool) (o : Option (List ℕ)) → AreTold shown what headed [] 0 (Appends o o)
+pub told_none : (shown : Option Shown) (what : What) (headed : Bool) (o : Option (List ℕ)) → AreDomainsTold shown what headed [] 0 (Appends o o)
 told_none shown what headed o =
     record { pieces = []; are = record { of_domains = refl; each = All-nil (IsPiece shown what headed) }; status_is = refl; written = none_out o }
 
 -- a domain more is told
 pub told_more : (shown : Option Shown) (what : What) (headed : Bool) (domains : List ℕ) (i d : ℕ) (status other : ℕ) (o m n : Option (List ℕ))
-    → i < length domains → AreTold shown what headed (take i domains) status (Appends o m)
+    → i < length domains → AreDomainsTold shown what headed (take i domains) status (Appends o m)
     → IsPieceOut shown what headed (get_or domains i d) other (Appends m n)
-    → AreTold shown what headed (take (i + 1) domains) (greater status other) (Appends o n)
+    → AreDomainsTold shown what headed (take (i + 1) domains) (greater status other) (Appends o n)
 told_more shown what headed domains i d status other o m n within told out =
     let p : Piece = record { domain = get_or domains i d; status = other; text = out.text } in
     record {
       pieces = told.pieces ++ p ∷ [];
-      are = subst (λ v. ArePieces shown what headed v (told.pieces ++ p ∷ [])) (sym (take_more domains i d within))
+      are = subst (λ v. AreDomainPieces shown what headed v (told.pieces ++ p ∷ [])) (sym (take_more domains i d within))
           (pieces_more shown what headed (take i domains) told.pieces p told.are out.is);
       status_is = ap (λ v. greater v other) told.status_is ∙ sym (status_more told.pieces p);
       written = subst (Appends o n) (sym (text_more told.pieces p)) (Appends-more o m n (text_of_pieces told.pieces) out.text told.written out.written);
@@ -85,7 +85,7 @@ told_more shown what headed domains i d status other o m n within told out =
 
 -- a write failed in the piece of a domain
 pub cut_off : (shown : Option Shown) (what : What) (headed : Bool) (domains : List ℕ) (i d : ℕ) (status other : ℕ) (o m n : Option (List ℕ))
-    → i < length domains → AreTold shown what headed (take i domains) status (Appends o m)
+    → i < length domains → AreDomainsTold shown what headed (take i domains) status (Appends o m)
     → IsPieceOut shown what headed (get_or domains i d) other (AppendsBeginning m n)
     → AreBegun shown what headed domains (AppendsBeginning o n)
 cut_off shown what headed domains i d status other o m n within told out =
@@ -95,7 +95,7 @@ cut_off shown what headed domains i d status other o m n within told out =
       behind = drop (i + 1) domains;
       parts = sym (take-append-drop (i + 1) domains);
       pieces = told.pieces ++ p ∷ [];
-      are = subst (λ v. ArePieces shown what headed v (told.pieces ++ p ∷ [])) (sym (take_more domains i d within))
+      are = subst (λ v. AreDomainPieces shown what headed v (told.pieces ++ p ∷ [])) (sym (take_more domains i d within))
           (pieces_more shown what headed (take i domains) told.pieces p told.are out.is);
       written = subst (AppendsBeginning o n) (sym (text_more told.pieces p))
           (begun_behind o m n (text_of_pieces told.pieces) out.text told.written out.written);
@@ -104,7 +104,7 @@ cut_off shown what headed domains i d status other o m n within told out =
 -- all of a list of domains are told, or a write failed; `count` of them are headed
 abbrev ListTold : What → ℕ → Option (List ℕ) → Option (List ℕ) → Type 0 → Type 0 → Option Shown → ℕ → List ℕ → Type 0
 ListTold what status o n same failed shown count domains =
-    AreTold shown what (nat_lt 1 count) domains status (Appends o n)
+    AreDomainsTold shown what (nat_lt 1 count) domains status (Appends o n)
     ⊎ IsCutOff shown what (nat_lt 1 count) domains status (went o n same failed)
 
 -- the same of an equal machine, and of an equal list

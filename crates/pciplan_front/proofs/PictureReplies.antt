@@ -6,7 +6,7 @@ use Rattle.pci_dump.specs.Begun.{AppendsBeginning}
 use Rattle.pci_check.specs.Audits.{IsDumpOf}
 use Rattle.pciplan_cli.specs.CarriedOut.{TextsByPath, texts}
 use Rattle.pciplan_cli.specs.declared.invocation.Invocation.{Invocation}
-use Rattle.pciplan_tasks.specs.Also.{IsTold}
+use Rattle.pciplan_tasks.specs.Also.{IsAlsoTold}
 use Rattle.pciplan_tasks.specs.Answers.{Answer, AreRemarked, IsTextOut}
 use Rattle.pciplan_tasks.specs.Tasks.{IsAnswerTo}
 use Rattle.pciplan_tasks.specs.declared.failure.Failure.{Failure}
@@ -29,7 +29,7 @@ pub opened_drawn : {V : Type 0} (result : Result V Failure) (answer_of : V → A
     (dump_stands second_stands : List ℕ → Type 0) (dump_at second_at : List ℕ → Option (List ℕ)) (dump_left second_left : Option (List ℕ))
     → line.task ≡ task.Map beside → dump_stands (string_bytes line.dump) → second_stands (string_bytes line.probe)
     → dump_left ≡ dump_at (string_bytes line.dump) → second_left ≡ second_at (string_bytes line.probe)
-    → IfOk result (λ reply. IsTold beside.also × IsAnswerTo IsDumpOf (IsDrawnOrNot beside) dump_left second_left (answer_of reply))
+    → IfOk result (λ reply. IsAlsoTold beside.also × IsAnswerTo IsDumpOf (IsDrawnOrNot beside) dump_left second_left (answer_of reply))
     → IfOk result (λ reply. IsPictureReply line (texts dump_stands dump_at) (texts second_stands second_at) (answer_of reply))
 opened_drawn (Err failure) answer_of line beside ds ss dump_at second_at dl sl asked a b first next fact = tt
 opened_drawn (Ok reply) answer_of line beside ds ss dump_at second_at dl sl asked a b first next fact =

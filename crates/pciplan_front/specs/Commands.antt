@@ -4,24 +4,24 @@ use Rattle.pciplan_front.specs.declared.command.Command.{Command}
 use Rattle.pciplan_front.specs.declared.command.Command.TheVariants.{Here, Show, Check, Faults, Map, Size, Plan, Settle, Probe, Json, Picture, Explain, Version}
 use Rattle.pciplan_front.specs.declared.command_texts.TheConstants.{HERE, SHOW, CHECK, FAULTS, MAP, SIZE, PLAN, SETTLE, PROBE, JSON, PICTURE, EXPLAIN, VERSION}
 
-abbrev pub command_name : Command → List ℕ
-command_name Here = codes "here"
-command_name Show = codes "show"
-command_name Check = codes "check"
-command_name Faults = codes "faults"
-command_name Map = codes "map"
-command_name Size = codes "size"
-command_name Plan = codes "plan"
-command_name Settle = codes "settle"
-command_name Probe = codes "probe"
-command_name Json = codes "json"
-command_name Picture = codes "picture"
-command_name Explain = codes "explain"
-command_name Version = codes "version"
+abbrev pub explained_command_name : Command → List ℕ
+explained_command_name Here = codes "here"
+explained_command_name Show = codes "show"
+explained_command_name Check = codes "check"
+explained_command_name Faults = codes "faults"
+explained_command_name Map = codes "map"
+explained_command_name Size = codes "size"
+explained_command_name Plan = codes "plan"
+explained_command_name Settle = codes "settle"
+explained_command_name Probe = codes "probe"
+explained_command_name Json = codes "json"
+explained_command_name Picture = codes "picture"
+explained_command_name Explain = codes "explain"
+explained_command_name Version = codes "version"
 
 -- the words with which a command's text begins
 abbrev pub command_heading : Command → List ℕ
-command_heading command = codes "pciplan " ++ command_name command
+command_heading command = codes "pciplan " ++ explained_command_name command
 
 -- its text, which the manual page has
 abbrev pub command_text : Command → List ℕ

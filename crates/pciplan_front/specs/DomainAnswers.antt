@@ -55,7 +55,7 @@ IsAnswerIn Probe d answer = answer ≡ probe_answer Any d.dump d.sizes
 IsAnswerIn Words d answer = answer ≡ done (domain_line d)
 
 -- its status and its text; remarks may come to it
-pub record IsToldAs (what : What) (d : Domain) (told : Answer) : Type 0 where
+pub record IsAnswerToldIn (what : What) (d : Domain) (told : Answer) : Type 0 where
   pub answer : Answer
   pub is : IsAnswerIn what d answer
   pub same_status : told.status ≡ answer.status

@@ -8,15 +8,15 @@ use Rattle.pciplan_front.specs.declared.fault.TheConstants.{FAULTS}
 use Rattle.pciplan_front.specs.declared.command.Command.{Command}
 use Rattle.pciplan_front.specs.declared.command.TheConstants.{COMMANDS}
 use Rattle.pciplan_front.specs.declared.names.TheConstants.{NAMES}
-use Rattle.pciplan_front.specs.Faults.{fault_number, fault_name, fault_text}
-use Rattle.pciplan_front.specs.Commands.{command_name, command_text}
+use Rattle.pciplan_front.specs.Faults.{explained_fault_number, explained_fault_name, explained_fault_text}
+use Rattle.pciplan_front.specs.Commands.{explained_command_name, command_text}
 
 -- the word is the fault's number, or its name in any case
 unfoldable pub names_fault : List ℕ → Fault → Bool
-names_fault word fault = bytes_eq (fault_number fault) word || str_eq_ignore_ascii_case (fault_name fault) word
+names_fault word fault = bytes_eq (explained_fault_number fault) word || str_eq_ignore_ascii_case (explained_fault_name fault) word
 
 abbrev pub names_command : List ℕ → Command → Bool
-names_command word command = bytes_eq (command_name command) word
+names_command word command = bytes_eq (explained_command_name command) word
 
 -- the first fault, by number, or the command that a word names
 unfoldable pub named_fault : List ℕ → Option Fault
@@ -28,11 +28,11 @@ named_command word = find (names_command word) COMMANDS
 -- the text that explains a word: that of a fault, or where it names none that of a command
 abbrev pub text_of_word : List ℕ → Option (List ℕ)
 text_of_word word =
-    option_or (option_map fault_text (named_fault word)) (option_map command_text (named_command word))
+    option_or (option_map explained_fault_text (named_fault word)) (option_map command_text (named_command word))
 
 -- a text begins with these words
-abbrev pub BeginsWith : List ℕ → List ℕ → Type 0
-BeginsWith words text = IsTrue (starts_with nat_eq text words)
+abbrev pub BeginsWithHeading : List ℕ → List ℕ → Type 0
+BeginsWithHeading words text = IsTrue (starts_with nat_eq text words)
 
 -- the names of all faults and commands, a line for each
 abbrev pub all_names : List ℕ

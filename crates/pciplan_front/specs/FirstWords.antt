@@ -4,27 +4,27 @@ use Rattle.pciplan_front.specs.declared.first.First.{First}
 use Rattle.pciplan_front.specs.declared.first.First.TheVariants.{Texts, Here, Explain, Version, Json, Picture}
 
 -- the first word is this one
-abbrev pub BeginsWith : List (List ℕ) → List ℕ → Type 0
-BeginsWith [] name = ⊥
-BeginsWith (word ∷ rest) name = word ≡ name
+abbrev pub HasFirstWord : List (List ℕ) → List ℕ → Type 0
+HasFirstWord [] name = ⊥
+HasFirstWord (word ∷ rest) name = word ≡ name
 
 -- the first word is none of the five, or there is none
 pub record AreOfTexts (words : List (List ℕ)) : Type 0 where
-  pub no_here : BeginsWith words (codes "here") → ⊥
-  pub no_explain : BeginsWith words (codes "explain") → ⊥
-  pub no_version : BeginsWith words (codes "version") → ⊥
-  pub no_json : BeginsWith words (codes "json") → ⊥
-  pub no_picture : BeginsWith words (codes "picture") → ⊥
+  pub no_here : HasFirstWord words (codes "here") → ⊥
+  pub no_explain : HasFirstWord words (codes "explain") → ⊥
+  pub no_version : HasFirstWord words (codes "version") → ⊥
+  pub no_json : HasFirstWord words (codes "json") → ⊥
+  pub no_picture : HasFirstWord words (codes "picture") → ⊥
 
-abbrev pub IsFirst : List (List ℕ) → First → Type 0
-IsFirst words Texts = AreOfTexts words
-IsFirst words Here = BeginsWith words (codes "here")
-IsFirst words Explain = BeginsWith words (codes "explain")
-IsFirst words Version = BeginsWith words (codes "version")
-IsFirst words Json = BeginsWith words (codes "json")
-IsFirst words Picture = BeginsWith words (codes "picture")
+abbrev pub IsCommandOfWords : List (List ℕ) → First → Type 0
+IsCommandOfWords words Texts = AreOfTexts words
+IsCommandOfWords words Here = HasFirstWord words (codes "here")
+IsCommandOfWords words Explain = HasFirstWord words (codes "explain")
+IsCommandOfWords words Version = HasFirstWord words (codes "version")
+IsCommandOfWords words Json = HasFirstWord words (codes "json")
+IsCommandOfWords words Picture = HasFirstWord words (codes "picture")
 
 -- the words behind the first one
-abbrev pub behind : List (List ℕ) → List (List ℕ)
-behind [] = []
-behind (word ∷ rest) = rest
+abbrev pub behind_first_word : List (List ℕ) → List (List ℕ)
+behind_first_word [] = []
+behind_first_word (word ∷ rest) = rest

@@ -60,13 +60,13 @@ SayNothing words =
     ⊎ ((domain : Option ℕ) → IsDomainOf words.domain domain → ⊥)
 
 -- it is another command
-abbrev pub IsOther : Further → Type 0
-IsOther (further.Here words) = ⊥
-IsOther asked = Unit {0}
+abbrev pub IsOtherCommand : Further → Type 0
+IsOtherCommand (further.Here words) = ⊥
+IsOtherCommand asked = Unit {0}
 
 -- the words are no command line, are those of another command, or one of them says nothing
 abbrev pub AskForNothing : List (List ℕ) → Type 0
 AskForNothing words =
     IsNoFurther words
-    ⊎ ((asked : Further) × IsFurther words asked × IsOther asked)
+    ⊎ ((asked : Further) × IsFurther words asked × IsOtherCommand asked)
     ⊎ ((said : HereWords) × IsFurther words (further.Here said) × SayNothing said)

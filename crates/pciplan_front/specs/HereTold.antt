@@ -6,8 +6,8 @@ use Rattle.std.specs.Io.KnownBytes.{Appends}
 use Rattle.pci_dump.specs.Begun.{AppendsBeginning}
 use Rattle.pci_here.specs.Domain.{IsDomain, IsNoDomain}
 use Rattle.pci_here.specs.Places.{AreDomainsOf, HasNoDomains}
-use Rattle.pci_here.specs.Log.{IsLogOf, Registers, nothing}
-use Rattle.pci_here.specs.Place.{Place, domain_text}
+use Rattle.pci_here.specs.Log.{IsLogOf, Registers, no_register_told}
+use Rattle.pci_here.specs.Place.{FunctionPlace, domain_text}
 use Rattle.pci_here.specs.Shown.{IsNotHad, Shown, with_log}
 use Rattle.pci_here.specs.Trouble.{trouble_status}
 use Rattle.pci_here.specs.declared.domain.Domain.{Domain}
@@ -15,7 +15,7 @@ use Rattle.pci_here.specs.declared.trouble.Trouble.{Trouble}
 use Rattle.pci_here.specs.declared.trouble.Trouble.TheVariants.{Memory}
 use Rattle.pci_here.specs.declared.trouble.TroubleAt.{TroubleAt}
 use Rattle.pciplan_tasks.specs.Answers.{Answer}
-use Rattle.pciplan_front.specs.DomainAnswers.{IsToldAs}
+use Rattle.pciplan_front.specs.DomainAnswers.{IsAnswerToldIn}
 use Rattle.pciplan_front.specs.HereAsked.{AskForNothing, IsHereAsked}
 use Rattle.pciplan_front.specs.Went.{Went}
 use Rattle.pciplan_front.specs.declared.here_asked.HereAsked.{HereAsked}
@@ -33,7 +33,7 @@ pub record IsPrint (shown : Option Shown) (what : What) (headed : Bool) (domain 
     (head : List ℕ) (told : Answer) : Type 0 where
   pub read : Domain
   pub is : IfSome shown (λ m. IsDomain m domain read)
-  pub answer : IsToldAs what read told
+  pub answer : IsAnswerToldIn what read told
   pub head_is : head ≡ heading headed domain
 
 -- what is written of a domain, and its status
@@ -43,7 +43,7 @@ pub record Piece : Type 0 where
   pub text : List ℕ
 
 -- the domain was read, and what is asked for of it is written
-pub record IsRead (shown : Option Shown) (what : What) (headed : Bool) (p : Piece) : Type 0 where
+pub record IsDomainRead (shown : Option Shown) (what : What) (headed : Bool) (p : Piece) : Type 0 where
   pub head : List ℕ
   pub told : Answer
   pub print : IsPrint shown what headed p.domain head told
@@ -57,12 +57,12 @@ pub record IsTrouble (shown : Option Shown) (domain status : ℕ) : Type 0 where
   pub status_is : status ≡ trouble_status at.trouble
 
 -- it couldn't be read, or memory was refused: nothing of it is written
-pub record IsUnread (shown : Option Shown) (p : Piece) : Type 0 where
+pub record IsDomainUnread (shown : Option Shown) (p : Piece) : Type 0 where
   pub trouble : IsTrouble shown p.domain p.status
   pub text : p.text ≡ []
 
 abbrev pub IsPiece : Option Shown → What → Bool → Piece → Type 0
-IsPiece shown what headed p = IsRead shown what headed p ⊎ IsUnread shown p
+IsPiece shown what headed p = IsDomainRead shown what headed p ⊎ IsDomainUnread shown p
 
 pub record IsPieceOut (shown : Option Shown) (what : What) (headed : Bool) (domain status : ℕ)
     (IsWritten : List ℕ → Type 0) : Type 0 where
@@ -73,7 +73,7 @@ pub record IsPieceOut (shown : Option Shown) (what : What) (headed : Bool) (doma
 -- ---- some domains, one after the other
 
 -- a piece of each
-pub record ArePieces (shown : Option Shown) (what : What) (headed : Bool) (domains : List ℕ)
+pub record AreDomainPieces (shown : Option Shown) (what : What) (headed : Bool) (domains : List ℕ)
     (pieces : List Piece) : Type 0 where
   pub of_domains : map (λ p. p.domain) pieces ≡ domains
   pub each : All (IsPiece shown what headed) pieces
@@ -89,10 +89,10 @@ abbrev pub status_of_pieces : List Piece → ℕ
 status_of_pieces pieces = fold greater 0 (map (λ p. p.status) pieces)
 
 -- all of them are written
-pub record AreTold (shown : Option Shown) (what : What) (headed : Bool) (domains : List ℕ)
+pub record AreDomainsTold (shown : Option Shown) (what : What) (headed : Bool) (domains : List ℕ)
     (status : ℕ) (IsWritten : List ℕ → Type 0) : Type 0 where
   pub pieces : List Piece
-  pub are : ArePieces shown what headed domains pieces
+  pub are : AreDomainPieces shown what headed domains pieces
   pub status_is : status ≡ status_of_pieces pieces
   pub written : IsWritten (text_of_pieces pieces)
 
@@ -103,7 +103,7 @@ pub record AreBegun (shown : Option Shown) (what : What) (headed : Bool) (domain
   pub behind : List ℕ
   pub parts : domains ≡ first ++ behind
   pub pieces : List Piece
-  pub are : ArePieces shown what headed first pieces
+  pub are : AreDomainPieces shown what headed first pieces
   pub written : IsWritten (text_of_pieces pieces)
 
 -- a write failed
@@ -130,8 +130,8 @@ abbrev pub files : (List ℕ → Option Shown) → (List ℕ → Option (Option 
 files shown_in text_at = record { shown_in = shown_in; text_at = text_at }
 
 -- what the log of the file tells that is asked for; nothing where none is
-abbrev pub IsAskedLog : (List ℕ → Option (Option (List ℕ))) → Option (String Global) → (Place → Registers) → Type 0
-IsAskedLog text_at None log = (p : Place) → log p ≡ nothing
+abbrev pub IsAskedLog : (List ℕ → Option (Option (List ℕ))) → Option (String Global) → (FunctionPlace → Registers) → Type 0
+IsAskedLog text_at None log = (p : FunctionPlace) → log p ≡ no_register_told
 IsAskedLog text_at (Some path) log =
     (text : List ℕ) × IfSome (text_at (string_bytes path)) (λ told. told ≡ Some text) × IsLogOf text log
 
@@ -141,7 +141,7 @@ HasNoLog text_at None trouble = trouble ≡ Memory
 HasNoLog text_at (Some path) trouble = IfSome (text_at (string_bytes path)) (λ told. IsNotHad told trouble)
 
 -- the machine in the folder that is asked for, with what the log tells of it
-abbrev pub shown_of : Files → HereAsked → (Place → Registers) → Option Shown
+abbrev pub shown_of : Files → HereAsked → (FunctionPlace → Registers) → Option Shown
 shown_of f asked log = with_log (f.shown_in (string_bytes asked.folder)) log
 
 -- what is told of the domains that the words ask for, of the machine in the folder and by the log that they name; each has
@@ -150,7 +150,7 @@ pub record IsOfDomains (words : List (List ℕ)) (f : Files)
     (Tells : Option Shown → What → Bool → List ℕ → Type 0) : Type 0 where
   pub asked : HereAsked
   pub of_words : IsHereAsked words asked
-  pub log : Place → Registers
+  pub log : FunctionPlace → Registers
   pub is_log : IsAskedLog f.text_at asked.log log
   pub domains : List ℕ
   pub are : AreAsked (shown_of f asked log) asked.domain domains
@@ -168,7 +168,7 @@ AreNotHad shown None trouble = IfSome shown (λ m. HasNoDomains m trouble)
 pub record IsWithoutDomains (words : List (List ℕ)) (f : Files) (status : ℕ) : Type 0 where
   pub asked : HereAsked
   pub of_words : IsHereAsked words asked
-  pub log : Place → Registers
+  pub log : FunctionPlace → Registers
   pub is_log : IsAskedLog f.text_at asked.log log
   pub trouble : Trouble
   pub are_not : AreNotHad (shown_of f asked log) asked.domain trouble
@@ -183,14 +183,14 @@ pub record IsWithoutLog (words : List (List ℕ)) (f : Files) (status : ℕ) : T
   pub status_is : status ≡ trouble_status trouble
 
 -- each domain is told or unread, and the status is the greatest of theirs; or a write failed
-abbrev pub IsDone : List (List ℕ) → Files → ℕ → Went → Type 0
-IsDone words f status out =
+abbrev pub IsHereDone : List (List ℕ) → Files → ℕ → Went → Type 0
+IsHereDone words f status out =
     IsOfDomains words f
-    (λ shown what headed domains. AreTold shown what headed domains status
+    (λ shown what headed domains. AreDomainsTold shown what headed domains status
     (Appends out.before out.after) ⊎ IsCutOff shown what headed domains status out)
 
 -- nothing is written where the words ask for nothing, or the log or the domains can't be had
-abbrev pub IsHere : List (List ℕ) → Files → ℕ → Went → Type 0
-IsHere words f status out =
+abbrev pub IsHereCommand : List (List ℕ) → Files → ℕ → Went → Type 0
+IsHereCommand words f status out =
     ((IsUnasked words status ⊎ IsWithoutLog words f status ⊎ IsWithoutDomains words f status) × out.same)
-    ⊎ IsDone words f status out
+    ⊎ IsHereDone words f status out

@@ -9,21 +9,21 @@ use Rattle.plan_spec.specs.Plan.{PlanFault}
 use Rattle.plan_spec.specs.PlanLine.{plan_fault_text}
 use Rattle.pciplan_front.specs.declared.fault.Fault.{Fault}
 use Rattle.pciplan_front.specs.declared.command.Command.{Command}
-use Rattle.pciplan_front.specs.Faults.{fault_number, fault_heading}
-use Rattle.pciplan_front.specs.Commands.{command_name}
-use Rattle.pciplan_front.specs.Explained.{named_fault, named_command, BeginsWith}
+use Rattle.pciplan_front.specs.Faults.{explained_fault_number, fault_heading}
+use Rattle.pciplan_front.specs.Commands.{explained_command_name}
+use Rattle.pciplan_front.specs.Explained.{named_fault, named_command, BeginsWithHeading}
 
 -- A fault's number names it, and a command's name names it,
 abbrev pub NumbersName : Type 0
-NumbersName = (fault : Fault) → named_fault (fault_number fault) ≡ Some fault
+NumbersName = (fault : Fault) → named_fault (explained_fault_number fault) ≡ Some fault
 
 abbrev pub NamesName : Type 0
-NamesName = (command : Command) → named_command (command_name command) ≡ Some command
+NamesName = (command : Command) → named_command (explained_command_name command) ≡ Some command
 
 -- the printed text of a fault begins with the number and the name of one that is explained.
 pub record HasHeading (text : List ℕ) : Type 0 where
   pub fault : Fault
-  pub begins : BeginsWith (fault_heading fault) text
+  pub begins : BeginsWithHeading (fault_heading fault) text
 
 -- That holds of the faults of a dump with its probe, 20 to 31 and 50 to 63,
 abbrev pub FaultsHaveHeadings : Type 0

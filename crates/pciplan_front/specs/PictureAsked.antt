@@ -9,7 +9,7 @@ use Rattle.pci_picture.specs.Whole.{IsPictureText}
 use Rattle.pciplan_cli.specs.CarriedOut.{TextsByPath}
 use Rattle.pciplan_cli.specs.Invocations.{IsInvocationOf, HasBadWords}
 use Rattle.pciplan_cli.specs.declared.invocation.Invocation.{Invocation}
-use Rattle.pciplan_tasks.specs.Also.{IsTold}
+use Rattle.pciplan_tasks.specs.Also.{IsAlsoTold}
 use Rattle.pciplan_tasks.specs.Answers.{Answer, AreRemarked, done_with}
 use Rattle.pciplan_tasks.specs.Tasks.{IsAnswerTo, IsPairAnswer, IsTaskRefused}
 use Rattle.pciplan_tasks.specs.declared.task.Beside.{Beside}
@@ -47,7 +47,7 @@ IsDrawnOrNot beside dump probe answer = IsDrawn beside dump probe answer ⊎ IsN
 pub record IsPictureReply (line : Invocation) (dump second : TextsByPath) (reply : Answer) : Type 0 where
   pub beside : Beside
   pub asked : line.task ≡ task.Map beside
-  pub told : IsTold beside.also
+  pub told : IsAlsoTold beside.also
   pub dump_stands : dump.stands (string_bytes line.dump)
   pub second_stands : second.stands (string_bytes line.probe)
   pub is : IsAnswerTo IsDumpOf (IsDrawnOrNot beside) (dump.bytes_at (string_bytes line.dump))

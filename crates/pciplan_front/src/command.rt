@@ -1,7 +1,7 @@
 //! The commands that are explained.
 ghost use Rattle.std.specs.Prelude.{◌≡◌, nat_eq, IsTrue};
 ghost use Rattle.std.specs.List.{starts_with};
-ghost use Rattle.pciplan_front.specs.Commands.{command_name, command_heading, command_text};
+ghost use Rattle.pciplan_front.specs.Commands.{explained_command_name, command_heading, command_text};
 
 use super::command_texts as texts;
 
@@ -43,7 +43,7 @@ pub const COMMANDS: [Command; 13] = [
 impl Command {
     /// The name.
     pub fn name(self) -> &'static str
-        ensures { result.now ≡ command_name self }
+        ensures { result.now ≡ explained_command_name self }
     {
         match self {
             Command::Here => "here",

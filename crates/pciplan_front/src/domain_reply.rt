@@ -3,7 +3,7 @@ ghost use Rattle.std.specs.Prelude.{◌≡◌, IfOk};
 ghost use Rattle.judge_spec.specs.ModelWords.{all_words};
 ghost use Rattle.pci_model.specs.WordsValue.{words_value};
 ghost use Rattle.pciplan_tasks.specs.Answers.{answer_of};
-ghost use Rattle.pciplan_front.specs.DomainAnswers.{IsBesideOf, IsJudgedBy, IsToldAs, what_judged};
+ghost use Rattle.pciplan_front.specs.DomainAnswers.{IsBesideOf, IsJudgedBy, IsAnswerToldIn, what_judged};
 
 use crate::here_asked::What;
 use pci_base::memory::{OutOfMemory, Refused};
@@ -88,7 +88,7 @@ fn judged_by(
 
 /// The faults or the map of a domain, with the probe that is derived for it; the line of a fault where none is derived.
 fn judged(alloc: Global, domain: Domain, judging: Judging) -> Result<Reply<Global>, OutOfMemory>
-    ensures { IfOk result (λ reply. IsToldAs (what_judged judging) domain (answer_of reply)) }
+    ensures { IfOk result (λ reply. IsAnswerToldIn (what_judged judging) domain (answer_of reply)) }
 {
     let derivation = match probe_of(alloc, &domain.dump, &domain.sizes, Assuming::Any) {
         Ok(derivation) => derivation,
@@ -137,7 +137,7 @@ fn push_notes(text: &mut String, notes: Notes) -> Result<(), AllocError> {
 
 /// What is printed of a domain.
 fn printed(alloc: Global, what: What, domain: Domain) -> Result<Reply<Global>, OutOfMemory>
-    ensures { IfOk result (λ reply. IsToldAs what domain (answer_of reply)) }
+    ensures { IfOk result (λ reply. IsAnswerToldIn what domain (answer_of reply)) }
 {
     match what {
         What::Faults => judged(alloc, domain, Judging::Faults),
@@ -150,7 +150,7 @@ fn printed(alloc: Global, what: What, domain: Domain) -> Result<Reply<Global>, O
 
 /// What `here` answers of a domain.
 pub fn domain_reply(alloc: Global, what: What, domain: Domain) -> Result<Reply<Global>, OutOfMemory>
-    ensures { IfOk result (λ reply. IsToldAs what domain (answer_of reply)) }
+    ensures { IfOk result (λ reply. IsAnswerToldIn what domain (answer_of reply)) }
 {
     let notes = notes_on(what, &domain);
     let mut reply = printed(alloc, what, domain)?;

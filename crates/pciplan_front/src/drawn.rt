@@ -4,7 +4,7 @@ ghost use Rattle.std.specs.Io.KnownBytes.{Appends};
 ghost use Rattle.pci_dump.specs.Begun.{AppendsBeginning};
 ghost use Rattle.pci_check.specs.Audits.{IsDumpOf};
 ghost use Rattle.pciplan_cli.specs.CarriedOut.{texts};
-ghost use Rattle.pciplan_tasks.specs.Also.{IsAlsoUnread, IsTold};
+ghost use Rattle.pciplan_tasks.specs.Also.{IsAlsoUnread, IsAlsoTold};
 ghost use Rattle.pciplan_tasks.specs.Answers.{AreRemarked, answer_of, text_bytes};
 ghost use Rattle.pciplan_tasks.specs.Statuses.{status_of};
 ghost use Rattle.pciplan_tasks.specs.Tasks.{HasFailed, IsAnswerTo, IsFailureOf};
@@ -93,7 +93,7 @@ fn drawn_texts<D: Source, P: Source>(
     dump: &mut D,
     probe: &mut P,
 ) -> Result<Reply<Global>, Failure>
-    ensures reply { IfOk result (λ reply. IsTold beside.now.also
+    ensures reply { IfOk result (λ reply. IsAlsoTold beside.now.also
         × IsAnswerTo IsDumpOf (IsDrawnOrNot beside.now) (D.left dump.old) (P.left probe.old)
         (answer_of reply)) }
     ensures failure { IfErr result

@@ -1,7 +1,7 @@
 //! The faults that are explained.
 ghost use Rattle.std.specs.Prelude.{◌≡◌, nat_eq, IsTrue};
 ghost use Rattle.std.specs.List.{starts_with};
-ghost use Rattle.pciplan_front.specs.Faults.{fault_number, fault_name, fault_heading, fault_text};
+ghost use Rattle.pciplan_front.specs.Faults.{explained_fault_number, explained_fault_name, fault_heading, explained_fault_text};
 
 use super::fault_texts as texts;
 
@@ -117,7 +117,7 @@ pub const FAULTS: [Fault; 49] = [
 impl Fault {
     /// The number in decimal digits.
     pub fn number(self) -> &'static str
-        ensures { result.now ≡ fault_number self }
+        ensures { result.now ≡ explained_fault_number self }
     {
         match self {
             Fault::ReadIo => "1",
@@ -174,7 +174,7 @@ impl Fault {
 
     /// The name.
     pub fn name(self) -> &'static str
-        ensures { result.now ≡ fault_name self }
+        ensures { result.now ≡ explained_fault_name self }
     {
         match self {
             Fault::ReadIo => "Io",
@@ -231,7 +231,7 @@ impl Fault {
 
     /// What it is, what it mostly comes from and what to do. The first line begins with number and name.
     pub fn text(self) -> &'static str
-        ensures text { result.now ≡ fault_text self }
+        ensures text { result.now ≡ explained_fault_text self }
         ensures heading { IsTrue (starts_with nat_eq result.now (fault_heading self)) }
     {
         match self {

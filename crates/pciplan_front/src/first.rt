@@ -1,6 +1,6 @@
 //! The first word of a command line.
 ghost use Rattle.std.specs.Prelude.{map, string_bytes};
-ghost use Rattle.pciplan_front.specs.FirstWords.{IsFirst};
+ghost use Rattle.pciplan_front.specs.FirstWords.{IsCommandOfWords};
 
 /// Whose the words are.
 #[derive(Clone, Copy, Debug, PartialEq, Eq)]
@@ -16,7 +16,7 @@ pub enum First {
 
 /// Whose the words are, by the first one.
 pub fn first_of(words: &[String]) -> First
-    ensures { IsFirst (map string_bytes words.now) result }
+    ensures { IsCommandOfWords (map string_bytes words.now) result }
 {
     let Some(word) = words.first() else {
         return First::Texts;

@@ -7,11 +7,11 @@ ghost use Rattle.pciplan_cli.specs.Invocations.{HasBadWords, IsInvocationOf};
 ghost use Rattle.pciplan_cli.specs.declared.invocation.Invocation.{Invocation};
 ghost use Rattle.pciplan_tasks.specs.Answers.{AreRemarked};
 ghost use Rattle.pciplan_tasks.specs.Tasks.{HasFailed, IsTaskRefused};
-ghost use Rattle.pciplan_front.specs.FirstWords.{AreOfTexts, BeginsWith, behind};
-ghost use Rattle.pciplan_front.specs.HereTold.{IsHere, files};
+ghost use Rattle.pciplan_front.specs.FirstWords.{AreOfTexts, HasFirstWord, behind_first_word};
+ghost use Rattle.pciplan_front.specs.HereTold.{IsHereCommand, files};
 ghost use Rattle.pciplan_front.specs.JsonAsked.{IsJson};
 ghost use Rattle.pciplan_front.specs.PictureAsked.{IsPicture};
-ghost use Rattle.pciplan_front.specs.TextAsked.{IsTold};
+ghost use Rattle.pciplan_front.specs.TextAsked.{IsTextCommand};
 ghost use Rattle.pciplan_front.specs.Went.{went};
 
 use crate::documents::json;
@@ -42,7 +42,7 @@ fn lent<'a>(alloc: Global, words: &'a [String]) -> Result<Vec<&'a str>, AllocErr
 
 /// The words behind the first one.
 fn behind_first<'a>(words: &'a [&'a str]) -> &'a [&'a str]
-    ensures { map (λ word. word.now) result.now ≡ behind (map (λ word. word.now) words.now) }
+    ensures { map (λ word. word.now) result.now ≡ behind_first_word (map (λ word. word.now) words.now) }
 {
     if words.is_empty() {
         return words;
@@ -58,10 +58,10 @@ fn beside<D: Opening, P: Opening, M: Foldered, O: Sink, E: Sink>(
     outside: &mut Outside<D, P, M, O, E>,
 ) -> u8
     ensures text { (first ≡ First.Explain) ⊎ (first ≡ First.Version)
-        → IsTold (map string_bytes words.now) result
+        → IsTextCommand (map string_bytes words.now) result
         (went (O.taken outside.old.out) (O.taken outside.new.out) (outside.new.out ≡ outside.old.out)
         (O.failures outside.new.out ≡ O.failures outside.old.out + 1)) }
-    ensures json { first ≡ First.Json → IsJson (behind (map string_bytes words.now))
+    ensures json { first ≡ First.Json → IsJson (behind_first_word (map string_bytes words.now))
         (texts (D.stands outside.old.dump) (D.bytes_at outside.old.dump))
         (texts (P.stands outside.old.second) (P.bytes_at outside.old.second))
         (texts (P.stands outside.old.third) (P.bytes_at outside.old.third))
@@ -74,7 +74,7 @@ fn beside<D: Opening, P: Opening, M: Foldered, O: Sink, E: Sink>(
         (P.failures outside.old.second) (P.failures outside.new.second)
         (O.failures outside.old.out) (O.failures outside.new.out)
         ⊎ (P.failures outside.new.third ≡ P.failures outside.old.third + 1)) }
-    ensures picture { first ≡ First.Picture → IsPicture (behind (map string_bytes words.now))
+    ensures picture { first ≡ First.Picture → IsPicture (behind_first_word (map string_bytes words.now))
         (texts (D.stands outside.old.dump) (D.bytes_at outside.old.dump))
         (texts (P.stands outside.old.second) (P.bytes_at outside.old.second))
         (texts (P.stands outside.old.third) (P.bytes_at outside.old.third))
@@ -87,7 +87,7 @@ fn beside<D: Opening, P: Opening, M: Foldered, O: Sink, E: Sink>(
         (P.failures outside.old.second) (P.failures outside.new.second)
         (O.failures outside.old.out) (O.failures outside.new.out)
         ⊎ (P.failures outside.new.third ≡ P.failures outside.old.third + 1)) }
-    ensures here { first ≡ First.Here → IsHere (map string_bytes words.now)
+    ensures here { first ≡ First.Here → IsHereCommand (map string_bytes words.now)
         (files (M.shown_in outside.old.machine) (M.text_at outside.old.machine)) result
         (went (O.taken outside.old.out) (O.taken outside.new.out) (outside.new.out ≡ outside.old.out)
         ((before : ℕ) × (O.failures outside.new.out ≡ before + 1))) }
@@ -155,14 +155,14 @@ pub fn front<D: Opening, P: Opening, M: Foldered, O: Sink, E: Sink>(
         (O.failures outside.old.out) (O.failures outside.new.out)
         ⊎ (P.failures outside.new.third ≡ P.failures outside.old.third + 1)) }
     // `explain` and `version`
-    ensures text { IfOk words (λ words. BeginsWith (map string_bytes words.items) (codes "explain")
-        ⊎ BeginsWith (map string_bytes words.items) (codes "version")
-        → IsTold (map string_bytes words.items) result
+    ensures text { IfOk words (λ words. HasFirstWord (map string_bytes words.items) (codes "explain")
+        ⊎ HasFirstWord (map string_bytes words.items) (codes "version")
+        → IsTextCommand (map string_bytes words.items) result
         (went (O.taken outside.old.out) (O.taken outside.new.out) (outside.new.out ≡ outside.old.out)
         (O.failures outside.new.out ≡ O.failures outside.old.out + 1))) }
     // `json` and a command
-    ensures json { IfOk words (λ words. BeginsWith (map string_bytes words.items) (codes "json")
-        → IsJson (behind (map string_bytes words.items))
+    ensures json { IfOk words (λ words. HasFirstWord (map string_bytes words.items) (codes "json")
+        → IsJson (behind_first_word (map string_bytes words.items))
         (texts (D.stands outside.old.dump) (D.bytes_at outside.old.dump))
         (texts (P.stands outside.old.second) (P.bytes_at outside.old.second))
         (texts (P.stands outside.old.third) (P.bytes_at outside.old.third))
@@ -176,8 +176,8 @@ pub fn front<D: Opening, P: Opening, M: Foldered, O: Sink, E: Sink>(
         (O.failures outside.old.out) (O.failures outside.new.out)
         ⊎ (P.failures outside.new.third ≡ P.failures outside.old.third + 1))) }
     // `picture` and the words of a map
-    ensures picture { IfOk words (λ words. BeginsWith (map string_bytes words.items) (codes "picture")
-        → IsPicture (behind (map string_bytes words.items))
+    ensures picture { IfOk words (λ words. HasFirstWord (map string_bytes words.items) (codes "picture")
+        → IsPicture (behind_first_word (map string_bytes words.items))
         (texts (D.stands outside.old.dump) (D.bytes_at outside.old.dump))
         (texts (P.stands outside.old.second) (P.bytes_at outside.old.second))
         (texts (P.stands outside.old.third) (P.bytes_at outside.old.third))
@@ -190,8 +190,8 @@ pub fn front<D: Opening, P: Opening, M: Foldered, O: Sink, E: Sink>(
         (P.failures outside.old.second) (P.failures outside.new.second)
         (O.failures outside.old.out) (O.failures outside.new.out)
         ⊎ (P.failures outside.new.third ≡ P.failures outside.old.third + 1))) }
-    ensures here { IfOk words (λ words. BeginsWith (map string_bytes words.items) (codes "here")
-        → IsHere (map string_bytes words.items)
+    ensures here { IfOk words (λ words. HasFirstWord (map string_bytes words.items) (codes "here")
+        → IsHereCommand (map string_bytes words.items)
         (files (M.shown_in outside.old.machine) (M.text_at outside.old.machine)) result
         (went (O.taken outside.old.out) (O.taken outside.new.out) (outside.new.out ≡ outside.old.out)
         ((before : ℕ) × (O.failures outside.new.out ≡ before + 1)))) }

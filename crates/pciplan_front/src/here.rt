@@ -5,7 +5,7 @@ ghost use Rattle.pci_dump.specs.Begun.{AppendsBeginning};
 ghost use Rattle.pci_here.specs.Log.{log_of};
 ghost use Rattle.pci_here.specs.Trouble.{trouble_status};
 ghost use Rattle.pciplan_tasks.specs.Answers.{answer_of};
-ghost use Rattle.pciplan_front.specs.HereTold.{AreAsked, AreNotHad, AreTold, HasNoLog, IsAskedLog, IsCutOff, IsHere, IsPieceOut, IsPrint, IsTrouble, files, greater, heading};
+ghost use Rattle.pciplan_front.specs.HereTold.{AreAsked, AreNotHad, AreDomainsTold, HasNoLog, IsAskedLog, IsCutOff, IsHereCommand, IsPieceOut, IsPrint, IsTrouble, files, greater, heading};
 ghost use Rattle.pciplan_front.specs.Went.{went};
 
 use crate::domain_reply::domain_reply;
@@ -144,7 +144,7 @@ fn tell_domains<M: Machine, O: Sink, E: Sink>(
     out: &mut O,
     err: &mut E,
 ) -> u8
-    ensures told { AreTold (M.shown each.now.machine.now) each.now.what each.now.headed domains.now
+    ensures told { AreDomainsTold (M.shown each.now.machine.now) each.now.what each.now.headed domains.now
         result (Appends (O.taken out.old) (O.taken out.new))
         ⊎ IsCutOff (M.shown each.now.machine.now) each.now.what each.now.headed domains.now
         result (went (O.taken out.old) (O.taken out.new) (out.new ≡ out.old)
@@ -200,7 +200,7 @@ pub fn here<D, P, M: Foldered, O: Sink, E: Sink>(
     words: &[&str],
     outside: &mut Outside<D, P, M, O, E>,
 ) -> u8
-    ensures done { IsHere (map (λ w. w.now) words.now)
+    ensures done { IsHereCommand (map (λ w. w.now) words.now)
         (files (M.shown_in outside.old.machine) (M.text_at outside.old.machine)) result
         (went (O.taken outside.old.out) (O.taken outside.new.out) (outside.new.out ≡ outside.old.out)
         ((before : ℕ) × (O.failures outside.new.out ≡ before + 1))) }

@@ -1,7 +1,7 @@
 //! The texts of `explain` and `version`.
 ghost use Rattle.std.specs.Prelude.{◌≡◌, ◌⊎◌, ◌≤◌, ◌+◌, ℕ, List, map, MatchOption, MatchResult};
 ghost use Rattle.pciplan_tasks.specs.declared.failure.Failure.{Failure};
-ghost use Rattle.pciplan_front.specs.TextAsked.{AskForNoText, IsTextAsked, IsTextOf, IsTold};
+ghost use Rattle.pciplan_front.specs.TextAsked.{AskForNoText, IsTextAsked, IsFurtherText, IsTextCommand};
 ghost use Rattle.pciplan_front.specs.Went.{went};
 
 use super::explain::{all, explanation, version};
@@ -15,8 +15,8 @@ use std::alloc::Global;
 /// The text that is asked for; None where nothing is explained by the word, or something else is asked for.
 #[tactic(auto, using(crate::proofs::Texts::explained))]
 fn text_of(asked: &Further<'_>) -> Option<&'static str>
-    ensures { MatchOption result ((text : List ℕ) → IsTextOf asked.now text → ⊥)
-        (λ text. IsTextOf asked.now text.now) }
+    ensures { MatchOption result ((text : List ℕ) → IsFurtherText asked.now text → ⊥)
+        (λ text. IsFurtherText asked.now text.now) }
 {
     match asked {
         Further::Explain { word: None } => Some(all()),
@@ -42,7 +42,7 @@ fn text_asked(alloc: Global, words: &[&str]) -> Result<&'static str, Failure>
 /// Writes the text that the words ask for to `out`, or a message to `err`, and answers the status: 0 where the text was
 /// written; 2 where the words ask for none; 3 at want of memory; 4 where a write failed.
 pub fn tell<O: Sink, E: Sink>(alloc: Global, words: &[&str], out: &mut O, err: &mut E) -> u8
-    ensures told { IsTold (map (λ w. w.now) words.now) result
+    ensures told { IsTextCommand (map (λ w. w.now) words.now) result
         (went (O.taken out.old) (O.taken out.new) (out.new ≡ out.old)
         (O.failures out.new ≡ O.failures out.old + 1)) }
     ensures known { result ≤ 4 }

@@ -1,10 +1,10 @@
 -- Words that are joined by commas: what is read of them, and that nothing else is joined so.
 use Rattle.std.proofs.Common.{◌≡◌, ℕ, List, [], ◌∷◌, ◌++◌, length, get_or, drop, Option, None, Some, Bor, refl, sym, ◌∙◌, ap, subst, arith}
 use Rattle.std.proofs.lemmas.List.{append_assoc, append-nil}
-use Rattle.pciplan_lists.specs.Joined.{AreJoined, behind}
+use Rattle.pciplan_lists.specs.Joined.{AreJoined, rest_with_comma}
 use Rattle.pciplan_lists.proofs.Without.{Without, IsBehind, cut_same}
 
-pub behind_part : (left : Option (Bor (List ℕ))) → IsBehind 44 (behind left)
+pub behind_part : (left : Option (Bor (List ℕ))) → IsBehind 44 (rest_with_comma left)
 behind_part None = λ some. absurd (omega (arith, some))
 behind_part (Some left) = λ some. refl
 
@@ -45,26 +45,26 @@ module _ {X : Type 0} (Is : List ℕ → X → Type 0) (clean : (word : List ℕ
       (ap (λ t. drop 1 t) (sym are.1.parts)) in
       record { is = subst (λ w. Is w x) same.0 are.1.is; are = subst (λ t. AreJoined Is t more) same.1 are.2 }
 
-  bad_first : (text first : List ℕ) (left : Option (Bor (List ℕ))) → text ≡ 44 ∷ (first ++ behind left) → Without 44 first
+  bad_first : (text first : List ℕ) (left : Option (Bor (List ℕ))) → text ≡ 44 ∷ (first ++ rest_with_comma left) → Without 44 first
       → ((x : X) → Is first x → ⊥) → (more : List X) → AreJoined Is text more → ⊥
   bad_first text first left is none bad [] are = omega (arith, ap length (sym is ∙ are))
   bad_first text first left is none bad (x ∷ more) are =
-      bad x (first_same first (behind left) x more none (behind_part left) (subst (λ t. AreJoined Is t (x ∷ more)) is are)).is
+      bad x (first_same first (rest_with_comma left) x more none (behind_part left) (subst (λ t. AreJoined Is t (x ∷ more)) is are)).is
 
   -- a part that is no word is in no list
   pub read_bad : (whole text first : List ℕ) (left : Option (Bor (List ℕ))) (done : List X) → IsRead whole text done
-      → text ≡ 44 ∷ (first ++ behind left) → Without 44 first → ((x : X) → Is first x → ⊥)
+      → text ≡ 44 ∷ (first ++ rest_with_comma left) → Without 44 first → ((x : X) → Is first x → ⊥)
       → (list : List X) → AreJoined Is whole list → ⊥
   read_bad whole text first left done read is none bad list are =
       let l = read.back list are in
       bad_first text first left is none bad l.more l.are
 
   left_more : (text first : List ℕ) (left : Option (Bor (List ℕ))) (done : List X) (x : X)
-      → text ≡ 44 ∷ (first ++ behind left) → Without 44 first → ((y : X) → Is first y → x ≡ y)
-      → (list more : List X) → list ≡ done ++ more → AreJoined Is text more → IsLeft (behind left) (done ++ x ∷ []) list
+      → text ≡ 44 ∷ (first ++ rest_with_comma left) → Without 44 first → ((y : X) → Is first y → x ≡ y)
+      → (list more : List X) → list ≡ done ++ more → AreJoined Is text more → IsLeft (rest_with_comma left) (done ++ x ∷ []) list
   left_more text first left done x is none only list [] parts are = absurd (omega (arith, ap length (sym is ∙ are)))
   left_more text first left done x is none only list (y ∷ more) parts are =
-      let same = first_same first (behind left) y more none (behind_part left) (subst (λ t. AreJoined Is t (y ∷ more)) is are) in
+      let same = first_same first (rest_with_comma left) y more none (behind_part left) (subst (λ t. AreJoined Is t (y ∷ more)) is are) in
       record {
         more = more;
         parts = parts ∙ ap (λ z. done ++ z ∷ more) (sym (only y same.is)) ∙ sym (append_assoc done (x ∷ []) more);
@@ -73,11 +73,11 @@ module _ {X : Type 0} (Is : List ℕ → X → Type 0) (clean : (word : List ℕ
 
   -- one more
   pub read_more : (whole text first : List ℕ) (left : Option (Bor (List ℕ))) (done : List X) (x : X) → IsRead whole text done
-      → text ≡ 44 ∷ (first ++ behind left) → Without 44 first → Is first x
-      → ((y : X) → Is first y → x ≡ y) → IsRead whole (behind left) (done ++ x ∷ [])
+      → text ≡ 44 ∷ (first ++ rest_with_comma left) → Without 44 first → Is first x
+      → ((y : X) → Is first y → x ≡ y) → IsRead whole (rest_with_comma left) (done ++ x ∷ [])
   read_more whole text first left done x read is none word only = record {
     on = λ more are. subst (λ l. AreJoined Is whole l) (sym (append_assoc done (x ∷ []) more))
-        (read.on (x ∷ more) (behind left, record { word = first; is = word; parts = is }, are));
+        (read.on (x ∷ more) (rest_with_comma left, record { word = first; is = word; parts = is }, are));
     back = λ list are.
         let l = read.back list are in
         left_more text first left done x is none only list l.more l.parts l.are;

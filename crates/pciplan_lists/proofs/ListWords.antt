@@ -3,7 +3,7 @@ use Rattle.std.proofs.Common.{◌≡◌, ◌≢◌, ℕ, List, [], ◌∷◌, �
 use Rattle.std.proofs.lemmas.List.{append_assoc}
 use Rattle.pci_base.specs.declared.range.RootRange.{RootRange}
 use Rattle.pciplan_lists.specs.Joined.{AreJoined}
-use Rattle.pciplan_lists.specs.ListWords.{HasRanges, IsRangeWord, IsListWord, bus_text}
+use Rattle.pciplan_lists.specs.ListWords.{HasListedRanges, IsRangeWord, IsListWord, bus_text}
 use Rattle.pciplan_lists.proofs.Without.{Without, without_one, not_without}
 
 pub of_ranges : (word : List ℕ) (list : List RootRange) → AreJoined IsRangeWord (44 ∷ word) list → IsListWord word list
@@ -14,7 +14,7 @@ pub to_ranges : (word : List ℕ) (list : List RootRange) → word ≢ codes "no
 to_ranges word [] other is = absurd (other is)
 to_ranges word (r ∷ more) other is = is
 
-pub some_ranges : (word : List ℕ) (list : List RootRange) → AreJoined IsRangeWord (44 ∷ word) list → HasRanges word
+pub some_ranges : (word : List ℕ) (list : List RootRange) → AreJoined IsRangeWord (44 ∷ word) list → HasListedRanges word
 some_ranges word [] are = absurd (omega (arith, ap length are))
 some_ranges word (r ∷ more) are = (r, more, are)
 

@@ -11,7 +11,7 @@ use Rattle.judge_spec.specs.ModelWords.{Words, Name, Cardbus, Ide, Isa, Power, R
 use Rattle.pci_model.specs.WordsValue.{vga_value, words_value}
 use Rattle.pci_model.specs.declared.words.VgaWord.{VgaWord as DeclaredVga}
 use Rattle.pci_model.specs.declared.words.Words as declared
-use Rattle.pciplan_lists.specs.Joined.{AreJoined, behind}
+use Rattle.pciplan_lists.specs.Joined.{AreJoined, rest_with_comma}
 use Rattle.pciplan_lists.proofs.Joined.{IsRead, read_bad, read_more, read_all, read_only, read_none}
 use Rattle.pciplan_lists.proofs.Without.{Without, without_one}
 use Rattle.pciplan_lists.specs.ModelWords.{IsNameWord, IsWordList, IsModelWord}
@@ -163,15 +163,15 @@ unfolding name_in
 only_name word o n m named is word_is = ap name_in (sym is ∙ (named m).1 word_is)
 
 pub read_name : (whole text first : List ℕ) (left : Option (Bor (List ℕ))) (done : List Name) (o : Option Name) (n : Name)
-    → IsRead IsNameWord name_without_comma whole text done → text ≡ 44 ∷ (first ++ behind left) → Without 44 first
-    → IsNamed first o → o ≡ Some n → IsRead IsNameWord name_without_comma whole (behind left) (done ++ n ∷ [])
+    → IsRead IsNameWord name_without_comma whole text done → text ≡ 44 ∷ (first ++ rest_with_comma left) → Without 44 first
+    → IsNamed first o → o ≡ Some n → IsRead IsNameWord name_without_comma whole (rest_with_comma left) (done ++ n ∷ [])
 read_name whole text first left done o n read is none named named_is =
     read_more IsNameWord name_without_comma whole text first left done n read is none ((named n).0 named_is) (λ m. only_name first o n m named named_is)
 
 -- one more
 pub taken_more : (whole text first : List ℕ) (left : Option (Bor (List ℕ))) (o : Option Name) (n : Name) (w v : Words)
-    → IsTakenTo whole text w → text ≡ 44 ∷ (first ++ behind left) → Without 44 first → IsNamed first o → o ≡ Some n
-    → IsNameAdded w v n → IsTakenTo whole (behind left) v
+    → IsTakenTo whole text w → text ≡ 44 ∷ (first ++ rest_with_comma left) → Without 44 first → IsNamed first o → o ≡ Some n
+    → IsNameAdded w v n → IsTakenTo whole (rest_with_comma left) v
 taken_more whole text first left o n w v taken is none named named_is added = record {
   done = taken.done ++ n ∷ [];
   read = read_name whole text first left taken.done o n taken.read is none named named_is;
@@ -180,7 +180,7 @@ taken_more whole text first left o n w v taken is none named named_is added = re
 
 -- a part that names nothing is in no list
 pub no_name : (word text first : List ℕ) (left : Option (Bor (List ℕ))) (o : Option Name) (w : Words)
-    → IsTakenTo (44 ∷ word) text w → text ≡ 44 ∷ (first ++ behind left) → Without 44 first → IsNamed first o → o ≡ None
+    → IsTakenTo (44 ∷ word) text w → text ≡ 44 ∷ (first ++ rest_with_comma left) → Without 44 first → IsNamed first o → o ≡ None
     → (v : Words) → IsWordList word v → ⊥
 no_name word text first left o w taken is none named named_is v list =
     read_bad IsNameWord name_without_comma (44 ∷ word) text first left taken.done taken.read is none
@@ -206,7 +206,7 @@ not_once names done more w v n before are parts much =
 
 -- what would count twice is in no list
 pub too_much : (word text first : List ℕ) (left : Option (Bor (List ℕ))) (o : Option Name) (n : Name) (w : Words)
-    → IsTakenTo (44 ∷ word) text w → text ≡ 44 ∷ (first ++ behind left) → Without 44 first → IsNamed first o → o ≡ Some n
+    → IsTakenTo (44 ∷ word) text w → text ≡ 44 ∷ (first ++ rest_with_comma left) → Without 44 first → IsNamed first o → o ≡ Some n
     → IsTooMuch w n → (v : Words) → IsWordList word v → ⊥
 too_much word text first left o n w taken is none named named_is much v list =
     let read = read_name (44 ∷ word) text first left taken.done o n taken.read is none named named_is in

@@ -6,8 +6,8 @@ use Rattle.pci_spec.specs.Window.{WindowKind, IoWindow, MemoryWindow, PrefetchWi
 use Rattle.pci_spec.specs.Line.{window_name}
 use Rattle.pci_base.specs.declared.window_kind.ByKind.{ByKind}
 use Rattle.pciplan_lists.specs.PoolWords.{IsAddressWord}
-use Rattle.pciplan_lists.specs.Joined.{AreJoined, behind}
-use Rattle.pciplan_lists.specs.SpareWords.{Wanted, IsWantedWord, said_of, size_of, IsSpareWord, IsDigitsOf, StartsOtherwise, HasFirst, HasNoFirst}
+use Rattle.pciplan_lists.specs.Joined.{AreJoined, rest_with_comma}
+use Rattle.pciplan_lists.specs.SpareWords.{Wanted, IsWantedWord, said_of, wanted_size, IsSpareWord, IsDigitsOf, StartsOtherwise, HasFirst, HasNoFirst}
 use Rattle.pciplan_lists.proofs.Joined.{IsFirst, behind_part, first_same}
 use Rattle.pciplan_lists.proofs.PoolWords.{address_same}
 use Rattle.pciplan_lists.proofs.RangeWords.{no_comma, without_address}
@@ -31,7 +31,7 @@ name_without_colon c = name_without 58 (omega arith) c
 pub wanted_without_comma : (word : List ℕ) (w : Wanted) → IsWantedWord word w → Without 44 word
 wanted_without_comma word w is = subst (λ t. Without 44 t) (sym is.text)
     (without_both 44 (window_name w.class) (58 ∷ is.digits) (name_without 44 (omega arith) w.class)
-    (without_one 44 58 is.digits (omega arith) (without_address 44 no_comma is.digits (size_of w) is.size)))
+    (without_one 44 58 is.digits (omega arith) (without_address 44 no_comma is.digits (wanted_size w) is.size)))
 
 -- where a word is cut, what stands before the colon is the name of its class
 pub name_cut : (word : List ℕ) (cut : Option (Bor (List ℕ) × Bor (List ℕ))) → IsSplitOnceResult 58 word cut → (c : WindowKind) (digits : List ℕ)
@@ -71,19 +71,19 @@ digits_same word c e digits other one two =
 
 -- what is left begins with a part, which has no comma
 pub record BeginsWith (left : Option (Bor (List ℕ))) (first : List ℕ) (more : Option (Bor (List ℕ))) : Type 0 where
-  pub parts : behind left ≡ 44 ∷ (first ++ behind more)
+  pub parts : rest_with_comma left ≡ 44 ∷ (first ++ rest_with_comma more)
   pub clean : Without 44 first
 
 first_is : (left : Option (Bor (List ℕ))) (first : List ℕ) (more : Option (Bor (List ℕ))) → BeginsWith left first more → (w : Wanted) (list : List Wanted)
-    → AreJoined IsWantedWord (behind left) (w ∷ list) → IsFirst IsWantedWord wanted_without_comma first (behind more) w list
+    → AreJoined IsWantedWord (rest_with_comma left) (w ∷ list) → IsFirst IsWantedWord wanted_without_comma first (rest_with_comma more) w list
 first_is left first more begins w list are =
-    first_same IsWantedWord wanted_without_comma first (behind more) w list begins.clean (behind_part more)
+    first_same IsWantedWord wanted_without_comma first (rest_with_comma more) w list begins.clean (behind_part more)
     (subst (λ t. AreJoined IsWantedWord t (w ∷ list)) begins.parts are)
 
 -- of another class
 other_back : (left : Option (Bor (List ℕ))) (first : List ℕ) (more : Option (Bor (List ℕ))) → BeginsWith left first more → (c : WindowKind)
     → ((digits : List ℕ) → IsDigitsOf first c digits → ⊥) → (n : ℕ) (list : List Wanted)
-    → AreJoined IsWantedWord (behind left) (said_of c n ++ list) → (n ≡ 0) × AreJoined IsWantedWord (behind left) list
+    → AreJoined IsWantedWord (rest_with_comma left) (said_of c n ++ list) → (n ≡ 0) × AreJoined IsWantedWord (rest_with_comma left) list
 other_back left first more begins c none zero list are = (refl, are)
 other_back left first more begins c none (suc n) list are =
     let f = first_is left first more begins (record { class = c; before = n }) list are in
@@ -98,7 +98,7 @@ other_first left first more begins c none = record {
 
 -- what begins with a part of a class is of no list that begins otherwise
 begins_so : (left : Option (Bor (List ℕ))) (first : List ℕ) (more : Option (Bor (List ℕ))) → BeginsWith left first more → (c : WindowKind) (digits : List ℕ)
-    → IsDigitsOf first c digits → (list : List Wanted) → StartsOtherwise c list → AreJoined IsWantedWord (behind left) list → ⊥
+    → IsDigitsOf first c digits → (list : List Wanted) → StartsOtherwise c list → AreJoined IsWantedWord (rest_with_comma left) list → ⊥
 begins_so left first more begins c digits is [] other are = omega (arith, ap length (sym begins.parts ∙ are))
 begins_so left first more begins c digits is (w ∷ list) other are =
     let f = first_is left first more begins w list are in
@@ -115,17 +115,17 @@ bad_first_size left first more begins c digits is bad (suc n) list other are =
 -- one with a number
 size_on : (left : Option (Bor (List ℕ))) (first : List ℕ) (more : Option (Bor (List ℕ))) → BeginsWith left first more → (c : WindowKind) (digits : List ℕ)
     → IsDigitsOf first c digits → (size : ℕ) → 0 < size → IsAddressWord digits size → (list : List Wanted)
-    → AreJoined IsWantedWord (behind more) list → AreJoined IsWantedWord (behind left) (said_of c size ++ list)
+    → AreJoined IsWantedWord (rest_with_comma more) list → AreJoined IsWantedWord (rest_with_comma left) (said_of c size ++ list)
 size_on left first more begins c digits is zero some number list are = absurd (omega (arith, some))
 size_on left first more begins c digits is (suc n) some number list are = (
-  behind more,
+  rest_with_comma more,
   record { word = first; is = record { digits = digits; text = is; size = number }; parts = begins.parts },
   are,
 )
 
 size_back : (left : Option (Bor (List ℕ))) (first : List ℕ) (more : Option (Bor (List ℕ))) → BeginsWith left first more → (c : WindowKind) (digits : List ℕ)
     → IsDigitsOf first c digits → (size : ℕ) → IsAddressWord digits size → (n : ℕ) (list : List Wanted) → StartsOtherwise c list
-    → AreJoined IsWantedWord (behind left) (said_of c n ++ list) → (n ≡ size) × AreJoined IsWantedWord (behind more) list
+    → AreJoined IsWantedWord (rest_with_comma left) (said_of c n ++ list) → (n ≡ size) × AreJoined IsWantedWord (rest_with_comma more) list
 size_back left first more begins c digits is size number zero list other are = absurd (begins_so left first more begins c digits is list other are)
 size_back left first more begins c digits is size number (suc n) list other are =
     let f = first_is left first more begins (record { class = c; before = n }) list are in
@@ -152,7 +152,7 @@ behind_memory (suc n) = λ e. omega (arith, ap window_register e)
 
 module _ (word : Bor (List ℕ)) (io : ℕ) (left : Option (Bor (List ℕ))) (one : HasFirst (Some word) IoWindow io left) where
   io_back : (sizes : ByKind ℕ) → IsSpareWord word.now sizes
-      → (sizes.io ≡ io) × AreJoined IsWantedWord (behind left) (said_of MemoryWindow sizes.memory ++ said_of PrefetchWindow sizes.prefetchable)
+      → (sizes.io ≡ io) × AreJoined IsWantedWord (rest_with_comma left) (said_of MemoryWindow sizes.memory ++ said_of PrefetchWindow sizes.prefetchable)
   io_back sizes are = one.back sizes.io (said_of MemoryWindow sizes.memory ++ said_of PrefetchWindow sizes.prefetchable)
       (behind_io sizes.memory sizes.prefetchable) are
 
@@ -162,20 +162,20 @@ module _ (word : Bor (List ℕ)) (io : ℕ) (left : Option (Bor (List ℕ))) (on
 
   module _ (memory : ℕ) (rest : Option (Bor (List ℕ))) (two : HasFirst left MemoryWindow memory rest) where
     memory_back : (sizes : ByKind ℕ) → IsSpareWord word.now sizes
-        → (sizes.memory ≡ memory) × AreJoined IsWantedWord (behind rest) (said_of PrefetchWindow sizes.prefetchable ++ [])
+        → (sizes.memory ≡ memory) × AreJoined IsWantedWord (rest_with_comma rest) (said_of PrefetchWindow sizes.prefetchable ++ [])
     memory_back sizes are =
         let back = two.back sizes.memory (said_of PrefetchWindow sizes.prefetchable) (behind_memory sizes.prefetchable) (io_back sizes are).1 in
-        (back.0, subst (λ l. AreJoined IsWantedWord (behind rest) l) (sym (append-nil (said_of PrefetchWindow sizes.prefetchable))) back.1)
+        (back.0, subst (λ l. AreJoined IsWantedWord (rest_with_comma rest) l) (sym (append-nil (said_of PrefetchWindow sizes.prefetchable))) back.1)
 
     pub no_prefetchable : HasNoFirst rest PrefetchWindow → (sizes : ByKind ℕ) → IsSpareWord word.now sizes → ⊥
     no_prefetchable none sizes are = none sizes.prefetchable [] tt (memory_back sizes are).1
 
     module _ (prefetchable : ℕ) (end : Option (Bor (List ℕ))) (three : HasFirst rest PrefetchWindow prefetchable end) where
-      all_back : (sizes : ByKind ℕ) → IsSpareWord word.now sizes → (sizes.prefetchable ≡ prefetchable) × (behind end ≡ [])
+      all_back : (sizes : ByKind ℕ) → IsSpareWord word.now sizes → (sizes.prefetchable ≡ prefetchable) × (rest_with_comma end ≡ [])
       all_back sizes are = three.back sizes.prefetchable [] tt (memory_back sizes are).1
 
       pub more_left : (more : Bor (List ℕ)) → end ≡ Some more → (sizes : ByKind ℕ) → IsSpareWord word.now sizes → ⊥
-      more_left more is sizes are = omega (arith, ap length (sym (ap behind is) ∙ (all_back sizes are).1))
+      more_left more is sizes are = omega (arith, ap length (sym (ap rest_with_comma is) ∙ (all_back sizes are).1))
 
       pub sizes_only : (sizes : ByKind ℕ) → IsSpareWord word.now sizes
           → Some (record { io = io; memory = memory; prefetchable = prefetchable }) ≡ Some sizes
@@ -189,5 +189,5 @@ module _ (word : Bor (List ℕ)) (io : ℕ) (left : Option (Bor (List ℕ))) (on
       sizes_said none =
           one.on (said_of MemoryWindow memory ++ said_of PrefetchWindow prefetchable)
           (two.on (said_of PrefetchWindow prefetchable)
-          (subst (λ l. AreJoined IsWantedWord (behind rest) l) (append-nil (said_of PrefetchWindow prefetchable))
-          (three.on [] (ap behind none))))
+          (subst (λ l. AreJoined IsWantedWord (rest_with_comma rest) l) (append-nil (said_of PrefetchWindow prefetchable))
+          (three.on [] (ap rest_with_comma none))))

@@ -16,6 +16,6 @@ AreJoined IsWord text (x ∷ more) =
     (rest : List ℕ) × IsAhead IsWord text x rest × AreJoined IsWord rest more
 
 -- what is left of a list behind a part, with the comma before it
-abbrev pub behind : Option (Bor (List ℕ)) → List ℕ
-behind None = []
-behind (Some left) = 44 ∷ left.now
+abbrev pub rest_with_comma : Option (Bor (List ℕ)) → List ℕ
+rest_with_comma None = []
+rest_with_comma (Some left) = 44 ∷ left.now

@@ -23,5 +23,5 @@ IsListWord word [] = word ≡ codes "none"
 IsListWord word (r ∷ more) = AreJoined IsRangeWord (44 ∷ word) (r ∷ more)
 
 -- the word is a list that has a range
-abbrev pub HasRanges : List ℕ → Type 0
-HasRanges word = (first : RootRange) × (more : List RootRange) × IsListWord word (first ∷ more)
+abbrev pub HasListedRanges : List ℕ → Type 0
+HasListedRanges word = (first : RootRange) × (more : List RootRange) × IsListWord word (first ∷ more)

@@ -5,21 +5,21 @@ use Rattle.pci_spec.specs.Window.{WindowKind, IoWindow, MemoryWindow, PrefetchWi
 use Rattle.pci_spec.specs.Line.{window_name}
 use Rattle.pci_base.specs.declared.window_kind.ByKind.{ByKind}
 use Rattle.pciplan_lists.specs.PoolWords.{IsAddressWord}
-use Rattle.pciplan_lists.specs.Joined.{AreJoined, behind}
+use Rattle.pciplan_lists.specs.Joined.{AreJoined, rest_with_comma}
 
 -- so many addresses of a class, not 0
 pub record Wanted : Type 0 where
   pub class : WindowKind
   pub before : ℕ
 
-abbrev pub size_of : Wanted → ℕ
-size_of w = suc w.before
+abbrev pub wanted_size : Wanted → ℕ
+wanted_size w = suc w.before
 
 -- such as `mem:200000`: a class, a colon, and the number in 1 to 16 lower-case hex digits
 pub record IsWantedWord (word : List ℕ) (w : Wanted) : Type 0 where
   pub digits : List ℕ
   pub text : word ≡ window_name w.class ++ 58 ∷ digits
-  pub size : IsAddressWord digits (size_of w)
+  pub size : IsAddressWord digits (wanted_size w)
 
 -- what is said of a class: nothing where none are wanted
 abbrev pub said_of : WindowKind → ℕ → List Wanted
@@ -48,10 +48,10 @@ StartsOtherwise c (w ∷ more) = w.class ≢ c
 
 -- the first part of what is left says a number of a class, 0 where it says none, and the rest is left
 pub record HasFirst (left : Option (Bor (List ℕ))) (c : WindowKind) (size : ℕ) (rest : Option (Bor (List ℕ))) : Type 0 where
-  pub on : (more : List Wanted) → AreJoined IsWantedWord (behind rest) more → AreJoined IsWantedWord (behind left) (said_of c size ++ more)
-  pub back : (n : ℕ) (more : List Wanted) → StartsOtherwise c more → AreJoined IsWantedWord (behind left) (said_of c n ++ more)
-      → (n ≡ size) × AreJoined IsWantedWord (behind rest) more
+  pub on : (more : List Wanted) → AreJoined IsWantedWord (rest_with_comma rest) more → AreJoined IsWantedWord (rest_with_comma left) (said_of c size ++ more)
+  pub back : (n : ℕ) (more : List Wanted) → StartsOtherwise c more → AreJoined IsWantedWord (rest_with_comma left) (said_of c n ++ more)
+      → (n ≡ size) × AreJoined IsWantedWord (rest_with_comma rest) more
 
 -- it says no number of the class, and nothing else
 abbrev pub HasNoFirst : Option (Bor (List ℕ)) → WindowKind → Type 0
-HasNoFirst left c = (n : ℕ) (more : List Wanted) → StartsOtherwise c more → AreJoined IsWantedWord (behind left) (said_of c n ++ more) → ⊥
+HasNoFirst left c = (n : ℕ) (more : List Wanted) → StartsOtherwise c more → AreJoined IsWantedWord (rest_with_comma left) (said_of c n ++ more) → ⊥

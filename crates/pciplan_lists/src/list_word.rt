@@ -2,7 +2,7 @@
 ghost use Rattle.std.specs.Prelude.{◌≡◌, ◌↔◌, ◌∷◌, List, IsTrue, IfErr, IfOk, IfSome, IsSomeAnd};
 ghost use Rattle.pci_base.specs.declared.range.RootRange.{RootRange};
 ghost use Rattle.pciplan_lists.specs.Joined.{AreJoined};
-ghost use Rattle.pciplan_lists.specs.ListWords.{HasRanges, IsListWord, IsRangeWord};
+ghost use Rattle.pciplan_lists.specs.ListWords.{HasListedRanges, IsListWord, IsRangeWord};
 
 use crate::part::first_of;
 use crate::range_word::range_of_word;
@@ -15,7 +15,7 @@ const NONE: &str = "none";
 
 /// Whether a word is of ranges that are joined by commas. It is looked at before memory is asked for.
 fn has_ranges(word: &str) -> bool
-    ensures { IsTrue result ↔ HasRanges word.now }
+    ensures { IsTrue result ↔ HasListedRanges word.now }
 {
     let mut left = Some(word);
     'parts: while let Some(text) = left {
@@ -63,7 +63,7 @@ pub fn list_of_word<A: Allocator>(
     ensures only { (list : List RootRange) → IsListWord word.now list
         → IfOk result (λ found. IsSomeAnd found (λ v. v.items ≡ list)) }
     // so a word that is no list, or has no range, is answered whatever memory is there
-    ensures memory { IfErr result (λ _. HasRanges word.now) }
+    ensures memory { IfErr result (λ _. HasListedRanges word.now) }
 {
     if word == NONE {
         return Ok(Some(Vec::new(alloc)));

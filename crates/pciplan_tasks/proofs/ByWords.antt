@@ -21,10 +21,10 @@ use Rattle.judge_spec.specs.ToldFaultLines.{AreAllFaults}
 use Rattle.judge_spec.specs.UnclaimedLaws.{with_taking}
 use Rattle.settle_spec.specs.Sparing.{without_slots}
 use Rattle.pci_base.specs.declared.memory.Refused.TheVariants as refusal
-use Rattle.pci_faults.specs.Every.{AreBefore, AreSound}
+use Rattle.pci_faults.specs.Every.{AreBefore, AreSoundAsTold}
 use Rattle.pci_model.specs.declared.words.Words.{Words}
-use Rattle.pci_model_settle.specs.ClaimLines.{AreBySlot, Kept, Line, kept_lines}
-use Rattle.pci_model_settle.specs.Listed.{blocks_after, command_at, listed_write}
+use Rattle.pci_model_settle.specs.ClaimLines.{AreBySlot, LinesWithOrigins, Line, kept_lines}
+use Rattle.pci_model_settle.specs.Listed.{blocks_after, listed_command, listed_write}
 use Rattle.pci_model_settle.specs.OffDevices.{blocks_without, device_lines, left_out}
 use Rattle.pci_model_settle.proofs.HeldLines.{lines_length}
 use Rattle.judge_spec.specs.Told.{IsTold, ToldRange}
@@ -40,11 +40,11 @@ use Rattle.pci_settle.specs.declared.lack.SettleFault.{SettleFault}
 use Rattle.pci_tree.specs.Admission.{Admission, IsAdmitted}
 use Rattle.pci_tree.specs.Roots.{buses_of}
 use Rattle.pciplan_tasks.specs.Answers.{Answer, answer_of, done_with, fault_answer_line, refused}
-use Rattle.pciplan_tasks.specs.FaultsAnswers.{AreTakenBeside, given_of, legacy_by, palette_by, snoop_of, taking_of, vga_of}
+use Rattle.pciplan_tasks.specs.FaultsAnswers.{AreTakenByBridges, given_of, legacy_by, palette_by, snoop_of, taking_of, vga_of}
 use Rattle.pciplan_tasks.specs.MapAnswers.{IsFirstLine}
-use Rattle.pciplan_tasks.specs.TakenAnswers.{AreTakenBy}
+use Rattle.pciplan_tasks.specs.TakenAnswers.{AreTakenByWords}
 use Rattle.pciplan_tasks.specs.SettleAnswers.{IsReadyAsTold, IsSettlingTold, demand_said, request_said, settled_text, spare_remarks}
-use Rattle.pciplan_tasks.specs.WordsSettling.{AreFaultsBeside, IsEnded, IsEndLine, IsSettlingAdmitted, IsSettlingAny, IsSettlingBut, IsSettlingBy, IsSettlingKept, IsSettlingLeft, IsSettlingOf, IsSettlingReady, TakenTexts, asked_with, beside_said, can_tell, kept_by, kept_with, left_that_fit, users_fault}
+use Rattle.pciplan_tasks.specs.WordsSettling.{AreFaultsBeside, IsSettlingEnded, IsEndLine, IsSettlingAdmitted, IsSettlingAny, IsSettlingBut, IsSettlingBy, IsSettlingKept, IsSettlingLeft, IsSettlingOf, IsTakenReadyOrNot, TakenTexts, asked_with, beside_said, can_tell, kept_with_devices_at, kept_with, left_that_fit, users_fault}
 use Rattle.pciplan_tasks.specs.declared.reply.Reply.{Reply}
 use Rattle.pciplan_tasks.specs.declared.task.Beside.{Beside}
 use Rattle.pciplan_tasks.specs.declared.task.Printed.{Printed}
@@ -53,13 +53,13 @@ use Rattle.pciplan_tasks.proofs.Saying.{IsSaidOf}
 
 -- what is found of two texts as they are taken, by what is given
 record AreFound (told : Told) (bridges : List TakingBridge) (taken taken_probe : List Block) (faults : List Fault) (given : Given) (roots : List ℕ) (slots : List Slot) : Type 0 where
-  taking : AreTakenBeside told given roots taken taken_probe slots bridges
+  taking : AreTakenByBridges told given roots taken taken_probe slots bridges
   all : AreAllFaults told (with_taking bridges given) roots taken taken_probe faults
-  none : (faults ≡ []) ↔ AreSound told (with_taking bridges given) roots taken taken_probe
+  none : (faults ≡ []) ↔ AreSoundAsTold told (with_taking bridges given) roots taken taken_probe
 
 pub faults_are : (beside : Beside) (dump probe taken taken_probe : List Block) (told : Told) (given : Given) (roots : List ℕ) (slots : List Slot) (bridges : List TakingBridge) (faults : List Fault)
-    → IsSaidOf beside dump probe told given roots slots → AreTakenBy beside.words dump probe taken taken_probe → AreTakenBeside told given roots taken taken_probe slots bridges
-    → AreAllFaults told (with_taking bridges given) roots taken taken_probe faults → (faults ≡ []) ↔ AreSound told (with_taking bridges given) roots taken taken_probe
+    → IsSaidOf beside dump probe told given roots slots → AreTakenByWords beside.words dump probe taken taken_probe → AreTakenByBridges told given roots taken taken_probe slots bridges
+    → AreAllFaults told (with_taking bridges given) roots taken taken_probe faults → (faults ≡ []) ↔ AreSoundAsTold told (with_taking bridges given) roots taken taken_probe
     → AreFaultsBeside beside dump probe faults
 faults_are beside dump probe taken taken_probe told given roots slots bridges faults said are taking all none =
     let found : AreFound told bridges taken taken_probe faults (given_of beside.host beside.words dump) (buses_of beside.roots) (taking_of beside.words (system_of dump dump))
@@ -90,12 +90,12 @@ not_in_one dump probe slot (inr (absent, here)) same = absent (subst (λ (slots 
 
 -- ---- what settling comes to
 
-pub settled_taken : {A E : Type 0} (r : SettleRequest) (kept : Kept) (a : Admission) (d : Demand) (fixed : List Slot) (anew : Bool) (printed : Printed) (dump probe after : List Block) (writes : List Write) (closings : ℕ)
+pub settled_taken : {A E : Type 0} (r : SettleRequest) (kept : LinesWithOrigins) (a : Admission) (d : Demand) (fixed : List Slot) (anew : Bool) (printed : Printed) (dump probe after : List Block) (writes : List Write) (closings : ℕ)
     (denied : List (Slot × ℕ)) (res : Result (Reply A) E) → HasNoAssumed a → map (λ (b : Block). b.title) after ≡ map (λ (b : Block). b.title) a.dump → IsSpared (request a.roots d fixed anew) a after writes closings denied
-    → IfOk res (λ reply. IsEnded (beside_said r) printed dump probe writes denied (answer_of reply))
+    → IfOk res (λ reply. IsSettlingEnded (beside_said r) printed dump probe writes denied (answer_of reply))
     → IfOk res (λ reply. IsSettlingKept r kept record { request = request a.roots d fixed anew; printed = printed } record { dump = dump; probe = probe; taken = a.dump; taken_probe = a.probe } (answer_of reply))
 settled_taken r kept a d fixed anew printed dump probe after writes closings denied res sized titles spared ended =
-    IfOk-weaker res (λ reply. IsEnded (beside_said r) printed dump probe writes denied (answer_of reply))
+    IfOk-weaker res (λ reply. IsSettlingEnded (beside_said r) printed dump probe writes denied (answer_of reply))
     (λ reply. IsSettlingKept r kept record { request = request a.roots d fixed anew; printed = printed } record { dump = dump; probe = probe; taken = a.dump; taken_probe = a.probe } (answer_of reply))
     (λ reply is. inl record {
       after = after;
@@ -105,7 +105,7 @@ settled_taken r kept a d fixed anew printed dump probe after writes closings den
       ended = is;
     }) ended
 
-pub not_settled_taken : {A E : Type 0} (r : SettleRequest) (kept : Kept) (a : Admission) (d : Demand) (fixed : List Slot) (anew : Bool) (printed : Printed) (dump probe : List Block) (fault : SettleFault) (res : Result (Reply A) E)
+pub not_settled_taken : {A E : Type 0} (r : SettleRequest) (kept : LinesWithOrigins) (a : Admission) (d : Demand) (fixed : List Slot) (anew : Bool) (printed : Printed) (dump probe : List Block) (fault : SettleFault) (res : Result (Reply A) E)
     → IsRefusal a (without_slots (request a.roots d fixed anew)) (refusal.Fault fault)
     → IfOk res (λ reply. answer_of reply ≡ refused (fault_answer_line (settle_fault_text (users_fault kept fault))))
     → IfOk res (λ reply. IsSettlingKept r kept record { request = request a.roots d fixed anew; printed = printed } record { dump = dump; probe = probe; taken = a.dump; taken_probe = a.probe } (answer_of reply))
@@ -119,7 +119,7 @@ module _ (w : Words) (r : SettleRequest) (printed : Printed) (fixed left : List 
   texts = record { dump = dump; probe = probe; taken = taken; taken_probe = taken_probe }
 
   abbrev Means : Answer → Type 0
-  Means answer = (unmoved : List Slot) → fixed ≡ r.fixed.items ++ unmoved → left ≡ left_out unmoved dump taken taken_probe → IsSettlingReady w r printed unmoved texts answer
+  Means answer = (unmoved : List Slot) → fixed ≡ r.fixed.items ++ unmoved → left ≡ left_out unmoved dump taken taken_probe → IsTakenReadyOrNot w r printed unmoved texts answer
 
   pub taken_ready : {A E : Type 0} (res : Result (Reply A) E) → IsReadyAsTold (demand_said r dump).told (buses_of r.roots) taken taken_probe
       → IfOk res (λ reply. IsSettlingLeft w r printed fixed left texts (answer_of reply)) → IfOk res (λ reply. Means (answer_of reply))
@@ -161,7 +161,7 @@ module _ (w : Words) (dump : List Block) (is : IsDump dump) (bridges : List Lega
 
 width_stays : (dump : List Block) (w : Write) → (listed_write dump w).width ≡ w.width
 width_stays dump w = by_test (w.offset == COMMAND) where
-  by_test : (command : Bool) → (if command then record w { value = command_at dump w.slot / 4 * 4 + w.value % 4 } else w).width ≡ w.width
+  by_test : (command : Bool) → (if command then record w { value = listed_command dump w.slot / 4 * 4 + w.value % 4 } else w).width ≡ w.width
   by_test true = refl
   by_test false = refl
 
@@ -208,12 +208,12 @@ writes_made dump n new items lent made all is =
 module _ {A E : Type 0} (beside : Beside) (printed : Printed) (dump probe : List Block) (writes : List Write) (denied : List (Slot × ℕ)) (faults : List Fault) (res : Result (Reply A) E)
     (judged : AreFaultsBeside beside (blocks_after dump (map (listed_write dump) writes)) probe faults) where
   ended_by : IfOk res (λ reply. IsEndLine faults (spare_remarks denied) (settled_text printed dump (map (listed_write dump) writes) (blocks_after dump (map (listed_write dump) writes))) (answer_of reply))
-      → IfOk res (λ reply. IsEnded beside printed dump probe writes denied (answer_of reply))
+      → IfOk res (λ reply. IsSettlingEnded beside printed dump probe writes denied (answer_of reply))
   ended_by told =
       IfOk-weaker res (λ reply. IsEndLine faults (spare_remarks denied) (settled_text printed dump (map (listed_write dump) writes) (blocks_after dump (map (listed_write dump) writes))) (answer_of reply))
-      (λ reply. IsEnded beside printed dump probe writes denied (answer_of reply)) (λ reply line. record { faults = faults; judged = judged; line = line }) told
+      (λ reply. IsSettlingEnded beside printed dump probe writes denied (answer_of reply)) (λ reply line. record { faults = faults; judged = judged; line = line }) told
 
-  pub ended_in_fault : IfOk res (λ reply. IsFirstLine faults (answer_of reply)) → IfOk res (λ reply. IsEnded beside printed dump probe writes denied (answer_of reply))
+  pub ended_in_fault : IfOk res (λ reply. IsFirstLine faults (answer_of reply)) → IfOk res (λ reply. IsSettlingEnded beside printed dump probe writes denied (answer_of reply))
   ended_in_fault told =
       ended_by (IfOk-weaker res (λ reply. IsFirstLine faults (answer_of reply))
       (λ reply. IsEndLine faults (spare_remarks denied) (settled_text printed dump (map (listed_write dump) writes) (blocks_after dump (map (listed_write dump) writes))) (answer_of reply))
@@ -221,7 +221,7 @@ module _ {A E : Type 0} (beside : Beside) (printed : Printed) (dump probe : List
 
   pub ended_well : faults ≡ [] → (start after : List Block) (made : List Write) (left : List (Slot × ℕ)) → start ≡ dump → made ≡ map (listed_write dump) writes → left ≡ denied
       → after ≡ blocks_after dump (map (listed_write dump) writes) → IfOk res (λ reply. answer_of reply ≡ done_with (spare_remarks left) (settled_text printed start made after))
-      → IfOk res (λ reply. IsEnded beside printed dump probe writes denied (answer_of reply))
+      → IfOk res (λ reply. IsSettlingEnded beside printed dump probe writes denied (answer_of reply))
   ended_well none start after made left same_start same_writes same_denied same_after told =
       ended_by (IfOk-weaker res (λ reply. answer_of reply ≡ done_with (spare_remarks left) (settled_text printed start made after))
       (λ reply. IsEndLine faults (spare_remarks denied) (settled_text printed dump (map (listed_write dump) writes) (blocks_after dump (map (listed_write dump) writes))) (answer_of reply))
@@ -275,28 +275,28 @@ module _ (w : Words) (r : SettleRequest) (printed : Printed) (fixed left : List 
   as_taken = record { dump = dump; probe = probe; taken = taken; taken_probe = taken_probe }
 
   -- what settling two comes to, off these ranges
-  abbrev Comes : Kept → List Block → List Block → Answer → Type 0
+  abbrev Comes : LinesWithOrigins → List Block → List Block → Answer → Type 0
   Comes kept after after_probe answer =
       IsSettlingAny r kept (asked_with fixed kept.told r printed dump) record { dump = dump; probe = probe; taken = after; taken_probe = after_probe } answer
 
   abbrev fit : Bool
-  fit = can_tell (kept_by w r left as_taken)
+  fit = can_tell (kept_with_devices_at w r left as_taken)
 
   -- where these are left out
-  comes_to : {A E : Type 0} (some : List Slot) (kept : Kept) (after after_probe : List Block) (res : Result (Reply A) E) → left_that_fit fit left ≡ some → kept ≡ kept_by w r some as_taken
+  comes_to : {A E : Type 0} (some : List Slot) (kept : LinesWithOrigins) (after after_probe : List Block) (res : Result (Reply A) E) → left_that_fit fit left ≡ some → kept ≡ kept_with_devices_at w r some as_taken
       → after ≡ blocks_without some taken → after_probe ≡ blocks_without some taken_probe → IfOk res (λ reply. Comes kept after after_probe (answer_of reply))
       → IfOk res (λ reply. IsSettlingOf w r printed fixed left as_taken (answer_of reply))
   comes_to some kept after after_probe res are same is is_probe told =
       IfOk-weaker res (λ reply. Comes kept after after_probe (answer_of reply)) (λ reply. IsSettlingOf w r printed fixed left as_taken (answer_of reply))
       (λ reply comes. subst (λ (slots : List Slot). IsSettlingBut w r printed fixed slots as_taken (answer_of reply)) (sym are)
-      (subst (λ (k : Kept). Comes k (blocks_without some taken) (blocks_without some taken_probe) (answer_of reply)) same
+      (subst (λ (k : LinesWithOrigins). Comes k (blocks_without some taken) (blocks_without some taken_probe) (answer_of reply)) same
       (subst (λ (bs : List Block). Comes kept bs (blocks_without some taken_probe) (answer_of reply)) is (subst (λ (bs : List Block). Comes kept after bs (answer_of reply)) is_probe comes)))) told
 
-  pub settled_without : {A E : Type 0} (devices : List Line) (kept : Kept) (after after_probe : List Block) (res : Result (Reply A) E) → devices ≡ device_lines left (system_of taken taken_probe)
+  pub settled_without : {A E : Type 0} (devices : List Line) (kept : LinesWithOrigins) (after after_probe : List Block) (res : Result (Reply A) E) → devices ≡ device_lines left (system_of taken taken_probe)
       → kept ≡ kept_with w r devices dump → IsTold kept.told → after ≡ blocks_without left taken → after_probe ≡ blocks_without left taken_probe
       → IfOk res (λ reply. Comes kept after after_probe (answer_of reply)) → IfOk res (λ reply. IsSettlingOf w r printed fixed left as_taken (answer_of reply))
   settled_without devices kept after after_probe res shown same lawful is is_probe told =
-      let all : kept ≡ kept_by w r left as_taken = same ∙ ap (λ (ls : List Line). kept_with w r ls dump) shown in
+      let all : kept ≡ kept_with_devices_at w r left as_taken = same ∙ ap (λ (ls : List Line). kept_with w r ls dump) shown in
       let fits : fit ≡ true = sym (ap can_tell all) ∙ le-leb (length kept.told) 4096 lawful.room in
       comes_to left kept after after_probe res (all_fit fit left fits) all is is_probe told
 
@@ -311,7 +311,7 @@ module _ (w : Words) (r : SettleRequest) (printed : Printed) (fixed left : List 
 
   pub too_many_fit_none : (devices : List Line) → devices ≡ device_lines left (system_of taken taken_probe) → 4096 < length (kept_with w r devices dump).told → left_that_fit fit left ≡ []
   too_many_fit_none devices shown many =
-      let all : kept_with w r devices dump ≡ kept_by w r left as_taken = ap (λ (ls : List Line). kept_with w r ls dump) shown in
+      let all : kept_with w r devices dump ≡ kept_with_devices_at w r left as_taken = ap (λ (ls : List Line). kept_with w r ls dump) shown in
       none_fits fit left (sym (ap can_tell all) ∙ lt-leb (length (kept_with w r devices dump).told) 4096 many)
 
 -- two that are admitted, as they are and as they were

@@ -22,7 +22,7 @@ use Rattle.judge_spec.specs.ToldLine.{fault_line, list_text}
 use Rattle.judge_spec.specs.Why.{IsWhy, all_off_lines}
 use Rattle.judge_spec.specs.FaultsText.{IsBehind, AreReasoned, is_of_judging, is_judged, IsReasonedText, IsFaultsText}
 use Rattle.judge_spec.proofs.DeterminedTexts.{same_slots}
-use Rattle.pci_faults.specs.Every.{AreBefore, AreSound}
+use Rattle.pci_faults.specs.Every.{AreBefore, AreSoundAsTold}
 use Rattle.pciplan_tasks.specs.Answers.{Answer}
 use Rattle.pciplan_tasks.specs.FaultsAnswers.{IsListText, list_answer, AreTold}
 
@@ -192,7 +192,7 @@ none_of_items f [] P both = (λ e. both.0 refl, λ p. refl)
 none_of_items f (x ∷ rest) P both = (λ e. absurd (let no : ⊥ = cc in no), λ p. absurd (let none = both.1 p in let no : ⊥ = cc in no))
 
 pub all_told : (told : Told) (given : Given) (roots : List ℕ) (dump probe : List Block) (faults : List Fault) (judged : Option Tree) (why : Bool) (text : List ℕ) (answer : Answer) → IsDump dump → IsDump probe
-    → AreAllFaults told given roots dump probe faults → (faults ≡ []) ↔ AreSound told given roots dump probe → IsJudgedOf told given roots dump probe faults judged
+    → AreAllFaults told given roots dump probe faults → (faults ≡ []) ↔ AreSoundAsTold told given roots dump probe → IsJudgedOf told given roots dump probe faults judged
     → IsListText (all_named probe) told given judged why faults text → answer ≡ list_answer faults text → AreTold told given roots why dump probe answer
 all_told told given roots dump probe faults judged why text answer is_dump is_probe all none outline is line = record {
   faults = faults;

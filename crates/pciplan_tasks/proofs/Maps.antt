@@ -14,11 +14,11 @@ use Rattle.judge_spec.specs.ToldNumbered.{AreListedIn}
 use Rattle.judge_spec.specs.Unclaimed.{AreTaking}
 use Rattle.judge_spec.specs.UnclaimedLaws.{with_taking}
 use Rattle.judge_spec.specs.MapText.{IsMapText}
-use Rattle.pci_faults.specs.Every.{AreFound, AreReady}
+use Rattle.pci_faults.specs.Every.{AreFound, AreReadyForJudging}
 use Rattle.pciplan_tasks.specs.Answers.{Answer, done}
 use Rattle.pciplan_tasks.specs.MapAnswers.{IsFirstLine, IsMapped}
 
-pub mapped : (told : Told) (given : Given) (roots : List ℕ) (slots : List Slot) (dump probe : List Block) (o : Tree) (bridges : List TakingBridge) (text : List ℕ) (answer : Answer) → AreReady told roots dump probe
+pub mapped : (told : Told) (given : Given) (roots : List ℕ) (slots : List Slot) (dump probe : List Block) (o : Tree) (bridges : List TakingBridge) (text : List ℕ) (answer : Answer) → AreReadyForJudging told roots dump probe
     → IsOutlineFor record { roots = roots; dump = dump; probe = probe } o → ((s : System) → HasTree o s → AreTaking told given s slots bridges)
     → ((s : System) → HasTree o s → AreListedIn told s → IsMapText told (with_taking bridges given) o.roots s text)
     → answer ≡ done text → IsMapped told given roots slots dump probe answer

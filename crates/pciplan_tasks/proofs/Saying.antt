@@ -14,7 +14,7 @@ use Rattle.pciplan_tasks.specs.Answers.{Answer}
 use Rattle.pciplan_tasks.specs.FaultsAnswers.{AreToldTaking, IsFaultsAnswer, given_of, given_with, isa_by, isa_of, legacy_by, palette_by, snoop_of, taking_of, vga_of}
 use Rattle.pciplan_tasks.specs.MapAnswers.{IsMapped, IsMapAnswerBy}
 use Rattle.pciplan_tasks.specs.Saying.{AreBridgesBy}
-use Rattle.pciplan_tasks.specs.TakenAnswers.{AreTakenBy}
+use Rattle.pciplan_tasks.specs.TakenAnswers.{AreTakenByWords}
 use Rattle.pciplan_tasks.specs.ToldAnswers.{AreAsleepFor, IsToldBeside}
 use Rattle.pciplan_tasks.specs.declared.said.Bridges.{Bridges}
 use Rattle.pciplan_tasks.specs.declared.task.Beside.{Beside}
@@ -54,7 +54,7 @@ said_is beside dump probe told given roots slots found asleep bridges are ranges
 }
 
 module _ (beside : Beside) (dump probe taken taken_probe : List Block) (told : Told) (given : Given) (roots : List ℕ) (slots : List Slot) (answer : Answer) (said : IsSaidOf beside dump probe told given roots slots)
-    (are : AreTakenBy beside.words dump probe taken taken_probe) where
+    (are : AreTakenByWords beside.words dump probe taken taken_probe) where
   of_texts : (Means : Given → List ℕ → List Slot → Type 0) → Means given roots slots → Means (given_of beside.host beside.words dump) (buses_of beside.roots) (taking_of beside.words (system_of dump dump))
   of_texts Means means =
       subst (λ (g : Given). Means g (buses_of beside.roots) (taking_of beside.words (system_of dump dump))) said.given_is

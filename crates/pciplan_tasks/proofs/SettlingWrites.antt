@@ -10,11 +10,11 @@ use Rattle.judge_spec.specs.ToldRegion.{ToldRegion}
 use Rattle.settle_spec.specs.Lists.{Request, are_bad_lists}
 use Rattle.settle_spec.specs.Parts.{FunctionPart}
 use Rattle.settle_spec.specs.Stands.{stands}
-use Rattle.settle_spec.specs.Items.{Item}
+use Rattle.settle_spec.specs.Items.{PlacingItem}
 use Rattle.settle_spec.specs.Writes.{Settling, BadLists, Settled, or_fixed, or_lack, or_write, fixed_without, fixed_write, closing_registers, setting_registers}
 use Rattle.settle_spec.specs.Kept.{Kept}
 use Rattle.settle_spec.specs.Keeping.Places.{lacking}
-use Rattle.settle_spec.specs.Keeping.Writes.{closing_of, setting_of, closing_from, setting_from, opening_from, closings, settle_writes, settle_keeping, or_told, earliest, is_not_reached, does_not_stay, would_be_switched}
+use Rattle.settle_spec.specs.Keeping.Writes.{change_to_closed, setting_of, closing_from, setting_from, opening_from, closings, settle_writes, settle_keeping, or_told, earliest, is_not_reached, does_not_stay, would_be_switched}
 use Rattle.pci_plan.specs.Writes.{is_two_or_four, write_value}
 use Rattle.pci_plan.specs.declared.write.Write.{Write as CodeWrite}
 use Rattle.pciplan_tasks.proofs.PlainWrites.{is_plain_value, plain_other, plain_both, plain_closing_by, plain_setting_by, plain_register, plain_of}
@@ -23,7 +23,7 @@ plain_closings : (q : Request) (s : System) (keep : Kept) (fs : System) → list
 plain_closings q s keep [] = refl
 plain_closings q s keep (f ∷ more) =
     plain_both (closings q s keep more) (closing_from q s keep f) (plain_closings q s keep more)
-    (plain_register (closing_of q s keep f) (closing_registers f) (plain_closing_by (is_bridge f)))
+    (plain_register (change_to_closed q s keep f) (closing_registers f) (plain_closing_by (is_bridge f)))
 
 plain_over : (of : Function → List Write) → ((f : Function) → list_all is_plain_value (of f) ≡ true) → (fs : System) → list_all is_plain_value (flat_map of fs) ≡ true
 plain_over of each [] = refl
@@ -59,7 +59,7 @@ unfolding IsPlainEnd
 plain_fixed None other plain = plain
 plain_fixed (Some r) other plain = tt
 
-plain_lack : (lack : Option Item) (other : Settling) → IsPlainEnd other → IsPlainEnd (or_lack lack other)
+plain_lack : (lack : Option PlacingItem) (other : Settling) → IsPlainEnd other → IsPlainEnd (or_lack lack other)
 unfolding IsPlainEnd
 plain_lack None other plain = plain
 plain_lack (Some i) other plain = tt

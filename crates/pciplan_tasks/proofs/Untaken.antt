@@ -17,7 +17,7 @@ use Rattle.judge_spec.specs.UnclaimedLaws.{with_taking}
 use Rattle.judge_spec.proofs.DeterminedTexts.{same_slots}
 use Rattle.judge_spec.specs.Taken.{takes_by}
 use Rattle.judge_spec.specs.ModelWords as model
-use Rattle.pci_faults.specs.Every.{AreBefore, AreReady}
+use Rattle.pci_faults.specs.Every.{AreBefore, AreReadyForJudging}
 use Rattle.pci_model.specs.WordsValue.{words_value}
 use Rattle.pciplan_tasks.specs.FaultsAnswers.{AreTold}
 use Rattle.pciplan_tasks.specs.FaultsLaws.{NothingSaidTakesNothing, NothingTakenTellsTheSame}
@@ -25,7 +25,7 @@ use Rattle.pciplan_tasks.specs.FaultsLaws.{NothingSaidTakesNothing, NothingTaken
 -- ---- what is judged
 
 module _ (told : Told) (given : Given) (roots : List ℕ) (dump probe : List Block) where
-  pub ready_of_judged : (faults : List Fault) → AreJudged told given roots dump probe faults → AreReady told roots dump probe
+  pub ready_of_judged : (faults : List Fault) → AreJudged told given roots dump probe faults → AreReadyForJudging told roots dump probe
   ready_of_judged faults h = record { listed = h.listed; none_earlier = h.none_earlier }
 
   some_listed : (slots : List Slot) → (slots ≡ [] → ⊥) → ((slot : Slot) → Contains slots slot → HasNotListed told dump probe slot) → AreListed told dump probe → ⊥
@@ -38,12 +38,12 @@ module _ (told : Told) (given : Given) (roots : List ℕ) (dump probe : List Blo
   some_early (f ∷ rest) some each none = let line = each f (in_head f rest) in none f line.early line.there
 
   -- where faults of an earlier phase are told nothing is judged
-  pub not_ready : (faults : List Fault) → IsDump dump → IsDump probe → AreBefore told given roots dump probe faults → AreReady told roots dump probe → ⊥
+  pub not_ready : (faults : List Fault) → IsDump dump → IsDump probe → AreBefore told given roots dump probe faults → AreReadyForJudging told roots dump probe → ⊥
   not_ready faults is_dump is_probe (inl h) ready = h.slots (same_slots dump probe is_dump is_probe (λ slot alone. ready.none_earlier (SlotsDiffer slot) (omega arith) alone))
   not_ready faults is_dump is_probe (inr (inl h)) ready = some_listed h.slots h.some h.all.each ready.listed
   not_ready faults is_dump is_probe (inr (inr h)) ready = some_early h.early h.some h.all.each ready.none_earlier
 
-  before_or_ready : (faults : List Fault) → AreAllFaults told given roots dump probe faults → AreBefore told given roots dump probe faults ⊎ AreReady told roots dump probe
+  before_or_ready : (faults : List Fault) → AreAllFaults told given roots dump probe faults → AreBefore told given roots dump probe faults ⊎ AreReadyForJudging told roots dump probe
   before_or_ready faults (inl h) = inl (inl h)
   before_or_ready faults (inr (inl h)) = inl (inr (inl h))
   before_or_ready faults (inr (inr (inl h))) = inl (inr (inr h))

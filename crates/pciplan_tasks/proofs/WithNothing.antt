@@ -23,7 +23,7 @@ use Rattle.judge_spec.proofs.PlainLists.{same_list, first_of_list_is_first}
 use Rattle.judge_spec.proofs.PlainTexts.{same_text_of_all}
 use Rattle.judge_spec.proofs.ToldDetermined.{told_list_is_determined}
 use Rattle.judge_spec.proofs.ToldSounding.{told_sound_without_faults}
-use Rattle.pci_faults.specs.Every.{AreSound}
+use Rattle.pci_faults.specs.Every.{AreSoundAsTold}
 use Rattle.pci_claims.specs.Values.{host_value}
 use Rattle.pciplan_tasks.specs.FaultsAnswers.{isa_by, legacy_by, list_answer, palette_by, vga_of}
 use Rattle.pciplan_tasks.specs.FaultsLaws.{FirstLineIsVerdict, PlainWithNothingGiven, NothingSaidGivesNothing, NothingSaidTellsNothing}
@@ -52,7 +52,7 @@ none_in : (asleep : List Slot) (roots : List ℕ) (s : System) → ((fault : unt
 none_in asleep roots s none (Known fault) there = none fault ((same_told_faults asleep nothing_given roots s fault).0 there)
 none_in asleep roots s none (NotListed slot) there = none_not_listed asleep nothing_given roots s slot there
 
-sound_plain : (asleep : List Slot) (roots : List ℕ) (dump probe : List Block) → IsDump dump → IsDump probe → AreSound (nothing_told asleep) nothing_given roots dump probe ↔ plain_sound.AreSound roots dump probe
+sound_plain : (asleep : List Slot) (roots : List ℕ) (dump probe : List Block) → IsDump dump → IsDump probe → AreSoundAsTold (nothing_told asleep) nothing_given roots dump probe ↔ plain_sound.ArePlainlySound roots dump probe
 sound_plain asleep roots dump probe is_dump is_probe = (
   λ h.
       let s = system_of dump probe in

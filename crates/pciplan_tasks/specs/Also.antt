@@ -16,9 +16,9 @@ also_of (task.Settle request printed) = request.also
 also_of _ = Told []
 
 -- the text is read, or there is none
-abbrev pub IsTold : Also → Type 0
-IsTold (Told ranges) = Unit {0}
-IsTold (Refused fault) = ⊥
+abbrev pub IsAlsoTold : Also → Type 0
+IsAlsoTold (Told ranges) = Unit {0}
+IsAlsoTold (Refused fault) = ⊥
 
 -- its ranges; of a text that isn't read there are none, as no task is answered then
 abbrev pub ranges_told : Also → List ToldRange

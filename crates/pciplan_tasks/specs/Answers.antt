@@ -31,9 +31,9 @@ abbrev pub text_bytes : {A : Type 0} → Text A → List ℕ
 text_bytes (Dump dump) = text_of dump
 text_bytes (Lines lines) = string_bytes lines
 
-abbrev pub AreLines : {A : Type 0} → Text A → Type 0
-AreLines (Dump dump) = ⊥
-AreLines (Lines lines) = Unit {0}
+abbrev pub AreReplyLines : {A : Type 0} → Text A → Type 0
+AreReplyLines (Dump dump) = ⊥
+AreReplyLines (Lines lines) = Unit {0}
 
 abbrev pub answer_of : {A : Type 0} → Reply A → Answer
 answer_of reply = record {

@@ -14,7 +14,7 @@ use Rattle.judge_spec.specs.UnclaimedLaws.{with_taking}
 use Rattle.judge_spec.specs.Words.{VgaWord, isa_bridges, legacy_bridges, palette_bridges}
 use Rattle.judge_spec.specs.Taken.{taking_by}
 use Rattle.pci_claims.specs.Values.{host_value}
-use Rattle.pci_faults.specs.Every.{AreReady, AreSound, AreTakenFor}
+use Rattle.pci_faults.specs.Every.{AreReadyForJudging, AreSoundAsTold, AreTakenFor}
 use Rattle.pci_tree.specs.Outline.{Tree}
 use Rattle.pci_tree.specs.Roots.{buses_of}
 use Rattle.pci_why.specs.Lists.{IsReasonedTextOf}
@@ -96,22 +96,22 @@ pub record AreTold (told : Told) (given : Given) (roots : List ℕ) (why : Bool)
     (dump probe : List Block) (answer : Answer) : Type 0 where
   pub faults : List Fault
   pub all : AreAllFaults told given roots dump probe faults
-  pub none : (faults ≡ []) ↔ AreSound told given roots dump probe
+  pub none : (faults ≡ []) ↔ AreSoundAsTold told given roots dump probe
   pub text : List ℕ
   pub is : IsFaultsText (all_named probe) told given roots (system_of dump probe) why faults text
   pub line : answer ≡ list_answer faults text
 
 -- What bridges at some slots take of what is judged. Of two texts that aren't judged nothing is taken.
-pub record AreTakenBeside (told : Told) (given : Given) (roots : List ℕ) (dump probe : List Block)
+pub record AreTakenByBridges (told : Told) (given : Given) (roots : List ℕ) (dump probe : List Block)
     (slots : List Slot) (bridges : List TakingBridge) : Type 0 where
   pub judged : AreTakenFor told given roots dump probe slots bridges
-  pub unjudged : (AreReady told roots dump probe → ⊥) → bridges ≡ []
+  pub unjudged : (AreReadyForJudging told roots dump probe → ⊥) → bridges ≡ []
 
 -- The same where bridges at some slots take what no region of their bus claims.
 pub record AreToldTaking (told : Told) (given : Given) (roots : List ℕ) (slots : List Slot)
     (why : Bool) (dump probe : List Block) (answer : Answer) : Type 0 where
   pub bridges : List TakingBridge
-  pub taken : AreTakenBeside told given roots dump probe slots bridges
+  pub taken : AreTakenByBridges told given roots dump probe slots bridges
   pub are : AreTold told (with_taking bridges given) roots why dump probe answer
 
 -- of the two as words take them, beside what the dump as it is gives and what is told

@@ -8,7 +8,7 @@ use Rattle.pci_spec.specs.FaultLines.{AreAllFaults}
 use Rattle.pci_spec.specs.FaultsText.{IsFaultsText}
 use Rattle.pci_spec.specs.Order.{IsFirstThere}
 use Rattle.pci_spec.specs.Mark.{all_named}
-use Rattle.pci_check.specs.Audits.{AreSound}
+use Rattle.pci_check.specs.Audits.{ArePlainlySound}
 use Rattle.judge_spec.specs.Given.{Given, nothing_given}
 use Rattle.judge_spec.specs.ToldClaims.{Told, nothing_told}
 use Rattle.pciplan_tasks.specs.Answers.{Answer}
@@ -31,7 +31,7 @@ pub record ArePlainTold (roots : List ℕ) (why : Bool) (dump probe : List Block
   pub faults : List Fault
   pub all : AreAllFaults roots dump probe faults
   pub first : FirstLineIsVerdict roots dump probe faults
-  pub none : (faults ≡ []) ↔ AreSound roots dump probe
+  pub none : (faults ≡ []) ↔ ArePlainlySound roots dump probe
   pub text : List ℕ
   pub is : IsFaultsText (all_named probe) roots (system_of dump probe) why faults text
   pub line : answer ≡ list_answer faults text

@@ -16,7 +16,7 @@ use Rattle.settle_spec.specs.Sparing.{without_slots}
 use Rattle.pci_first_fit.specs.Lists.{root_range_value}
 use Rattle.pci_first_fit.specs.Slots.{Demand}
 use Rattle.pci_base.specs.declared.memory.Refused.TheVariants as refused
-use Rattle.pci_faults.specs.Every.{AreBefore, AreReady}
+use Rattle.pci_faults.specs.Every.{AreBefore, AreReadyForJudging}
 use Rattle.pci_script.specs.Scripts.{script}
 use Rattle.pci_settle.specs.Requests.{request}
 use Rattle.pci_settle.specs.Denied.{IsSpared}
@@ -122,7 +122,7 @@ IsSettlingOfPair asked dump probe answer =
 
 -- where something is told, no fault is there before judging with it: no 34, and no 58 of a held range
 abbrev pub IsReadyAsTold : Told → List ℕ → List Block → List Block → Type 0
-IsReadyAsTold said roots dump probe = (said.ranges ≡ []) ⊎ AreReady said roots dump probe
+IsReadyAsTold said roots dump probe = (said.ranges ≡ []) ⊎ AreReadyForJudging said roots dump probe
 
 -- the same of two that are ready
 pub record IsSettlingReady (asked : SettleAsked) (dump probe : List Block) (answer : Answer) : Type 0 where

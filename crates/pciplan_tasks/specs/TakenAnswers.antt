@@ -7,9 +7,9 @@ use Rattle.pci_model.specs.WordsValue.{words_value}
 use Rattle.pciplan_tasks.specs.Answers.{Answer}
 
 -- the two as they are taken: without words as they are
-abbrev pub AreTakenBy : Option Words → List Block → List Block → List Block → List Block → Type 0
-AreTakenBy None dump probe taken taken_probe = (taken ≡ dump) × (taken_probe ≡ probe)
-AreTakenBy (Some words) dump probe taken taken_probe =
+abbrev pub AreTakenByWords : Option Words → List Block → List Block → List Block → List Block → Type 0
+AreTakenByWords None dump probe taken taken_probe = (taken ≡ dump) × (taken_probe ≡ probe)
+AreTakenByWords (Some words) dump probe taken taken_probe =
     AreTakenAs (words_value words) dump probe taken taken_probe
 
 -- what is answered to the two as they are taken
@@ -17,5 +17,5 @@ pub record IsAnswerBy (words : Option Words) (Means : List Block → List Block 
     (dump probe : List Block) (answer : Answer) : Type 0 where
   pub taken : List Block
   pub taken_probe : List Block
-  pub are : AreTakenBy words dump probe taken taken_probe
+  pub are : AreTakenByWords words dump probe taken taken_probe
   pub means : Means taken taken_probe answer

@@ -11,7 +11,7 @@ use Rattle.pci_machine.specs.SizesFault.{IsSizesTextFault}
 use Rattle.pci_tree.specs.Roots.{buses_of}
 use Rattle.pci_place.specs.Pools.{pools_value}
 use Rattle.pci_check.specs.Audits.{IsDumpOf}
-use Rattle.pciplan_tasks.specs.Also.{also_of, IsAlsoFault, IsTold}
+use Rattle.pciplan_tasks.specs.Also.{also_of, IsAlsoFault, IsAlsoTold}
 use Rattle.pciplan_tasks.specs.Answers.{Answer, IsShowAnswer, IsChecked, IsSizeAnswer}
 use Rattle.pciplan_tasks.specs.FaultsAnswers.{IsFaultsAnswer}
 use Rattle.pciplan_tasks.specs.MapAnswers.{IsMapAnswerBy}
@@ -71,10 +71,10 @@ IsTextsAnswer t = IsAnswerTo IsDumpOf (IsPairAnswer t)
 -- the same where a third text is read or there is none
 abbrev pub IsAnswerOf : Task → Option (List ℕ) → Option (List ℕ) → Answer → Type 0
 IsAnswerOf t dump_left second_left answer =
-    IsTold (also_of t) × IsTextsAnswer t dump_left second_left answer
+    IsAlsoTold (also_of t) × IsTextsAnswer t dump_left second_left answer
 
 -- an answer of the task, whose text is written and whose remarks are told
-pub record IsAnswered (task : Task) (dump_left second_left : Option (List ℕ)) (status : ℕ)
+pub record IsTaskAnswered (task : Task) (dump_left second_left : Option (List ℕ)) (status : ℕ)
     (IsWritten AreTold : List ℕ → Type 0) : Type 0 where
   pub answer : Answer
   pub is : IsAnswerOf task dump_left second_left answer
@@ -83,7 +83,7 @@ pub record IsAnswered (task : Task) (dump_left second_left : Option (List ℕ)) 
   pub remarked : AreTold answer.remarks
 
 -- a beginning of the answer was written
-pub record IsBegun (task : Task)
+pub record IsAnswerBegun (task : Task)
     (dump_left second_left before after : Option (List ℕ)) : Type 0 where
   pub answer : Answer
   pub is : IsAnswerOf task dump_left second_left answer

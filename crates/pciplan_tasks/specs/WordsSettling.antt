@@ -14,10 +14,10 @@ use Rattle.judge_spec.specs.UnclaimedLaws.{with_taking}
 use Rattle.judge_spec.specs.TakenDumps.{AreTakenAs}
 use Rattle.settle_spec.specs.Sparing.{without_slots}
 use Rattle.pci_base.specs.declared.memory.Refused.TheVariants as refusal
-use Rattle.pci_faults.specs.Every.{AreBefore, AreSound}
+use Rattle.pci_faults.specs.Every.{AreBefore, AreSoundAsTold}
 use Rattle.pci_model.specs.declared.words.Words.{Words}
 use Rattle.pci_model.specs.WordsValue.{words_value}
-use Rattle.pci_model_settle.specs.ClaimLines.{Kept, Line, claim_lines, kept_lines, origin_of, own_lines}
+use Rattle.pci_model_settle.specs.ClaimLines.{LinesWithOrigins, Line, claim_lines, kept_lines, origin_of, own_lines}
 use Rattle.pci_model_settle.specs.Listed.{blocks_after, listed_write}
 use Rattle.pci_model_settle.specs.OffDevices.{blocks_without, device_lines, left_out}
 use Rattle.pci_model_settle.specs.Unmoved.{AreUnmoved}
@@ -32,11 +32,11 @@ use Rattle.pci_tree.specs.Admission.{IsAdmitted}
 use Rattle.pci_tree.specs.Roots.{buses_of}
 use Rattle.pciplan_tasks.specs.Also.{ranges_told}
 use Rattle.pciplan_tasks.specs.Answers.{Answer, done_with, fault_answer_line, refused}
-use Rattle.pciplan_tasks.specs.FaultsAnswers.{AreTakenBeside, given_of, legacy_by, palette_by, snoop_of, taking_of, vga_of}
+use Rattle.pciplan_tasks.specs.FaultsAnswers.{AreTakenByBridges, given_of, legacy_by, palette_by, snoop_of, taking_of, vga_of}
 use Rattle.pciplan_tasks.specs.MapAnswers.{IsFirstLine}
 use Rattle.pciplan_tasks.specs.PlanAnswers.{IsRefusedText}
 use Rattle.pciplan_tasks.specs.SettleAnswers.{IsReadyAsTold, IsSettled, IsSettlingTold, SettleAsked, demand_said, request_said, settle_admission, settled_text, spare_remarks}
-use Rattle.pciplan_tasks.specs.TakenAnswers.{AreTakenBy}
+use Rattle.pciplan_tasks.specs.TakenAnswers.{AreTakenByWords}
 use Rattle.pciplan_tasks.specs.ToldAnswers.{IsToldBeside}
 use Rattle.pciplan_tasks.specs.declared.task.Beside.{Beside}
 use Rattle.pciplan_tasks.specs.declared.task.HostLists.{HostLists}
@@ -52,13 +52,13 @@ pub record AreFaultsBeside (beside : Beside) (dump probe : List Block) (faults :
   pub beside_them : IsToldBeside beside dump probe told
   pub taken : List Block
   pub taken_probe : List Block
-  pub are : AreTakenBy beside.words dump probe taken taken_probe
+  pub are : AreTakenByWords beside.words dump probe taken taken_probe
   pub bridges : List TakingBridge
-  pub taking : AreTakenBeside told (given_of beside.host beside.words dump) (buses_of beside.roots)
+  pub taking : AreTakenByBridges told (given_of beside.host beside.words dump) (buses_of beside.roots)
       taken taken_probe (taking_of beside.words (system_of dump dump)) bridges
   pub all : AreAllFaults told (with_taking bridges (given_of beside.host beside.words dump))
       (buses_of beside.roots) taken taken_probe faults
-  pub none : (faults ≡ []) ↔ AreSound told
+  pub none : (faults ≡ []) ↔ AreSoundAsTold told
       (with_taking bridges (given_of beside.host beside.words dump)) (buses_of beside.roots) taken
       taken_probe
 
@@ -79,7 +79,7 @@ IsEndLine (fault ∷ rest) remarks text answer = answer ≡ refused (fault_answe
 
 -- Writes to functions as words take them, and the windows whose spares have no room, are printed as writes to the functions of
 -- the dump, if the dump after them has no fault as the words take it.
-pub record IsEnded (beside : Beside) (printed : Printed) (dump probe : List Block)
+pub record IsSettlingEnded (beside : Beside) (printed : Printed) (dump probe : List Block)
     (writes : List Write) (denied : List (Slot × ℕ)) (answer : Answer) : Type 0 where
   pub faults : List Fault
   pub judged : AreFaultsBeside beside (blocks_after dump (map (listed_write dump) writes)) probe
@@ -126,13 +126,13 @@ texts_without left t = record {
 }
 
 -- the ranges that the user tells, with lines of devices and the held ranges of the bridges among them
-abbrev pub kept_with : Words → SettleRequest → List Line → List Block → Kept
+abbrev pub kept_with : Words → SettleRequest → List Line → List Block → LinesWithOrigins
 kept_with w r devices dump =
     kept_lines (own_lines (ranges_told r.also) devices) (claims_by w dump)
 
 -- where the devices are those at these slots
-abbrev pub kept_by : Words → SettleRequest → List Slot → TakenTexts → Kept
-kept_by w r left t =
+abbrev pub kept_with_devices_at : Words → SettleRequest → List Slot → TakenTexts → LinesWithOrigins
+kept_with_devices_at w r left t =
     kept_with w r (device_lines left (system_of t.taken t.taken_probe)) t.dump
 
 -- what settling them comes to, where the dump has no fault after it
@@ -142,20 +142,20 @@ pub record IsSettledTaken (r : SettleRequest) (asked : SettleAsked) (t : TakenTe
   pub writes : List Write
   pub denied : List (Slot × ℕ)
   pub is : IsSettled asked.request (settle_admission asked t.taken t.taken_probe) after writes denied
-  pub ended : IsEnded (beside_said r) asked.printed t.dump t.probe writes denied answer
+  pub ended : IsSettlingEnded (beside_said r) asked.printed t.dump t.probe writes denied answer
 
 -- A fault that names a line names the user's line by its number, and that of a device by its register.
-abbrev pub named_by : Slot → ℕ → Origin → SettleFault
-named_by slot line Bridge = ToldFault slot line
-named_by slot line (User number) = ToldFault slot number
-named_by slot line (Device register) = Fixed slot register
+abbrev pub fault_by_origin : Slot → ℕ → Origin → SettleFault
+fault_by_origin slot line Bridge = ToldFault slot line
+fault_by_origin slot line (User number) = ToldFault slot number
+fault_by_origin slot line (Device register) = Fixed slot register
 
-abbrev pub users_fault : Kept → SettleFault → SettleFault
-users_fault kept (ToldFault slot line) = named_by slot line (origin_of kept line)
+abbrev pub users_fault : LinesWithOrigins → SettleFault → SettleFault
+users_fault kept (ToldFault slot line) = fault_by_origin slot line (origin_of kept line)
 users_fault kept fault = fault
 
 -- the line of the fault for which nothing is settled: slots refuse nothing
-pub record IsNotSettledTaken (kept : Kept) (asked : SettleAsked) (t : TakenTexts)
+pub record IsNotSettledTaken (kept : LinesWithOrigins) (asked : SettleAsked) (t : TakenTexts)
     (answer : Answer) : Type 0 where
   pub fault : SettleFault
   pub stands : IsRefusal (settle_admission asked t.taken t.taken_probe)
@@ -164,30 +164,30 @@ pub record IsNotSettledTaken (kept : Kept) (asked : SettleAsked) (t : TakenTexts
       ≡ refused (fault_answer_line (settle_fault_text (users_fault kept fault)))
 
 -- more ranges than a text can tell of
-pub record IsTooMany (kept : Kept) (answer : Answer) : Type 0 where
+pub record IsTooManyRanges (kept : LinesWithOrigins) (answer : Answer) : Type 0 where
   pub more : 4096 < length kept.told
   pub line : answer ≡ refused (fault_answer_line (codes "77 TooManyRanges"))
 
 -- what settling off these ranges comes to
-abbrev pub IsSettlingKept : SettleRequest → Kept → SettleAsked → TakenTexts → Answer → Type 0
+abbrev pub IsSettlingKept : SettleRequest → LinesWithOrigins → SettleAsked → TakenTexts → Answer → Type 0
 IsSettlingKept r kept asked t answer =
     IsSettledTaken r asked t answer ⊎ IsNotSettledTaken kept asked t answer
 
 -- The same where a text can tell of these ranges.
 abbrev pub IsSettlingAdmitted :
-    SettleRequest → Kept → SettleAsked → TakenTexts → Answer → Type 0
+    SettleRequest → LinesWithOrigins → SettleAsked → TakenTexts → Answer → Type 0
 IsSettlingAdmitted r kept asked t answer =
-    IsTooMany kept answer ⊎ (IsTold kept.told × IsSettlingKept r kept asked t answer)
+    IsTooManyRanges kept answer ⊎ (IsTold kept.told × IsSettlingKept r kept asked t answer)
 
 -- and of any two
-abbrev pub IsSettlingAny : SettleRequest → Kept → SettleAsked → TakenTexts → Answer → Type 0
+abbrev pub IsSettlingAny : SettleRequest → LinesWithOrigins → SettleAsked → TakenTexts → Answer → Type 0
 IsSettlingAny r kept asked t answer =
     (IsAdmitted (settle_admission asked t.taken t.taken_probe)
     × IsSettlingAdmitted r kept asked t answer)
     ⊎ IsRefusedText asked.request.roots t.taken t.taken_probe answer
 
 -- whether a text can tell of so many ranges
-abbrev pub can_tell : Kept → Bool
+abbrev pub can_tell : LinesWithOrigins → Bool
 can_tell kept = nat_le (length kept.told) 4096
 
 -- The devices that are left out, of some: none where all ranges together would be more.
@@ -198,14 +198,14 @@ left_that_fit fit left = if fit then left else []
 abbrev pub IsSettlingBut :
     Words → SettleRequest → Printed → List Slot → List Slot → TakenTexts → Answer → Type 0
 IsSettlingBut w r printed fixed left t answer =
-    IsSettlingAny r (kept_by w r left t)
-    (asked_with fixed (kept_by w r left t).told r printed t.dump) (texts_without left t) answer
+    IsSettlingAny r (kept_with_devices_at w r left t)
+    (asked_with fixed (kept_with_devices_at w r left t).told r printed t.dump) (texts_without left t) answer
 
 -- and where they are if they fit
 abbrev pub IsSettlingOf :
     Words → SettleRequest → Printed → List Slot → List Slot → TakenTexts → Answer → Type 0
 IsSettlingOf w r printed fixed left t answer =
-    IsSettlingBut w r printed fixed (left_that_fit (can_tell (kept_by w r left t)) left) t answer
+    IsSettlingBut w r printed fixed (left_that_fit (can_tell (kept_with_devices_at w r left t)) left) t answer
 
 abbrev pub IsSettlingLeft :
     Words → SettleRequest → Printed → List Slot → List Slot → TakenTexts → Answer → Type 0
@@ -228,9 +228,9 @@ pub record IsTakenUnready (r : SettleRequest) (t : TakenTexts) (answer : Answer)
       t.taken_probe faults
   pub line : IsFirstLine faults answer
 
-abbrev pub IsSettlingReady :
+abbrev pub IsTakenReadyOrNot :
     Words → SettleRequest → Printed → List Slot → TakenTexts → Answer → Type 0
-IsSettlingReady w r printed unmoved t answer =
+IsTakenReadyOrNot w r printed unmoved t answer =
     IsTakenReady w r printed unmoved t answer ⊎ IsTakenUnready r t answer
 
 -- what settling the two as words take them comes to
@@ -242,7 +242,7 @@ pub record IsSettlingByWords (w : Words) (r : SettleRequest) (printed : Printed)
   -- those that stay as they are
   pub unmoved : List Slot
   pub stay : AreUnmoved (words_value w) (system_of dump probe) (system_of taken taken_probe) unmoved
-  pub is : IsSettlingReady w r printed unmoved
+  pub is : IsTakenReadyOrNot w r printed unmoved
       record { dump = dump; probe = probe; taken = taken; taken_probe = taken_probe } answer
 
 -- By words, where both list the same slots; else as they are.

@@ -5,9 +5,9 @@ ghost use Rattle.pci_spec.specs.Text.{IsDump};
 ghost use Rattle.pci_spec.specs.Mark.{all_named};
 ghost use Rattle.judge_spec.specs.Told.{IsTold};
 ghost use Rattle.pci_tree.specs.Roots.{buses_of};
-ghost use Rattle.pci_claims.specs.Values.{given_value, told_value};
-ghost use Rattle.pci_faults.specs.AllLines.{fault_of};
-ghost use Rattle.pciplan_tasks.specs.Answers.{AreLines, answer_of};
+ghost use Rattle.pci_claims.specs.Values.{code_given_value, told_value};
+ghost use Rattle.pci_faults.specs.AllLines.{any_fault_value};
+ghost use Rattle.pciplan_tasks.specs.Answers.{AreReplyLines, answer_of};
 ghost use Rattle.pciplan_tasks.specs.FaultsAnswers.{AreToldTaking, IsFaultsAnswer, IsListText};
 
 use crate::reply::{Reply, Text};
@@ -48,7 +48,7 @@ fn text_of<A: Allocator + Copy>(
     // they are read of a text
     requires told { IsTold asked.now.said.told.ranges.now }
     ensures { IfOk result (λ text. IsListText (all_named probe.now) (told_value asked.now.said.told)
-        (given_value asked.now.said.given) judged.now asked.now.why (map fault_of faults.now)
+        (code_given_value asked.now.said.given) judged.now asked.now.why (map any_fault_value faults.now)
         (string_bytes text)) }
 {
     match (judged, asked.why) {
@@ -75,9 +75,9 @@ fn faults_pair<A: Allocator + Copy>(
     // they are read of a text
     requires { IsTold asked.now.said.told.ranges.now }
     ensures told { IfOk result (λ reply. AreToldTaking (told_value asked.now.said.told)
-        (given_value asked.now.said.given) (buses_of asked.now.said.roots)
+        (code_given_value asked.now.said.given) (buses_of asked.now.said.roots)
         asked.now.said.taking.now asked.now.why dump.now probe.now (answer_of reply)) }
-    ensures lines { IfOk result (λ reply. AreLines reply.text) }
+    ensures lines { IfOk result (λ reply. AreReplyLines reply.text) }
 {
     // slots rise in both, so a list of 30 is none of judging
     let _ = dump.blocks();
@@ -115,7 +115,7 @@ pub fn faults_by<A: Allocator + Copy>(
     ensures told { IfOk result (λ reply. IsFaultsAnswer beside.now why dump.now probe.now
         (answer_of reply)) }
     // so a caller has the text of the list as it is
-    ensures lines { IfOk result (λ reply. AreLines reply.text) }
+    ensures lines { IfOk result (λ reply. AreReplyLines reply.text) }
 {
     let bridges = bridges_by(alloc, dump, beside.words)?;
     let ranges = beside.also.ranges();

@@ -2,8 +2,8 @@
 ghost use Rattle.std.specs.Prelude.{◌≡◌, [], map, IfOk};
 ghost use Rattle.judge_spec.specs.Told.{IsTold};
 ghost use Rattle.pci_tree.specs.Roots.{buses_of};
-ghost use Rattle.pci_claims.specs.Values.{given_value, told_value};
-ghost use Rattle.pci_faults.specs.AllLines.{fault_of};
+ghost use Rattle.pci_claims.specs.Values.{code_given_value, told_value};
+ghost use Rattle.pci_faults.specs.AllLines.{any_fault_value};
 ghost use Rattle.pciplan_tasks.specs.Answers.{answer_of};
 ghost use Rattle.pciplan_tasks.specs.MapAnswers.{IsFirstLine, IsMapped, IsMapAnswerBy};
 
@@ -27,9 +27,9 @@ pub fn first_line<A: Allocator + Copy>(
     alloc: A,
     faults: &[AnyFault],
 ) -> Result<Reply<A>, OutOfMemory>
-    requires { map fault_of faults.now ≡ [] → ⊥ }
+    requires { map any_fault_value faults.now ≡ [] → ⊥ }
     ensures { IfOk result
-        (λ reply. IsFirstLine (map fault_of faults.now) (answer_of reply)) }
+        (λ reply. IsFirstLine (map any_fault_value faults.now) (answer_of reply)) }
 {
     match faults.first() {
         Some(fault) => refused(alloc, fault),
@@ -48,7 +48,7 @@ fn map_pair<A: Allocator + Copy>(
     // they are read of a text
     requires { IsTold said.now.told.ranges.now }
     ensures { IfOk result (λ reply. IsMapped (told_value said.now.told)
-        (given_value said.now.given) (buses_of said.now.roots) said.now.taking.now dump.now
+        (code_given_value said.now.given) (buses_of said.now.roots) said.now.taking.now dump.now
         probe.now (answer_of reply)) }
 {
     let found = before_judging(alloc, dump, probe, said.roots, &said.told)?;

@@ -1,10 +1,10 @@
 //! Carries out a task on two texts.
 ghost use Rattle.std.specs.Prelude.{◌≡◌, ◌⊎◌, ◌<◌, ◌≤◌, ◌+◌, IfOk, IfErr, MatchOption};
 ghost use Rattle.std.specs.Io.KnownBytes.{Appends};
-ghost use Rattle.pciplan_tasks.specs.Also.{IsAlsoFault, IsAlsoUnread, IsTold, also_of};
+ghost use Rattle.pciplan_tasks.specs.Also.{IsAlsoFault, IsAlsoUnread, IsAlsoTold, also_of};
 ghost use Rattle.pciplan_tasks.specs.Answers.{AreRemarked, IsShowAnswer, IsSizeAnswer, answer_of, outcome_answer};
 ghost use Rattle.pciplan_tasks.specs.Statuses.{status_of};
-ghost use Rattle.pciplan_tasks.specs.Tasks.{HasFailed, IsAnswerOf, IsAnswered, IsBegun, IsFailureOf, IsOfWholePair, IsPairAnswer, IsTaskRefused};
+ghost use Rattle.pciplan_tasks.specs.Tasks.{HasFailed, IsAnswerOf, IsTaskAnswered, IsAnswerBegun, IsFailureOf, IsOfWholePair, IsPairAnswer, IsTaskRefused};
 
 use crate::failure::{Failure, report};
 use crate::faulting::faults_by;
@@ -141,7 +141,7 @@ pub fn pair_reply<A: Allocator + Copy>(
 
 /// The fault of the third text of a task, where it has one or can't be read.
 fn also_fault(task: &Task) -> Option<ReadFault>
-    ensures { MatchOption result (IsTold (also_of task.now)) (IsAlsoFault task.now) }
+    ensures { MatchOption result (IsAlsoTold (also_of task.now)) (IsAlsoFault task.now) }
 {
     match task {
         Task::Faults { beside, .. } | Task::Map { beside } => beside.also.fault(),
@@ -209,7 +209,7 @@ pub fn run<A: Allocator + Copy, D: Source, P: Source, O: Sink, E: Sink>(
 ) -> u8
     // standard error may fail: what was asked for is answered all the same
     ensures answered { result < 2
-        → IsAnswered task.now (D.left dump.old) (P.left probe.old) result
+        → IsTaskAnswered task.now (D.left dump.old) (P.left probe.old) result
         (Appends (O.taken out.old) (O.taken out.new))
         (AreRemarked (E.taken err.old) (E.taken err.new)
         (E.failures err.new ≡ E.failures err.old + 1) (err.new ≡ err.old)) }
@@ -217,7 +217,7 @@ pub fn run<A: Allocator + Copy, D: Source, P: Source, O: Sink, E: Sink>(
     ensures quiet { (result ≡ 2) ⊎ (result ≡ 3) → out.new ≡ out.old }
     // what went out can't be taken back, so all that is promised is that it is a beginning
     ensures begun { result ≡ 4 → (out.new ≡ out.old)
-        ⊎ IsBegun task.now (D.left dump.old) (P.left probe.old) (O.taken out.old)
+        ⊎ IsAnswerBegun task.now (D.left dump.old) (P.left probe.old) (O.taken out.old)
         (O.taken out.new) }
     // it is the text's own fault, and comes again however often it is tried
     ensures refused { result ≡ 2

@@ -2,7 +2,7 @@
 ghost use Rattle.std.specs.Prelude.{◌≡◌, map, option_map, IfOk};
 ghost use Rattle.pci_spec.specs.System.{system_of};
 ghost use Rattle.judge_spec.specs.Told.{IsTold};
-ghost use Rattle.pci_claims.specs.Values.{given_value, host_value, legacy_value, told_value};
+ghost use Rattle.pci_claims.specs.Values.{code_given_value, host_value, legacy_value, told_value};
 ghost use Rattle.pciplan_tasks.specs.Also.{ranges_told};
 ghost use Rattle.pciplan_tasks.specs.FaultsAnswers.{given_with, isa_by, isa_of, legacy_by, palette_by, snoop_of, taking_of, vga_of};
 ghost use Rattle.pciplan_tasks.specs.Saying.{AreBridgesBy};
@@ -164,7 +164,7 @@ pub fn said_by<'a, A: Allocator>(
     asleep: &'a [Slot],
 ) -> Said<'a>
     ensures roots { result.roots ≡ beside.now.roots }
-    ensures given { given_value result.given ≡ given_with beside.now.host
+    ensures given { code_given_value result.given ≡ given_with beside.now.host
         (map legacy_value bridges.now.legacy.items) bridges.now.isa.items
         (map legacy_value bridges.now.palette.items) }
     ensures ranges { (told_value result.told).ranges ≡ ranges_told beside.now.also }

@@ -5,8 +5,8 @@ ghost use Rattle.std.specs.List.{All};
 ghost use Rattle.pci_spec.specs.Slot.{Slot as SlotValue};
 ghost use Rattle.pci_spec.specs.Text.{slots_of};
 ghost use Rattle.judge_spec.specs.Told.{IsTold};
-ghost use Rattle.pci_claims.specs.Values.{given_value, legacy_value, told_value};
-ghost use Rattle.pci_faults.specs.AllLines.{fault_of};
+ghost use Rattle.pci_claims.specs.Values.{code_given_value, legacy_value, told_value};
+ghost use Rattle.pci_faults.specs.AllLines.{any_fault_value};
 ghost use Rattle.pci_model_settle.specs.LineValues.{AreToldInOrder, line_value};
 ghost use Rattle.pci_model_settle.specs.OffDevices.{left_out};
 ghost use Rattle.pci_plan.specs.Writes.{is_two_or_four, write_value};
@@ -18,7 +18,7 @@ ghost use Rattle.pciplan_tasks.specs.Also.{ranges_told};
 ghost use Rattle.pciplan_tasks.specs.Answers.{answer_of};
 ghost use Rattle.pciplan_tasks.specs.FaultsAnswers.{given_with};
 ghost use Rattle.pciplan_tasks.specs.SettleAnswers.{demand_said};
-ghost use Rattle.pciplan_tasks.specs.WordsSettling.{AreFaultsBeside, IsEnded, IsSettleAnswer, IsSettlingAdmitted, IsSettlingAny, IsSettlingByWords, IsSettlingKept, IsSettlingLeft, IsSettlingOf, IsSettlingReady, all_is_sent, asked_with, beside_said, kept_with, users_fault};
+ghost use Rattle.pciplan_tasks.specs.WordsSettling.{AreFaultsBeside, IsSettlingEnded, IsSettleAnswer, IsSettlingAdmitted, IsSettlingAny, IsSettlingByWords, IsSettlingKept, IsSettlingLeft, IsSettlingOf, IsTakenReadyOrNot, all_is_sent, asked_with, beside_said, kept_with, users_fault};
 
 use crate::mapping::first_line;
 use crate::reply::{Reply, refused};
@@ -60,7 +60,7 @@ fn said_beside<'a, A: Allocator>(
     asleep: &'a [Slot],
 ) -> Said<'a>
     ensures roots { result.roots ≡ request.now.roots }
-    ensures given { given_value result.given ≡ given_with all_is_sent
+    ensures given { code_given_value result.given ≡ given_with all_is_sent
         (map legacy_value bridges.now.legacy.items) bridges.now.isa.items
         (map legacy_value bridges.now.palette.items) }
     ensures ranges { (told_value result.told).ranges ≡ ranges_told request.now.also }
@@ -95,7 +95,7 @@ fn faults_beside<A: Allocator + Copy>(
     request: &SettleRequest,
 ) -> Result<Vec<AnyFault, A>, OutOfMemory>
     ensures { IfOk result (λ faults. AreFaultsBeside (beside_said request.now) dump.now probe.now
-        (map fault_of faults.items)) }
+        (map any_fault_value faults.items)) }
 {
     let bridges = bridges_by(alloc, dump, request.words)?;
     let ranges = request.also.ranges();
@@ -129,7 +129,7 @@ fn ended<A: Allocator + Copy>(
     printed: Printed,
 ) -> Result<Reply<A>, OutOfMemory>
     requires { All (λ w. IsTrue (is_two_or_four w)) settled.writes.all.items }
-    ensures { IfOk result (λ reply. IsEnded (beside_said request.now) printed texts.now.dump.now texts.now.probe.now
+    ensures { IfOk result (λ reply. IsSettlingEnded (beside_said request.now) printed texts.now.dump.now texts.now.probe.now
         (map write_value settled.writes.all.items) (map denied_value settled.denied.items)
         (answer_of reply)) }
 {
@@ -411,7 +411,7 @@ fn settle_told<A: Allocator + Copy>(
     ensures { IfOk result (λ reply. (unmoved : List SlotValue)
         → asked.now.fixed.now ≡ asked.now.request.now.fixed.items ++ unmoved
         → asked.now.left.now ≡ left_out unmoved texts.now.dump.now taken.dump taken.probe
-        → IsSettlingReady asked.now.words asked.now.request.now asked.now.printed unmoved record {
+        → IsTakenReadyOrNot asked.now.words asked.now.request.now asked.now.printed unmoved record {
           dump = texts.now.dump.now;
           probe = texts.now.probe.now;
           taken = taken.dump;

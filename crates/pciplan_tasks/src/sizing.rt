@@ -6,7 +6,7 @@ ghost use Rattle.pci_spec.specs.Sizing.{function_at, IsSizable};
 ghost use Rattle.pci_spec.specs.System.{system_of};
 ghost use Rattle.pci_spec.specs.Decoded.{IsDecodable};
 ghost use Rattle.pci_tree.specs.Pair.{IsPair};
-ghost use Rattle.pci_machine.specs.Made.{IsFirstFor, IsOfMachine, IsRefusedFor};
+ghost use Rattle.pci_machine.specs.Made.{IsMachineFaultFirst, IsOfMachine, IsMachineFaultThere};
 
 use pci_base::image::Image;
 use pci_base::memory::Refused;
@@ -59,8 +59,8 @@ pub fn size_all<A: Allocator + Copy, D: Allocator, P: Allocator>(
     ensures decodable { OnOk result (All IsDecodable (system_of dump.now probe.now)) }
     // never 27 to 29: sizing doesn't read a capabilities list
     ensures kind { IfErr result IsOfMachine }
-    ensures fault { IfErr result (IsRefusedFor dump.now probe.now) }
-    ensures first { IfErr result (IsFirstFor dump.now probe.now) }
+    ensures fault { IfErr result (IsMachineFaultThere dump.now probe.now) }
+    ensures first { IfErr result (IsMachineFaultFirst dump.now probe.now) }
 {
     let mut machine = match Machine::of(alloc, dump, probe) {
         Ok(machine) => machine,

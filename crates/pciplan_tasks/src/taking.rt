@@ -1,6 +1,6 @@
 //! A dump and its probe as the words of `--model` take them.
 ghost use Rattle.std.specs.Prelude.{IfOk, MatchOption};
-ghost use Rattle.pciplan_tasks.specs.TakenAnswers.{AreTakenBy};
+ghost use Rattle.pciplan_tasks.specs.TakenAnswers.{AreTakenByWords};
 
 use pci_base::memory::OutOfMemory;
 use pci_dump::dump::Dump;
@@ -17,8 +17,8 @@ pub fn taken<A: Allocator + Copy>(
     words: Option<Words>,
 ) -> Result<Option<TakenPair<A>>, OutOfMemory>
     ensures { IfOk result
-        (λ taken. MatchOption taken (AreTakenBy words dump.now probe.now dump.now probe.now)
-        (λ t. AreTakenBy words dump.now probe.now t.dump t.probe)) }
+        (λ taken. MatchOption taken (AreTakenByWords words dump.now probe.now dump.now probe.now)
+        (λ t. AreTakenByWords words dump.now probe.now t.dump t.probe)) }
 {
     let Some(words) = words else {
         return Ok(None);

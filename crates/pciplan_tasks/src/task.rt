@@ -1,7 +1,7 @@
 //! The tasks.
 ghost use Rattle.std.specs.Prelude.{◌≡◌, [], MatchOption};
 ghost use Rattle.judge_spec.specs.Told.{IsTold as AreRanges};
-ghost use Rattle.pciplan_tasks.specs.Also.{IsTold, ranges_told};
+ghost use Rattle.pciplan_tasks.specs.Also.{IsAlsoTold, ranges_told};
 ghost use Rattle.pciplan_tasks.specs.declared.task.Also.{Also};
 
 use pci_base::range::RootRange;
@@ -45,7 +45,7 @@ impl Also {
 
     /// The fault of the text, where it has one or can't be read.
     pub fn fault(&self) -> Option<ReadFault>
-        ensures { MatchOption result (IsTold self.now) (λ fault. self.now ≡ Also.Refused fault) }
+        ensures { MatchOption result (IsAlsoTold self.now) (λ fault. self.now ≡ Also.Refused fault) }
     {
         match self {
             Also::Told(_) => None,

@@ -4,7 +4,7 @@ use Rattle.std.proofs.lemmas.Option.{none-some}
 use Rattle.clap.specs.Words.{Row, Text, first_of, first_value, one_of, one_text, rows_of}
 use Rattle.clap.specs.declared.parser.matches.Found.{Found}
 use Rattle.clap.proofs.WalkLemmas.{first_value-rows, one_text-rows}
-use Rattle.pciplan_words.specs.CommandWords.{IsFlag, word_of, HasSettleWords, AreSlotsForSpares, AreSlotsAlone}
+use Rattle.pciplan_words.specs.CommandWords.{IsFlag, word_of, HasSettleWords, AreSlotsForSpares, AreSlotsWithoutSpares}
 use Rattle.pciplan_words.specs.declared.asked.SettleWords.{SettleWords}
 
 -- the word that `get_str` gives, and the flag that `get_flag` gives
@@ -29,7 +29,7 @@ none_alike None (Some b) same is = absurd (none-some b.now same)
 none_alike (Some a) b same is = absurd (none-some a (sym is))
 
 -- where slots are said and no spares, the words of that line are of no settling
-pub slots_alone : (rows : List Row) (one other : SettleWords) → HasSettleWords rows one → HasSettleWords rows other → AreSlotsAlone one
+pub slots_alone : (rows : List Row) (one other : SettleWords) → HasSettleWords rows one → HasSettleWords rows other → AreSlotsWithoutSpares one
     → AreSlotsForSpares other → ⊥
 slots_alone rows one other of_one of_other alone for_spares =
     let spare = none_alike one.spare other.spare (sym of_one.spare ∙ of_other.spare) alone.0 in

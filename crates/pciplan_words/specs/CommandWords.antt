@@ -64,8 +64,8 @@ abbrev pub AreSlotsForSpares : SettleWords → Type 0
 AreSlotsForSpares words = words.spare ≡ None → words.slots ≡ None
 
 -- slots are said, and no spares
-abbrev pub AreSlotsAlone : SettleWords → Type 0
-AreSlotsAlone words = (words.spare ≡ None) × (words.slots ≢ None)
+abbrev pub AreSlotsWithoutSpares : SettleWords → Type 0
+AreSlotsWithoutSpares words = (words.spare ≡ None) × (words.slots ≢ None)
 
 -- the task of this name, with the words of its options
 abbrev pub IsTaskAsked : Text → List Row → Asked → Type 0

@@ -3,7 +3,7 @@ ghost use Rattle.std.specs.Prelude.{◌≡◌, ◌≢◌, ◌⊎◌, List, ℕ, 
 ghost use Rattle.clap.specs.Words.{found_of, kind_of, rows_of};
 ghost use Rattle.clap.specs.declared.error.kind.ErrorKind.{ErrorKind};
 ghost use Rattle.pciplan_words.specs.CommandLines.{IsGiven, HasNoLine};
-ghost use Rattle.pciplan_words.specs.CommandWords.{HasFaultsWords, HasMapWords, HasPlanWords, HasSettleWords, AreSlotsForSpares, AreSlotsAlone, IsTaskAsked, IsSaid};
+ghost use Rattle.pciplan_words.specs.CommandWords.{HasFaultsWords, HasMapWords, HasPlanWords, HasSettleWords, AreSlotsForSpares, AreSlotsWithoutSpares, IsTaskAsked, IsSaid};
 ghost use Rattle.pciplan_words.specs.declared.asked.Asked.{Asked};
 ghost use Rattle.pciplan_words.specs.declared.asked.PlanWords.{PlanWords};
 ghost use Rattle.pciplan_words.specs.declared.asked.SettleWords.{SettleWords};
@@ -108,7 +108,7 @@ fn settle_words<'a>(found: &ArgMatches<'a>) -> Option<SettleWords<'a>>
 
 /// The words, where slots are said for spares alone.
 fn slots_for_spares<'a>(words: SettleWords<'a>) -> Option<SettleWords<'a>>
-    ensures { MatchOption result (AreSlotsAlone words.entry)
+    ensures { MatchOption result (AreSlotsWithoutSpares words.entry)
         (λ w. (w ≡ words.entry) × AreSlotsForSpares w) }
 {
     match (words.spare, words.slots) {

@@ -23,7 +23,7 @@ use Rattle.plan_spec.proofs.Planning.Writes.{same_number}
 use Rattle.settle_spec.specs.Kept.{Kept}
 use Rattle.settle_spec.specs.Lists.{Request}
 use Rattle.settle_spec.specs.Keeping.Registers.{settled_function}
-use Rattle.settle_spec.specs.Keeping.Writes.{closed_function, closing_from, closing_of, closings, opening_from, setting_from, setting_of, settle_writes}
+use Rattle.settle_spec.specs.Keeping.Writes.{closed_function, closing_from, change_to_closed, closings, opening_from, setting_from, setting_of, settle_writes}
 use Rattle.settle_spec.specs.Writes.{closing_registers, setting_registers}
 use Rattle.settle_laws.specs.Keeping.PlacesLaws.{CanSettle}
 use Rattle.settle_laws.proofs.Keeping.Few.{own_write, own_writes}
@@ -129,7 +129,7 @@ module _ (q : Request) (s : System) (k : Kept) where
       in_closing [] has = absurd (in_nil u has)
       in_closing (f ∷ r) has = elim (Contains-append_cases (closings q s k r) (closing_from q s k f) u has) [
         | inl later ↦ in_closing r later
-        | inr here ↦ settled_at (closing_of q s k f) (closing_registers f) (closing_table (is_bridge f)) u here
+        | inr here ↦ settled_at (change_to_closed q s k f) (closing_registers f) (closing_table (is_bridge f)) u here
       ]
 
 -- ---- writes of a device
@@ -182,9 +182,9 @@ module _ (q : Request) (s : System) (k : Kept) (can : CanSettle q s k) where
 
     closing_is : Contains (closing_from q s k h) u → IsDeviceWrite h u
     closing_is has =
-        command_at (closing_of q s k h) (closing_registers h)
+        command_at (change_to_closed q s k h) (closing_registers h)
         (only_command (closing_registers h) (ap (λ b. (COMMAND, 2) ∷ (if b then (0x1c, 2) ∷ (0x30, 4) ∷ (0x20, 4) ∷ (0x24, 4) ∷ (0x2c, 4) ∷ [] else [])) device))
-        (change_at (closing_of q s k h) (closing_registers h) u has)
+        (change_at (change_to_closed q s k h) (closing_registers h) u has)
 
     opening_is : Contains (opening_from q s k h) u → IsDeviceWrite h u
     opening_is has =
@@ -235,7 +235,7 @@ module _ (q : Request) (s : System) (k : Kept) (can : CanSettle q s k) where
     device_write has = elim (Contains-append_cases (closings q s k s) (flat_map (setting_from q s k) s ++ flat_map (opening_from q s k) s) u has) [
       | inl closing ↦
           let found = in_closings s u closing in
-          let slot = own_writes q s k can.system (closing_of q s k found.0) (closing_registers found.0) u found.2 in
+          let slot = own_writes q s k can.system (change_to_closed q s k found.0) (closing_registers found.0) u found.2 in
           closing_is (subst (λ f. Contains (closing_from q s k f) u) (own found.0 found.1 slot) found.2)
       | inr more ↦ elim (Contains-append_cases (flat_map (setting_from q s k) s) (flat_map (opening_from q s k) s) u more) [
         | inl setting ↦

@@ -19,7 +19,7 @@ use Rattle.settle_laws.specs.ToldSoundLaws.{CanAskTold, CanSettleTold, IsToldOf}
 use Rattle.settle_laws.proofs.Keeping.Stopping.{writes_fit, writes_settle}
 use Rattle.settle_laws.proofs.Told.Ended.{told_end}
 use Rattle.settle_laws.proofs.Told.Settling.{beside_wishes, placing_admitted, settled_can, sparing_can}
-use Rattle.settle_answer_laws.specs.StopLaws.{AreToldTo, HasRange, SettlingSparingCanStop}
+use Rattle.settle_answer_laws.specs.StopLaws.{AreToldInRequest, HasRange, GivenSparingCanStop}
 use Rattle.settle_answer_laws.proofs.DeviceWrites.{IsDeviceWrite, IsSettledWrite, device_write, settled_write}
 use Rattle.settle_answer_laws.proofs.GivenStops.{given_stops}
 
@@ -65,8 +65,8 @@ module _ (q : Request) (s : System) (writes : List Write) (may : CanAskTold q s)
   pub sparing_device_write : (h : Function) → Contains s h → is_bridge h ≡ false → (u : Write) → Contains writes u → same_slot h.slot u.slot ≡ true → IsDeviceWrite h u
   sparing_device_write h listed device u has here = device_write p s j can.can h listed device u here (subst (λ ws. Contains ws u) (sym same_writes) has)
 
-  module _ (told : Told) (given : Given) (among : AreToldTo q told) where
-    among_placing : AreToldTo p told
+  module _ (told : Told) (given : Given) (among : AreToldInRequest q told) where
+    among_placing : AreToldInRequest p told
     among_placing r has = subst (λ (t : Told). HasRange t.ranges r) (sym same_told) (among r has)
 
     stops : (n : ℕ) → IsSound told given q.roots (system_after s writes) → (length (closings p s j s) ≤ n) ⊎ IsSound told given q.roots s → IsSound told given q.roots (system_after s (take n writes))
@@ -78,5 +78,5 @@ module _ (q : Request) (s : System) (writes : List Write) (may : CanAskTold q s)
         (subst (λ roots. (length (closings p s j s) ≤ n) ⊎ IsSound told given roots s) (sym same_roots) from)))
 
 -- The law.
-pub given_sparing_stops : SettlingSparingCanStop
+pub given_sparing_stops : GivenSparingCanStop
 given_sparing_stops q s writes told given n may ended among end from = stops q s writes may ended told given among n end from

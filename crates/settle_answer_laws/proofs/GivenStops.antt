@@ -48,7 +48,7 @@ use Rattle.settle_laws.proofs.Stages.{AreStages, IsHeldBy}
 use Rattle.settle_laws.proofs.Told.Held.{held_by}
 use Rattle.settle_laws.proofs.Told.Lines.{IsAtSlot, at_slot, named_line, told_then}
 use Rattle.settle_laws.proofs.Told.On.{enabled_by, enabled_from, awake, always_left, command_left}
-use Rattle.settle_answer_laws.specs.StopLaws.{AreToldTo, HasRange}
+use Rattle.settle_answer_laws.specs.StopLaws.{AreToldInRequest, HasRange}
 use Rattle.settle_answer_laws.proofs.GivenLeft.{IsSafeWith, StillPasses, left_safe, prefetchable_by}
 
 -- a range that settling was told of, as a line tells it
@@ -142,7 +142,7 @@ module _ (q : Request) (s : System) (k : Kept) (all : CanSettleTold q s k) where
 
   -- ---- a told range that has to be reached, by its mark
 
-  module _ (told : Told) (among : AreToldTo q told) (h w : Function → Function) (moved : (f : Function) → Contains s f → IsMoved f (h f)) where
+  module _ (told : Told) (among : AreToldInRequest q told) (h w : Function → Function) (moved : (f : Function) → Contains s f → IsMoved f (h f)) where
     -- what is asked of a bridge whose kept window holds an address
     record ArePassing : Type 0 where
       always : (b : Function) (prefetchable : Bool) (space : Space) (a : ℕ) → Contains s b → is_bridge b ≡ true → IsHeldBy b (closed b) (final b) prefetchable space a → passes space prefetchable a (h b) ≡ true
@@ -185,7 +185,7 @@ module _ (q : Request) (s : System) (k : Kept) (all : CanSettleTold q s k) where
 
   -- ---- the stages
 
-  module _ (told : Told) (given : Given) (among : AreToldTo q told) where
+  module _ (told : Told) (given : Given) (among : AreToldInRequest q told) where
     abbrev Safe : System → Type 0
     Safe = IsSafeWith told given q.roots
 

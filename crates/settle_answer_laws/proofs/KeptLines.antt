@@ -20,7 +20,7 @@ use Rattle.pci_model_settle.specs.OffDevices.{device_lines, functions_without}
 use Rattle.pci_tree.specs.Admission.{IsAdmitted}
 use Rattle.pciplan_tasks.specs.SettleAnswers.{IsReadyAsTold}
 use Rattle.pciplan_tasks.specs.WordsSettling.{claims_by}
-use Rattle.settle_answer_laws.specs.LeftOutLaws.{AreOff}
+use Rattle.settle_answer_laws.specs.LeftOutLaws.{AreOffDevices}
 use Rattle.settle_answer_laws.proofs.LeavingOut.{pairs_without}
 use Rattle.settle_answer_laws.proofs.LeftOut.{led_same, slots_are}
 use Rattle.settle_answer_laws.proofs.LineSources.{line_source}
@@ -30,7 +30,7 @@ not_both b on off = both_ways b off on
 
 module _ (ranges : List ToldRange) (roots : List ℕ) (w : Words) (dump taken taken_probe : List Block) (left : List Slot)
     (ready : IsReadyAsTold record { ranges = ranges; asleep = [] } roots taken taken_probe) (same : slots_of dump ≡ slots_of taken)
-    (admitted : IsAdmitted record { roots = roots; dump = taken; probe = taken_probe }) (off : AreOff left (system_of taken taken_probe)) where
+    (admitted : IsAdmitted record { roots = roots; dump = taken; probe = taken_probe }) (off : AreOffDevices left (system_of taken taken_probe)) where
   abbrev t : System
   t = system_of taken taken_probe
 

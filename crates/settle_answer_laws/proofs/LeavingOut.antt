@@ -13,7 +13,7 @@ use Rattle.judge_spec.proofs.ToldNumbering.{slot_itself}
 use Rattle.judge_spec.specs.Bytes.{without_registers}
 use Rattle.pci_model_settle.specs.OffDevices.{function_without, functions_without}
 use Rattle.pci_model_settle.specs.Unmoved.{is_among}
-use Rattle.settle_answer_laws.specs.LeftOutLaws.{AreLawful, AreOff, HasLawfulRegisters, SoundWith, SoundWithout}
+use Rattle.settle_answer_laws.specs.LeftOutLaws.{AreLawful, AreOffDevices, HasLawfulRegisters, SoundWith, SoundWithout}
 use Rattle.settle_answer_laws.proofs.LeftOut.{IsBare, IsOff, IsSameOrBare, off_parts, sound_is}
 use Rattle.settle_answer_laws.proofs.WithoutRegisters.{agree_back, without_agrees, without_is_lawful}
 use Rattle.settle_answer_laws.proofs.WordsSettled.{among_has}
@@ -64,7 +64,7 @@ module _ (left : List Slot) (f : Function) where
   pub elsewhere : is_among left f.slot ≡ false → function_without left f ≡ f
   elsewhere is = ap (λ b. if b then without f else f) is
 
-pub pairs_without : (left : List Slot) (s : System) → AreOff left s → AllZip IsSameOrBare s (functions_without left s)
+pub pairs_without : (left : List Slot) (s : System) → AreOffDevices left s → AllZip IsSameOrBare s (functions_without left s)
 pairs_without left [] off = tt
 pairs_without left (f ∷ s) off = (
   elim (cases_Bool (is_among left f.slot)) [
@@ -74,7 +74,7 @@ pairs_without left (f ∷ s) off = (
   pairs_without left s (λ g has at. off g (in_tail f s g has) at),
 )
 
-pairs_with : (left : List Slot) (s : System) → AreOff left s → AreLawful left s → AllZip IsSameOrBare (functions_without left s) s
+pairs_with : (left : List Slot) (s : System) → AreOffDevices left s → AreLawful left s → AllZip IsSameOrBare (functions_without left s) s
 pairs_with left [] off lawful = tt
 pairs_with left (f ∷ s) off lawful = (
   elim (cases_Bool (is_among left f.slot)) [

@@ -15,8 +15,8 @@ use Rattle.pci_claims.specs.Legacy.{blocks_of, palette_high, palette_low, vga_hi
 use Rattle.pci_claims.specs.declared.legacy.FixedPart.{FixedPart}
 use Rattle.pci_claims.specs.declared.legacy.FixedPart.TheVariants.{Legacy, Palette}
 use Rattle.pci_model.specs.declared.words.Words.{Words}
-use Rattle.pci_model_settle.specs.ClaimLines.{Line, claim_line, held, line_key, lines_with, merged, own_lines, part_lines, port_lines, ports_of_kb, told_line_of, told_lines}
-use Rattle.pci_model_settle.specs.OffDevices.{ShownPart, device_lines, lines_of, lines_of_part, part_line, shown_bar, shown_parts, shown_rom}
+use Rattle.pci_model_settle.specs.ClaimLines.{Line, claim_line, held, line_key, lines_with, merged_by_key, own_lines, part_lines, port_lines, ports_of_kb, told_line_of, told_lines}
+use Rattle.pci_model_settle.specs.OffDevices.{ShownPart, device_lines, lines_of, lines_of_part, part_line, shown_bar_part, shown_parts, shown_rom}
 use Rattle.pci_model_settle.specs.Unmoved.{is_among}
 use Rattle.pciplan_tasks.specs.FaultsAnswers.{legacy_by, palette_by, snoop_of, vga_of}
 use Rattle.pciplan_tasks.specs.WordsSettling.{claims_by}
@@ -57,15 +57,15 @@ either_cases : {X : Type 0} (first : Bool) (x y z : X) (xs ys : List X) → Cont
 either_cases true x y z xs ys has = inl has
 either_cases false x y z xs ys has = inr has
 
-merged_cases : {X : Type 0} (key : X → ℕ) (xs ys : List X) (z : X) → Contains (merged key xs ys) z → Contains xs z ⊎ Contains ys z
+merged_cases : {X : Type 0} (key : X → ℕ) (xs ys : List X) (z : X) → Contains (merged_by_key key xs ys) z → Contains xs z ⊎ Contains ys z
 merged_cases key [] ys z has = inr has
 merged_cases key (x ∷ xs) [] z has = inl has
-merged_cases key (x ∷ xs) (y ∷ ys) z has = elim (either_cases (nat_le (key x) (key y)) x y z (merged key xs (y ∷ ys)) (merged key (x ∷ xs) ys) has) [
-  | inl one ↦ elim (in_cons_cases x (merged key xs (y ∷ ys)) z one) [
+merged_cases key (x ∷ xs) (y ∷ ys) z has = elim (either_cases (nat_le (key x) (key y)) x y z (merged_by_key key xs (y ∷ ys)) (merged_by_key key (x ∷ xs) ys) has) [
+  | inl one ↦ elim (in_cons_cases x (merged_by_key key xs (y ∷ ys)) z one) [
     | inl is ↦ inl (subst (Contains (x ∷ xs)) is (in_head x xs))
     | inr more ↦ elim (merged_cases key xs (y ∷ ys) z more) [ inl first ↦ inl (in_tail x xs z first) | inr second ↦ inr second ]
   ]
-  | inr other ↦ elim (in_cons_cases y (merged key (x ∷ xs) ys) z other) [
+  | inr other ↦ elim (in_cons_cases y (merged_by_key key (x ∷ xs) ys) z other) [
     | inl is ↦ inr (subst (Contains (y ∷ ys)) is (in_head y ys))
     | inr more ↦ elim (merged_cases key (x ∷ xs) ys z more) [ inl first ↦ inl first | inr second ↦ inr (in_tail y ys z second) ]
   ]
@@ -101,8 +101,8 @@ rom_slot slot None part has = absurd (in_nil part has)
 rom_slot slot (Some rom) part has = ap (λ (p : ShownPart). p.slot) (sym (only _ part (where_so rom.on _ part has)))
 
 part_slot : (d : Record) (part : ShownPart) → Contains (shown_parts d) part → part.slot ≡ d.slot
-part_slot d part has = elim (append_cases (map (shown_bar d.slot) d.bars) (shown_rom d.slot d.rom) part has) [
-  | inl bar ↦ (let made = in_map_to (shown_bar d.slot) d.bars part bar in ap (λ (p : ShownPart). p.slot) (sym made.is))
+part_slot d part has = elim (append_cases (map (shown_bar_part d.slot) d.bars) (shown_rom d.slot d.rom) part has) [
+  | inl bar ↦ (let made = in_map_to (shown_bar_part d.slot) d.bars part bar in ap (λ (p : ShownPart). p.slot) (sym made.is))
   | inr rom ↦ rom_slot d.slot d.rom part rom
 ]
 
@@ -190,7 +190,7 @@ pub line_source : (ranges : List ToldRange) (left : List Slot) (t : System) (w :
 line_source ranges left t w dump r has =
     let own = own_lines ranges (device_lines left t) in
     let claims = map claim_line (claims_by w dump) in
-    let made = in_map_to (λ (l : Line). l.range) (merged line_key own claims) r has in
+    let made = in_map_to (λ (l : Line). l.range) (merged_by_key line_key own claims) r has in
     elim (merged_cases line_key own claims made.from made.has) [
       | inl line ↦ elim (merged_cases line_key (told_lines 1 ranges) (device_lines left t) made.from line) [
         | inl user ↦ inl (subst (IsUsers ranges) made.is (users_line 1 ranges made.from user))

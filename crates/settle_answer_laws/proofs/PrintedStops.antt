@@ -1,5 +1,5 @@
 -- The printed writes fit the functions of a dump, so a machine shows after them just the bytes that they put in.
-use Rattle.std.proofs.Common.{◌≡◌, ◌⊎◌, ℕ, zero, suc, ◌+◌, ◌-◌, ◌*◌, ◌/◌, ◌%◌, ◌^◌, ◌<◌, ◌≤◌, List, [], ◌∷◌, true, false, ◌&&◌, inl, inr, refl, sym, ◌∙◌, ap, subst, arith, map, set}
+use Rattle.std.proofs.Common.{◌≡◌, ◌⊎◌, ℕ, ◌+◌, ◌-◌, ◌*◌, ◌/◌, ◌%◌, ◌^◌, ◌<◌, ◌≤◌, List, [], ◌∷◌, true, false, ◌&&◌, inl, inr, refl, sym, ◌∙◌, ap, subst, arith, map, set}
 use Rattle.std.specs.Bool.{nat_lt, ◌==◌, if◌then◌else◌}
 use Rattle.std.specs.Int.{bit_at}
 use Rattle.std.specs.List.{AllZip, Contains, fold, All}
@@ -24,7 +24,6 @@ use Rattle.plan_spec.proofs.Planning.Kept.{images_of}
 use Rattle.plan_spec.proofs.Planning.Registers.{datum_bit_at}
 use Rattle.plan_spec.proofs.Planning.Settled.{function_after, system_by_function}
 use Rattle.plan_spec.proofs.Planning.Writes.{byte_outside, write_elsewhere, write_here}
-use Rattle.settle_spec.specs.Registers as settling
 use Rattle.settle_laws.proofs.Numbers.{with_elsewhere, with_image, with_inside}
 use Rattle.judge_spec.specs.ModelWords.{Words}
 use Rattle.judge_spec.specs.Windows.{with_number}
@@ -37,10 +36,6 @@ use Rattle.settle_answer_laws.proofs.ListedWrites.{IsCommandOf, high_bit, put_en
 use Rattle.settle_answer_laws.proofs.WordsAfter.{IsListing, IsPair, alone_aside, alone_kept, at_start, fits_b, start}
 
 -- ---- bytes that are put in
-
-same_numbers : (width offset value : ℕ) (image : List ℕ) → with_number width offset value image ≡ settling.with_number width offset value image
-same_numbers zero offset value image = refl
-same_numbers (suc width) offset value image = same_numbers width (offset + 1) (value / 256) (set image offset (value % 256))
 
 -- a function after the bytes of a write are put in
 abbrev pub put_function : Write → Function → Function
@@ -62,7 +57,7 @@ plain_bit f place i below small fixed = (
 -- A write that fits sets what it puts in.
 module _ (g : Function) (is : IsImage g.image) (u : Write) (here : same_slot g.slot u.slot ≡ true) (fits : IsFitting u g) where
   abbrev number : List ℕ
-  number = settling.with_number u.width u.offset u.value g.image
+  number = with_number u.width u.offset u.value g.image
 
   abbrev machine : List ℕ
   machine = written (target_of g) u.offset u.width u.value
@@ -100,7 +95,7 @@ module _ (g : Function) (is : IsImage g.image) (u : Write) (here : same_slot g.s
       outside apart = with_elsewhere u.width u.offset u.value place g.image apart ∙ sym (byte_outside (target_of g) u.offset u.width u.value place below apart)
 
   image_same : with_number u.width u.offset u.value g.image ≡ machine
-  image_same = same_numbers u.width u.offset u.value g.image ∙ ext_get_or 0 number machine (number_is.full ∙ sym machine_is.full) (λ place less. byte_same place (let full = number_is.full in omega (arith, full, less)))
+  image_same = ext_get_or 0 number machine (number_is.full ∙ sym machine_is.full) (λ place less. byte_same place (let full = number_is.full in omega (arith, full, less)))
 
   put_is_written : put_function u g ≡ write_function u g
   put_is_written =

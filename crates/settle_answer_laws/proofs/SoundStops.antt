@@ -24,8 +24,8 @@ use Rattle.judge_spec.specs.ModelWords.{Words}
 use Rattle.judge_spec.specs.Taken.{AreFunctionsTakenAs, unclaimed_aside_by}
 use Rattle.pci_model_settle.specs.OffDevices.{function_without, functions_without}
 use Rattle.pci_model_settle.specs.Unmoved.{is_among}
-use Rattle.settle_answer_laws.specs.LeftOutLaws.{AreLawful, AreOff, HasLawfulRegisters}
-use Rattle.settle_answer_laws.specs.StopLaws.{AreToldTo}
+use Rattle.settle_answer_laws.specs.LeftOutLaws.{AreLawful, AreOffDevices, HasLawfulRegisters}
+use Rattle.settle_answer_laws.specs.StopLaws.{AreToldInRequest}
 use Rattle.settle_answer_laws.specs.WordStops.{IsSettledAsTaken, IsTakenSoundly, WordsCanStop, printed_after}
 use Rattle.settle_answer_laws.proofs.GivenSparing.{given_sparing_stops}
 use Rattle.settle_answer_laws.proofs.LeavingOut.{elsewhere, has_among, sound_with, sound_without, there, without}
@@ -91,13 +91,13 @@ module _ (left : List Slot) (t : System) (writes : List Write) (alone : (f : Fun
       subst (λ s. Contains s g) (sym (system_by_function t writes))
       (subst (λ x. Contains (map move t) x) (stays g (has_among left g.slot at)) (in_map_from move t g has))
 
-  off_after : AreOff left t → AreOff left (system_after t writes)
+  off_after : AreOffDevices left t → AreOffDevices left (system_after t writes)
   off_after off g has at = off g (was_there g has at) at
 
 -- ---- the stops
 
 module _ (q : Request) (w : Words) (slots : List Slot) (dump probe : List Block) (t : System) (writes : List Write) (settled : IsSettledAsTaken q w slots dump probe t writes)
-    (off : AreOff settled.left t) where
+    (off : AreOffDevices settled.left t) where
   abbrev left : List Slot
   left = settled.left
 
@@ -119,7 +119,7 @@ module _ (q : Request) (w : Words) (slots : List Slot) (dump probe : List Block)
   end_taken : AreFunctionsTakenAs w slots (printed_after dump probe writes) (system_after t writes)
   end_taken = subst (λ ws. AreFunctionsTakenAs w slots (printed_after dump probe ws) (system_after t ws)) all_writes (words_take_stops q w slots dump probe t writes (length writes) settled)
 
-  module _ (told : Told) (given : Given) (among : AreToldTo q told) (end : IsTakenSoundly w slots told given q.roots (printed_after dump probe writes)) where
+  module _ (told : Told) (given : Given) (among : AreToldInRequest q told) (end : IsTakenSoundly w slots told given q.roots (printed_after dump probe writes)) where
     end_sound : IsSound told given q.roots (system_after t writes)
     end_sound = subst (IsSound told given q.roots) (same_taken (printed_after dump probe writes) end.t (system_after t writes) end.taken end_taken) end.sound
 

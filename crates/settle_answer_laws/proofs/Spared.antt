@@ -18,9 +18,9 @@ use Rattle.settle_laws.proofs.Told.Settling.{settled_can_settle, wishes_can}
 use Rattle.pci_tree.specs.Admission.{Admission}
 use Rattle.pci_place.specs.Above.{system_in}
 use Rattle.pci_settle.specs.Denied.{IsSpared}
-use Rattle.settle_answer_laws.specs.SparedLaws.{CanBeAsked, SparedCanSettle, IsSettledSo, SparedIsSettled}
+use Rattle.settle_answer_laws.specs.SparedLaws.{LawfulCanBeAsked, SparedCanSettle, IsSettledWithClosings, SparedIsSettled}
 
-pub can_be_asked : CanBeAsked
+pub can_be_asked : LawfulCanBeAsked
 can_be_asked q a is = record {
   admitted = record {
     high = is.high;
@@ -53,7 +53,7 @@ module _ (q : Request) (a : Admission) (dump : List Block) (writes : List Write)
       ]
 
   -- new windows are placed as it is said, and settling comes to these writes
-  placed_so : x.placing ≡ placing_request q s → IsSettledSo q a writes count
+  placed_so : x.placing ≡ placing_request q s → IsSettledWithClosings q a writes count
   placed_so placed = record {
     ended = ap (λ b. cond b (settle_wished q s) (settle_growing (without_slots q) s)) x.without
         ∙ subst (λ p. settle_keeping p s (kept p) ≡ Settled writes) placed x.ends;

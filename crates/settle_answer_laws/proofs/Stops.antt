@@ -22,17 +22,17 @@ use Rattle.pci_place.specs.Above.{system_in}
 use Rattle.pci_settle.specs.AsTold.{HasLines}
 use Rattle.pci_tree.specs.Admission.{Admission}
 use Rattle.settle_answer_laws.proofs.Spared.{can_be_asked, spared_is_settled}
-use Rattle.settle_answer_laws.specs.SparedLaws.{IsSettledSo}
+use Rattle.settle_answer_laws.specs.SparedLaws.{IsSettledWithClosings}
 use Rattle.settle_answer_laws.proofs.LeftOutBlocks.{blocks_without_are, left_out_are_off}
 use Rattle.settle_answer_laws.proofs.SoundStops.{words_can_stop}
-use Rattle.settle_answer_laws.specs.LeftOutLaws.{AreOff}
-use Rattle.settle_answer_laws.specs.StopLaws.{AreToldTo}
+use Rattle.settle_answer_laws.specs.LeftOutLaws.{AreOffDevices}
+use Rattle.settle_answer_laws.specs.StopLaws.{AreToldInRequest}
 use Rattle.settle_answer_laws.specs.WordStops.{IsSettledAsTaken, IsTakenSoundly, printed_after}
 use Rattle.pciplan_tasks.specs.Also.{ranges_told}
 use Rattle.pciplan_tasks.specs.Answers.{Answer}
-use Rattle.pciplan_tasks.specs.TakenAnswers.{AreTakenBy}
+use Rattle.pciplan_tasks.specs.TakenAnswers.{AreTakenByWords}
 use Rattle.pciplan_tasks.specs.FaultsAnswers.{given_of}
-use Rattle.pciplan_tasks.specs.WordsSettling.{all_is_sent, can_tell, claims_by, kept_by, left_that_fit}
+use Rattle.pciplan_tasks.specs.WordsSettling.{all_is_sent, can_tell, claims_by, kept_with_devices_at, left_that_fit}
 use Rattle.pciplan_tasks.specs.declared.task.Printed.{Printed}
 use Rattle.pciplan_tasks.specs.declared.task.SettleRequest.{SettleRequest}
 use Rattle.settle_answer_laws.specs.AnswerLaws.{AnswersCanStop, AreAskedLawfully, AreSettledByWords, GivenStays, admission_of, asked_of, given_then, left_from, texts, told_then}
@@ -46,7 +46,7 @@ use Rattle.settle_answer_laws.proofs.ToldAmong.{in_behind, told_among}
 module _ (unmoved : List Slot) (t : System) where
   record AreLeft (left : List Slot) : Type 0 where
     among : (slot : Slot) → Contains left slot → Contains unmoved slot
-    off : AreOff left t
+    off : AreOffDevices left t
 
   where_they_fit : (fit : Bool) (left : List Slot) → AreLeft left → AreLeft (left_that_fit fit left)
   where_they_fit true left are = are
@@ -73,7 +73,7 @@ module _ (w : Words) (r : SettleRequest) (printed : Printed) (dump probe : List 
   are_left : AreLeft x.texts_are.unmoved t left
   are_left =
       let both = left_out_are_off x.texts_are.unmoved dump x.texts_are.taken x.texts_are.taken_probe (sym x.texts_are.are.slots) x.texts_are.admitted.system in
-      where_they_fit x.texts_are.unmoved t (can_tell (kept_by w r (left_out x.texts_are.unmoved dump x.texts_are.taken x.texts_are.taken_probe) (texts w r printed dump probe x.texts_are)))
+      where_they_fit x.texts_are.unmoved t (can_tell (kept_with_devices_at w r (left_out x.texts_are.unmoved dump x.texts_are.taken x.texts_are.taken_probe) (texts w r printed dump probe x.texts_are)))
       (left_out x.texts_are.unmoved dump x.texts_are.taken x.texts_are.taken_probe) record { among = both.0; off = both.1 }
 
   without : system_in a ≡ functions_without left t
@@ -89,7 +89,7 @@ module _ (w : Words) (r : SettleRequest) (printed : Printed) (dump probe : List 
   can : CanAskTold q (system_in a)
   can = can_be_asked q a record { admitted = x.admitted; roots_are = refl; high = lawful.high; lawful = x.told; awake = refl; lines = lines }
 
-  so : IsSettledSo q a writes x.settled.is.closings
+  so : IsSettledWithClosings q a writes x.settled.is.closings
   so = elim (spared_is_settled q a x.settled.after writes x.settled.is.closings x.settled.denied x.settled.is.is) [
     | inl large ↦ absurd (lawful.small large)
     | inr is ↦ is
@@ -119,7 +119,7 @@ module _ (w : Words) (r : SettleRequest) (printed : Printed) (dump probe : List 
   abbrev given : Given
   given = given_then w r printed dump probe answer x
 
-  among : AreToldTo q told
+  among : AreToldInRequest q told
   among range has =
       told_among (ranges_told r.also) (device_lines left t) (claims_by w dump) range
       (subst (λ ranges. Contains ranges range) x.settled.ended.judged.beside_them.ranges has)
@@ -130,7 +130,7 @@ module _ (w : Words) (r : SettleRequest) (printed : Printed) (dump probe : List 
   end_soundly : IsTakenSoundly (words_value w) (slots_of dump) told given q.roots (printed_after dump probe writes)
   end_soundly =
       let judged = x.settled.ended.judged in
-      let are : AreTakenAs (words_value w) after probe judged.taken judged.taken_probe = subst (λ ws. AreTakenBy ws after probe judged.taken judged.taken_probe) lawful.words judged.are in
+      let are : AreTakenAs (words_value w) after probe judged.taken judged.taken_probe = subst (λ ws. AreTakenByWords ws after probe judged.taken judged.taken_probe) lawful.words judged.are in
       record {
         t = system_of judged.taken judged.taken_probe;
         taken = subst (λ slots. AreFunctionsTakenAs (words_value w) slots (system_of after probe) (system_of judged.taken judged.taken_probe)) after_slots (are.each (after_slots ∙ lawful.slots));

@@ -4,7 +4,7 @@ use Rattle.std.specs.Prelude.{nat_le, if◌then◌else◌}
 use Rattle.std.specs.List.{Contains}
 use Rattle.pci_spec.proofs.Members.{in_nil, in_cons_cases, in_head, in_map_from, in_tail}
 use Rattle.judge_spec.specs.Told.{ToldRange}
-use Rattle.pci_model_settle.specs.ClaimLines.{Line, claim_line, line_key, lines_with, merged, own_lines, told_line_of, told_lines}
+use Rattle.pci_model_settle.specs.ClaimLines.{Line, claim_line, line_key, lines_with, merged_by_key, own_lines, told_line_of, told_lines}
 use Rattle.settle_answer_laws.specs.StopLaws.{HasRange}
 
 -- what is behind others is listed
@@ -17,14 +17,14 @@ in_either : {X : Type 0} (t : Bool) (x y z : X) (xs ys : List X) → (t ≡ true
 in_either true x y z xs ys first second = first refl
 in_either false x y z xs ys first second = in_tail y ys z (second refl)
 
-in_merged : {X : Type 0} (key : X → ℕ) (xs ys : List X) (z : X) → Contains xs z → Contains (merged key xs ys) z
+in_merged : {X : Type 0} (key : X → ℕ) (xs ys : List X) (z : X) → Contains xs z → Contains (merged_by_key key xs ys) z
 in_merged key [] ys z has = absurd (in_nil z has)
 in_merged key (x ∷ xs) [] z has = has
 in_merged key (x ∷ xs) (y ∷ ys) z has =
-    in_either (nat_le (key x) (key y)) x y z (merged key xs (y ∷ ys)) (merged key (x ∷ xs) ys)
+    in_either (nat_le (key x) (key y)) x y z (merged_by_key key xs (y ∷ ys)) (merged_by_key key (x ∷ xs) ys)
     (λ e. elim (in_cons_cases x xs z has) [
-      | inl is ↦ subst (Contains (x ∷ merged key xs (y ∷ ys))) is (in_head x (merged key xs (y ∷ ys)))
-      | inr more ↦ in_tail x (merged key xs (y ∷ ys)) z (in_merged key xs (y ∷ ys) z more)
+      | inl is ↦ subst (Contains (x ∷ merged_by_key key xs (y ∷ ys))) is (in_head x (merged_by_key key xs (y ∷ ys)))
+      | inr more ↦ in_tail x (merged_by_key key xs (y ∷ ys)) z (in_merged key xs (y ∷ ys) z more)
     ])
     (λ e. in_merged key (x ∷ xs) ys z has)
 
@@ -45,4 +45,4 @@ told_among ranges devices claims r has =
     let line = line_of 1 ranges r has in
     let own = in_merged line_key (told_lines 1 ranges) devices (told_line_of line.number r) line.has in
     let joined = in_merged line_key (own_lines ranges devices) (map claim_line claims) (told_line_of line.number r) own in
-    record { name = []; has = in_map_from (λ (l : Line). l.range) (merged line_key (own_lines ranges devices) (map claim_line claims)) (told_line_of line.number r) joined }
+    record { name = []; has = in_map_from (λ (l : Line). l.range) (merged_by_key line_key (own_lines ranges devices) (map claim_line claims)) (told_line_of line.number r) joined }

@@ -31,7 +31,7 @@ use Rattle.pci_spec.specs.Window.{WindowKind, IoWindow, MemoryWindow, PrefetchWi
 use Rattle.plan_spec.proofs.Planning.SameBytes.{bounds_same}
 use Rattle.std.proofs.lemmas.List.{get_or-set_other}
 use Rattle.pci_model_settle.specs.Unmoved.{has_stuck_window, is_among, is_below, is_bridge_unmoved, is_unmoved, unmoved_among}
-use Rattle.pci_model_settle.specs.Listed.{command_at, listed_write}
+use Rattle.pci_model_settle.specs.Listed.{listed_command, listed_write}
 use Rattle.pci_model_settle.specs.OffDevices.{function_without, functions_without}
 use Rattle.settle_answer_laws.specs.WordStops.{IsSettledAsTaken, MachinesShowStops, WordsTakeStops, printed_after}
 use Rattle.settle_answer_laws.proofs.GivenSparing.{sparing_device_write, sparing_fits, sparing_write}
@@ -49,15 +49,15 @@ slot_itself : (slot : Slot) → same_slot slot slot ≡ true
 slot_itself slot = λ i. eq-eqb slot.bus slot.bus refl i && eq-eqb slot.device slot.device refl i && eq-eqb slot.function slot.function refl i
 
 module _ (s : System) (system : IsSystem s) where
-  command_of : (dump probe : List Block) → ((g : Function) → Contains (system_of dump probe) g → Contains s g) → (f : Function) → Contains (system_of dump probe) f → command_at dump f.slot ≡ command f.image
+  command_of : (dump probe : List Block) → ((g : Function) → Contains (system_of dump probe) g → Contains s g) → (f : Function) → Contains (system_of dump probe) f → listed_command dump f.slot ≡ command f.image
   command_of [] probe among f has = absurd (in_nil f has)
   command_of (b ∷ dump) [] among f has = absurd (in_nil f has)
   command_of (b ∷ dump) (p ∷ probe) among f has = elim (cases_Bool (same_slot b.slot f.slot)) [
     | inl here ↦
         let same : function_of b p ≡ f = one_function s system (function_of b p) f (among (function_of b p) (in_head (function_of b p) (system_of dump probe))) (among f has) (same_number b.slot f.slot here) in
-        ap (λ t. if t then command b.image else command_at dump f.slot) here ∙ ap (λ (g : Function). command g.image) same
+        ap (λ t. if t then command b.image else listed_command dump f.slot) here ∙ ap (λ (g : Function). command g.image) same
     | inr other ↦
-        ap (λ t. if t then command b.image else command_at dump f.slot) other ∙ elim (in_cons_cases (function_of b p) (system_of dump probe) f has) [
+        ap (λ t. if t then command b.image else listed_command dump f.slot) other ∙ elim (in_cons_cases (function_of b p) (system_of dump probe) f has) [
           | inl is ↦ absurd (both_ways (same_slot b.slot f.slot) other (ap (same_slot b.slot) (sym (ap (λ (g : Function). g.slot) is)) ∙ slot_itself b.slot))
           | inr more ↦ command_of dump probe (λ g in_g. among g (in_tail (function_of b p) (system_of dump probe) g in_g)) f more
         ]
@@ -66,8 +66,8 @@ module _ (s : System) (system : IsSystem s) where
 -- the writes are listed so
 listing : (dump probe : List Block) → IsSystem (system_of dump probe) → IsListing (listed_write dump) (system_of dump probe)
 listing dump probe system = record {
-  slot = λ u. slot_is u (command_at dump u.slot);
-  own = λ f has u here. λ i. put_write ((ap (command_at dump) (sym (same_fields f.slot u.slot here)) ∙ command_of (system_of dump probe) system dump probe (λ g in_g. in_g) f has) i) u;
+  slot = λ u. slot_is u (listed_command dump u.slot);
+  own = λ f has u here. λ i. put_write ((ap (listed_command dump) (sym (same_fields f.slot u.slot here)) ∙ command_of (system_of dump probe) system dump probe (λ g in_g. in_g) f has) i) u;
 }
 
 -- ---- those that stay

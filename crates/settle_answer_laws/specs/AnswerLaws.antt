@@ -12,7 +12,7 @@ use Rattle.judge_spec.specs.TakenDumps.{AreTakenAs}
 use Rattle.settle_spec.specs.Lists.{RootRange}
 use Rattle.pci_model.specs.declared.words.Words.{Words}
 use Rattle.pci_model.specs.WordsValue.{words_value}
-use Rattle.pci_model_settle.specs.ClaimLines.{Kept}
+use Rattle.pci_model_settle.specs.ClaimLines.{LinesWithOrigins}
 use Rattle.pci_model_settle.specs.Listed.{blocks_after, listed_write}
 use Rattle.pci_model_settle.specs.OffDevices.{left_out}
 use Rattle.pci_model_settle.specs.Unmoved.{AreUnmoved}
@@ -22,7 +22,7 @@ use Rattle.pci_tree.specs.Roots.{buses_of}
 use Rattle.pciplan_tasks.specs.Answers.{Answer}
 use Rattle.pciplan_tasks.specs.FaultsAnswers.{given_of}
 use Rattle.pciplan_tasks.specs.SettleAnswers.{IsReadyAsTold, SettleAsked, demand_said, lists_said, settle_admission}
-use Rattle.pciplan_tasks.specs.WordsSettling.{IsSettledTaken, IsSettlingByWords, TakenTexts, all_is_sent, asked_with, can_tell, kept_by, left_that_fit, texts_without}
+use Rattle.pciplan_tasks.specs.WordsSettling.{IsSettledTaken, IsSettlingByWords, TakenTexts, all_is_sent, asked_with, can_tell, kept_with_devices_at, left_that_fit, texts_without}
 use Rattle.pciplan_tasks.specs.declared.task.Printed.{Printed}
 use Rattle.pciplan_tasks.specs.declared.task.SettleRequest.{SettleRequest}
 use Rattle.settle_answer_laws.specs.WordStops.{IsTakenSoundly, printed_after}
@@ -43,12 +43,12 @@ module _ (w : Words) (r : SettleRequest) (printed : Printed) (dump probe : List 
   -- those that are left out, where all ranges fit
   abbrev pub left_from : List Slot
   left_from =
-      left_that_fit (can_tell (kept_by w r (left_out x.unmoved dump x.taken x.taken_probe) texts))
+      left_that_fit (can_tell (kept_with_devices_at w r (left_out x.unmoved dump x.taken x.taken_probe) texts))
       (left_out x.unmoved dump x.taken x.taken_probe)
 
   -- the ranges that nothing is placed on
-  abbrev pub kept_in : Kept
-  kept_in = kept_by w r left_from texts
+  abbrev pub kept_in : LinesWithOrigins
+  kept_in = kept_with_devices_at w r left_from texts
 
   -- what is asked of settling them
   abbrev pub asked_of : SettleAsked

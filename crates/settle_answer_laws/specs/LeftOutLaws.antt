@@ -13,8 +13,8 @@ use Rattle.judge_spec.specs.ToldSound.{IsSound}
 use Rattle.pci_model_settle.specs.OffDevices.{blocks_without, functions_without, is_off_device, left_out}
 
 -- each function of a system at one of some slots is a device that decodes nothing
-abbrev pub AreOff : List Slot → System → Type 0
-AreOff left s = (f : Function) → Contains s f → Contains left f.slot → IsTrue (is_off_device f.image)
+abbrev pub AreOffDevices : List Slot → System → Type 0
+AreOffDevices left s = (f : Function) → Contains s f → Contains left f.slot → IsTrue (is_off_device f.image)
 
 -- its BARs and its ROM break no rule (PCI 3.0, 6.2.5.1 and 6.2.5.2)
 pub record HasLawfulRegisters (f : Function) : Type 0 where
@@ -27,13 +27,13 @@ AreLawful left s = (f : Function) → Contains s f → Contains left f.slot → 
 -- What is sound with them is sound without them,
 abbrev pub SoundWithout : Type 0
 SoundWithout =
-    (told : Told) (given : Given) (roots : List ℕ) (left : List Slot) (s : System) → AreOff left s
+    (told : Told) (given : Given) (roots : List ℕ) (left : List Slot) (s : System) → AreOffDevices left s
     → IsSound told given roots s → IsSound told given roots (functions_without left s)
 
 -- and the other way round where their registers are lawful.
 abbrev pub SoundWith : Type 0
 SoundWith =
-    (told : Told) (given : Given) (roots : List ℕ) (left : List Slot) (s : System) → AreOff left s → AreLawful left s
+    (told : Told) (given : Given) (roots : List ℕ) (left : List Slot) (s : System) → AreOffDevices left s → AreLawful left s
     → IsSound told given roots (functions_without left s) → IsSound told given roots s
 
 -- ---- those that are left out of a dump, of what it is taken as, and of the probe of that
@@ -43,7 +43,7 @@ abbrev pub LeftOutAreOff : Type 0
 LeftOutAreOff =
     (unmoved : List Slot) (dump taken probe : List Block) → slots_of dump ≡ slots_of taken → IsSystem (system_of taken probe)
     → ((slot : Slot) → Contains (left_out unmoved dump taken probe) slot → Contains unmoved slot)
-    × AreOff (left_out unmoved dump taken probe) (system_of taken probe)
+    × AreOffDevices (left_out unmoved dump taken probe) (system_of taken probe)
 
 -- The functions of a dump and its probe without address registers are those of the blocks without them.
 abbrev pub BlocksWithout : Type 0

@@ -27,8 +27,8 @@ pub record IsAskedLawfully (q : Request) (a : Admission) : Type 0 where
   pub lines : HasLines q (system_in a)
 
 -- It can be asked for.
-abbrev pub CanBeAsked : Type 0
-CanBeAsked = (q : Request) (a : Admission) → IsAskedLawfully q a → CanAskTold q (system_in a)
+abbrev pub LawfulCanBeAsked : Type 0
+LawfulCanBeAsked = (q : Request) (a : Admission) → IsAskedLawfully q a → CanAskTold q (system_in a)
 
 -- What is settled can be settled so, by just these writes.
 abbrev pub SparedCanSettle : Type 0
@@ -39,7 +39,7 @@ SparedCanSettle =
     × (settle_writes x.placing (system_in a) (granted_beside q x.placing (system_in a)).kept ≡ writes)
 
 -- settling comes to these writes, and so many of them close
-pub record IsSettledSo (q : Request) (a : Admission) (writes : List Write) (count : ℕ) : Type 0 where
+pub record IsSettledWithClosings (q : Request) (a : Admission) (writes : List Write) (count : ℕ) : Type 0 where
   pub ended : settle_sparing q (system_in a) ≡ Settled writes
   pub closing : count ≡ length (sparing_closings q (system_in a))
 
@@ -47,4 +47,4 @@ pub record IsSettledSo (q : Request) (a : Admission) (writes : List Write) (coun
 abbrev pub SparedIsSettled : Type 0
 SparedIsSettled =
     (q : Request) (a : Admission) (dump : List Block) (writes : List Write) (count : ℕ) (denied : List (Slot × ℕ))
-    → IsSpared q a dump writes count denied → HasLarge a q ⊎ IsSettledSo q a writes count
+    → IsSpared q a dump writes count denied → HasLarge a q ⊎ IsSettledWithClosings q a writes count

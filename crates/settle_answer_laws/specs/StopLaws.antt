@@ -23,23 +23,23 @@ pub record HasRange (ranges : List ToldRange) (r : ToldRange) : Type 0 where
   pub has : Contains ranges (record r { name = name })
 
 -- Settling was told of each of these ranges. They may stand in other lines and with other names, and any functions may be asleep.
-abbrev pub AreToldTo : Request → Told → Type 0
-AreToldTo q told = (r : ToldRange) → Contains told.ranges r → HasRange q.told.ranges r
+abbrev pub AreToldInRequest : Request → Told → Type 0
+AreToldInRequest q told = (r : ToldRange) → Contains told.ranges r → HasRange q.told.ranges r
 
 -- Whatever is given: where the settled system is sound with it, the writes can stop anywhere once the closing ones are made,
 -- and from a start that is sound with it anywhere at all.
-abbrev pub SettlingCanStop : Type 0
-SettlingCanStop =
+abbrev pub GivenSettlingCanStop : Type 0
+GivenSettlingCanStop =
     (q : Request) (s : System) (k : Kept) (told : Told) (given : Given) (n : ℕ) → CanSettleTold q s k
-    → AreToldTo q told → IsSound told given q.roots (settled q s k)
+    → AreToldInRequest q told → IsSound told given q.roots (settled q s k)
     → (length (closings q s k s) ≤ n) ⊎ IsSound told given q.roots s
     → IsSound told given q.roots (system_after s (take n (settle_writes q s k)))
 
 -- So it is with room behind slots.
-abbrev pub SettlingSparingCanStop : Type 0
-SettlingSparingCanStop =
+abbrev pub GivenSparingCanStop : Type 0
+GivenSparingCanStop =
     (q : Request) (s : System) (writes : List Write) (told : Told) (given : Given) (n : ℕ) → CanAskTold q s
-    → settle_sparing q s ≡ Settled writes → AreToldTo q told
+    → settle_sparing q s ≡ Settled writes → AreToldInRequest q told
     → IsSound told given q.roots (system_after s writes)
     → (length (sparing_closings q s) ≤ n) ⊎ IsSound told given q.roots s
     → IsSound told given q.roots (system_after s (take n writes))

@@ -19,8 +19,8 @@ use Rattle.judge_spec.specs.Taken.{AreFunctionsTakenAs}
 use Rattle.pci_model_settle.specs.Listed.{blocks_after, listed_write}
 use Rattle.pci_model_settle.specs.Unmoved.{AreUnmoved}
 use Rattle.pci_model_settle.specs.OffDevices.{functions_without}
-use Rattle.settle_answer_laws.specs.LeftOutLaws.{AreOff}
-use Rattle.settle_answer_laws.specs.StopLaws.{AreToldTo}
+use Rattle.settle_answer_laws.specs.LeftOutLaws.{AreOffDevices}
+use Rattle.settle_answer_laws.specs.StopLaws.{AreToldInRequest}
 
 -- Words take a dump and its probe as a system t. Those that stay as they are by the words are fixed. Some of these are left
 -- out: their address registers show and read back 0 in what is settled by these writes, with room behind slots.
@@ -65,7 +65,7 @@ pub record IsTakenSoundly (w : Words) (slots : List Slot) (told : Told) (given :
 abbrev pub WordsCanStop : Type 0
 WordsCanStop =
     (q : Request) (w : Words) (slots : List Slot) (dump probe : List Block) (t : System) (writes : List Write) (told : Told) (given : Given) (n : ℕ)
-    (settled : IsSettledAsTaken q w slots dump probe t writes) → AreOff settled.left t → AreToldTo q told
+    (settled : IsSettledAsTaken q w slots dump probe t writes) → AreOffDevices settled.left t → AreToldInRequest q told
     → IsTakenSoundly w slots told given q.roots (printed_after dump probe writes)
     → (length (sparing_closings q (functions_without settled.left t)) ≤ n) ⊎ IsTakenSoundly w slots told given q.roots (system_of dump probe)
     → IsTakenSoundly w slots told given q.roots (printed_after dump probe (take n writes))

@@ -12,11 +12,11 @@ use Rattle.settle_spec.specs.Lists.{Request, wanted_in}
 use Rattle.settle_spec.specs.Spares.{spare_extent, with_spare}
 use Rattle.settle_spec.specs.Parts.{FunctionPart, function_parts}
 use Rattle.settle_spec.specs.Stands.{rank, window_part}
-use Rattle.settle_spec.specs.Items.{Item, item_precedes, put_in, in_turn, own_extent, own_item, is_own, has_of, items_of, bus_items, extent_around, highest_in, spare_of, window_within, nothing}
+use Rattle.settle_spec.specs.Items.{PlacingItem, item_precedes, put_in, in_turn, own_extent, own_item, is_own, has_of, items_of, bus_items, extent_around, highest_in, spare_of, window_within, nothing}
 use Rattle.settle_laws.proofs.Zipped.{cond_zip, append_zip, map_zip, map_same, flat_zip}
 use Rattle.settle_laws.proofs.Alike.{IsAlike, IsAlikeRegion, bus_alike, bridge_alike, of_bridges, size_alike, highest_alike, rank_alike, has_of_alike, own_parts_alike}
 
-pub record IsAlikeItem (i j : Item) : Type 0 where
+pub record IsAlikeItem (i j : PlacingItem) : Type 0 where
   pub region : IsAlikeRegion i.region j.region
   pub class : i.class ≡ j.class
   pub extent : i.extent ≡ j.extent
@@ -33,7 +33,7 @@ extent_same r t is =
 
 -- ---- in turn
 
-before_same : (i j x y : Item) → IsAlikeItem i x → IsAlikeItem j y → item_precedes i j ≡ item_precedes x y
+before_same : (i j x y : PlacingItem) → IsAlikeItem i x → IsAlikeItem j y → item_precedes i j ≡ item_precedes x y
 before_same i j x y first second =
     let e = first.extent in
     let d = second.extent in
@@ -43,14 +43,14 @@ before_same i j x y first second =
     && (nat_lt (d n).size (e n).size || ((e n).size == (d n).size
     && nat_lt (r n) (t n))))
 
-put_in_zip : (i j : Item) → IsAlikeItem i j → (xs ys : List Item) → AllZip IsAlikeItem xs ys → AllZip IsAlikeItem (put_in i xs) (put_in j ys)
+put_in_zip : (i j : PlacingItem) → IsAlikeItem i j → (xs ys : List PlacingItem) → AllZip IsAlikeItem xs ys → AllZip IsAlikeItem (put_in i xs) (put_in j ys)
 put_in_zip i j is [] [] pairs = (is, tt)
 put_in_zip i j is [] (y ∷ ys) pairs = absurd pairs
 put_in_zip i j is (x ∷ xs) [] pairs = absurd pairs
 put_in_zip i j is (x ∷ xs) (y ∷ ys) (first, rest) =
     cond_zip IsAlikeItem (item_precedes i x) (item_precedes j y) (before_same i x j y is first) (i ∷ (x ∷ xs)) (x ∷ put_in i xs) (j ∷ (y ∷ ys)) (y ∷ put_in j ys) (λ before. (is, (first, rest))) (first, put_in_zip i j is xs ys rest)
 
-in_turn_zip : (xs ys : List Item) → AllZip IsAlikeItem xs ys → AllZip IsAlikeItem (in_turn xs) (in_turn ys)
+in_turn_zip : (xs ys : List PlacingItem) → AllZip IsAlikeItem xs ys → AllZip IsAlikeItem (in_turn xs) (in_turn ys)
 in_turn_zip [] [] pairs = tt
 in_turn_zip [] (y ∷ ys) pairs = absurd pairs
 in_turn_zip (x ∷ xs) [] pairs = absurd pairs
@@ -76,8 +76,8 @@ module _ (q : Request) (anew : IsTrue q.anew) (s t : System) (pairs : AllZip IsA
     of_function f g is =
         let xs = filter (λ r. is_own q s c r && not (keeps r)) (function_parts q s f) in
         let ys = filter (λ r. is_own q t c r && not (others r)) (function_parts q t g) in
-        let x : Item = record { region = window_part c f; class = c; extent = extent f } in
-        let y : Item = record { region = window_part c g; class = c; extent = outer g } in
+        let x : PlacingItem = record { region = window_part c f; class = c; extent = extent f } in
+        let y : PlacingItem = record { region = window_part c g; class = c; extent = outer g } in
         append_zip IsAlikeItem (map (own_item c) xs) (cond (opens f) (x ∷ []) []) (map (own_item c) ys) (cond (others_open g) (y ∷ []) [])
         (map_zip IsAlikeRegion IsAlikeItem (own_item c) (own_item c) (λ r u alike. record { region = alike; class = refl; extent = extent_same r u alike }) xs ys
         (own_parts_alike q anew s t pairs f g is c keeps others (λ p. keep_same record { function = f; part = p } record { function = g; part = p } record { function = is; part = refl })))
@@ -114,8 +114,8 @@ module _ (q : Request) (anew : IsTrue q.anew) (s t : System) (pairs : AllZip IsA
   unfolding window_within
   windows_alike zero f g is bridge = around_same f g is [] [] refl
   windows_alike (suc depth) f g is bridge =
-      let extents = λ (u : System) (bus : ℕ). map (λ (i : Item). i.extent) (bus_items q u c nothing (window_within q u c depth) bus) in
+      let extents = λ (u : System) (bus : ℕ). map (λ (i : PlacingItem). i.extent) (bus_items q u c nothing (window_within q u c depth) bus) in
       around_same f g is (extents s (secondary f)) (extents t (secondary g))
-      (map_same IsAlikeItem (λ (i : Item). i.extent) (λ (i : Item). i.extent) (λ i j alike. alike.extent) (bus_items q s c nothing (window_within q s c depth) (secondary f)) (bus_items q t c nothing (window_within q t c depth) (secondary f))
+      (map_same IsAlikeItem (λ (i : PlacingItem). i.extent) (λ (i : PlacingItem). i.extent) (λ i j alike. alike.extent) (bus_items q s c nothing (window_within q s c depth) (secondary f)) (bus_items q t c nothing (window_within q t c depth) (secondary f))
       (items_alike nothing nothing (λ r u alike. refl) (window_within q s c depth) (window_within q t c depth) (windows_alike depth) (secondary f))
       ∙ ap (extents t) (is.secondary bridge))

@@ -8,12 +8,11 @@ use Rattle.pci_spec.specs.Decoded.{Range}
 use Rattle.pci_spec.specs.System.{System, Function, Space, Io, Memory, Part, space_of, is_bridge, is_window}
 use Rattle.pci_spec.specs.Bus.{secondary, is_behind, is_root}
 use Rattle.plan_spec.specs.Place.{range_from}
-use Rattle.settle_spec.specs.FirstPlace.{Extent, first_place}
+use Rattle.settle_spec.specs.FirstPlace.{Extent, first_place, is_high}
 use Rattle.settle_spec.specs.Lists.{Request, class_ranges}
 use Rattle.settle_spec.specs.Parts.{FunctionPart, bridge_over, are_same_space}
 use Rattle.settle_spec.specs.Stands.{rank, window_part}
-use Rattle.settle_spec.specs.Items.{Item, Placed, Placing, AllPlaced, Lacks, and_placed, place_next, place_each, taken_by, bus_items, new_window}
-use Rattle.settle_spec.specs.FirstPlace.{is_high}
+use Rattle.settle_spec.specs.Items.{PlacingItem, Placed, Placing, AllPlaced, Lacks, and_placed, place_next, place_each, taken_by, bus_items, new_window}
 use Rattle.settle_spec.specs.Places.{wide_ranges, root_ranges, placed_of, place_among, placed_range, first_lack}
 use Rattle.settle_spec.specs.Keeping.Places.{space_items, placing_within, placing_on, new_place, lacking_on, lacking}
 use Rattle.std.proofs.Math.Path.{fun_ext}
@@ -48,17 +47,17 @@ placed_alike (Lacks i) (Lacks j) alike = tt
 
 -- ---- one after another
 
-and_alike : (i j : Item) → IsAlikeItem i j → (a : ℕ) (x y : Placing) → ArePlacedAlike x y → ArePlacedAlike (and_placed i a x) (and_placed j a y)
+and_alike : (i j : PlacingItem) → IsAlikeItem i j → (a : ℕ) (x y : Placing) → ArePlacedAlike x y → ArePlacedAlike (and_placed i a x) (and_placed j a y)
 and_alike i j is a (AllPlaced xs) (AllPlaced ys) alike = (record { item = is; at = refl }, alike)
 and_alike i j is a (AllPlaced xs) (Lacks k) alike = absurd alike
 and_alike i j is a (Lacks k) (AllPlaced ys) alike = absurd alike
 and_alike i j is a (Lacks k) (Lacks l) alike = alike
 
-next_alike : (i j : Item) → IsAlikeItem i j → (o : Option ℕ) (rest more : ℕ → Placing) → ((a : ℕ) → ArePlacedAlike (rest a) (more a)) → ArePlacedAlike (place_next i o rest) (place_next j o more)
+next_alike : (i j : PlacingItem) → IsAlikeItem i j → (o : Option ℕ) (rest more : ℕ → Placing) → ((a : ℕ) → ArePlacedAlike (rest a) (more a)) → ArePlacedAlike (place_next i o rest) (place_next j o more)
 next_alike i j is None rest more same = is
 next_alike i j is (Some a) rest more same = and_alike i j is a (rest a) (more a) (same a)
 
-each_alike : (find other : Item → List Range → Option ℕ) (taken : List Range) (xs ys : List Item) → ((i j : Item) (zs : List Range) → Contains xs i → IsAlikeItem i j → find i zs ≡ other j zs) → AllZip IsAlikeItem xs ys
+each_alike : (find other : PlacingItem → List Range → Option ℕ) (taken : List Range) (xs ys : List PlacingItem) → ((i j : PlacingItem) (zs : List Range) → Contains xs i → IsAlikeItem i j → find i zs ≡ other j zs) → AllZip IsAlikeItem xs ys
     → ArePlacedAlike (place_each find taken xs) (place_each other taken ys)
 each_alike find other taken [] [] same pairs = tt
 each_alike find other taken [] (y ∷ ys) same pairs = absurd pairs
@@ -103,7 +102,7 @@ module _ (q : Request) (anew : IsTrue q.anew) (s t : System) (pairs : AllZip IsA
     over_alike bus = find_zip IsAlike (λ b. is_bridge b && secondary b == bus) (λ b. is_bridge b && secondary b == bus)
         (λ f g is. of_bridges f g is (secondary f == bus) (secondary g == bus) (λ bridge. ap (λ n. n == bus) (is.secondary bridge))) s t pairs
 
-    ranges_alike : (i j : Item) → IsAlikeItem i j → ranges_anew q s placed i ≡ ranges_anew q t others j
+    ranges_alike : (i j : PlacingItem) → IsAlikeItem i j → ranges_anew q s placed i ≡ ranges_anew q t others j
     ranges_alike i j is =
         let bus = bus_alike i.region.function j.region.function is.region.function in
         let class = is.class in
@@ -129,17 +128,17 @@ module _ (q : Request) (anew : IsTrue q.anew) (s t : System) (pairs : AllZip IsA
   -- ---- what lines hold behind
 
   -- a window is of a bridge
-  of_bridge : (space : Space) (bus : ℕ) (i : Item) → Contains (space_items q s k space bus) i → is_window i.region.part ≡ true → is_bridge i.region.function ≡ true
+  of_bridge : (space : Space) (bus : ℕ) (i : PlacingItem) → Contains (space_items q s k space bus) i → is_window i.region.part ≡ true → is_bridge i.region.function ≡ true
   of_bridge space bus i has window =
       let is = (space_items_are q s k space bus i has).of in
-      let region : record { function = is.f; part = is.p } ≡ i.region = ap (λ (j : Item). j.region) is.is in
+      let region : record { function = is.f; part = is.p } ≡ i.region = ap (λ (j : PlacingItem). j.region) is.is in
       by is.f is.p region is.can
     where
       by : (f : Function) (p : Part) → record { function = f; part = p } ≡ i.region → {c : WindowKind} → IsPlaceable q s c f p → is_bridge i.region.function ≡ true
       by f p region (IsOwnPart plain part) = absurd (both_ways (is_window p) plain (ap (λ (r : FunctionPart). is_window r.part) region ∙ window))
       by f p region (IsNewWindow new bridge has) = ap (λ (r : FunctionPart). is_bridge r.function) (sym region) ∙ bridge
 
-  lines_alike : (space : Space) (bus : ℕ) (i j : Item) → Contains (space_items q s k space bus) i → IsAlikeItem i j → lines_behind q i.region ≡ lines_behind q j.region
+  lines_alike : (space : Space) (bus : ℕ) (i j : PlacingItem) → Contains (space_items q s k space bus) i → IsAlikeItem i j → lines_behind q i.region ≡ lines_behind q j.region
   lines_alike space bus i j has is = ap (λ (test : ToldRegion → Bool). map line_range (filter test (told_regions q.told))) (fun_ext same)
     where
       f : Function
@@ -196,7 +195,7 @@ module _ (q : Request) (anew : IsTrue q.anew) (s t : System) (pairs : AllZip IsA
 
   -- ---- and what lacks room
 
-  lack_alike : (x y : Placing) → ArePlacedAlike x y → (o p : Option Item) → BothOrNone IsAlikeItem o p → BothOrNone IsAlikeItem (first_lack x o) (first_lack y p)
+  lack_alike : (x y : Placing) → ArePlacedAlike x y → (o p : Option PlacingItem) → BothOrNone IsAlikeItem o p → BothOrNone IsAlikeItem (first_lack x o) (first_lack y p)
   lack_alike (AllPlaced xs) (AllPlaced ys) alike o p both = both
   lack_alike (AllPlaced xs) (Lacks j) alike o p both = absurd alike
   lack_alike (Lacks i) (AllPlaced ys) alike o p both = absurd alike
@@ -214,7 +213,7 @@ module _ (q : Request) (anew : IsTrue q.anew) (s t : System) (pairs : AllZip IsA
   pub none_lacks : lacking q s k ≡ None → lacking q t j ≡ None
   none_lacks none = by (lacking q s k) (lacking q t j) none (lacking_alike q.roots)
     where
-      by : (o p : Option Item) → o ≡ None → BothOrNone IsAlikeItem o p → p ≡ None
+      by : (o p : Option PlacingItem) → o ≡ None → BothOrNone IsAlikeItem o p → p ≡ None
       by o None e both = refl
       by None (Some y) e both = absurd both
       by (Some x) (Some y) e both = cc

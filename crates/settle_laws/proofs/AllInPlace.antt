@@ -16,7 +16,7 @@ use Rattle.plan_spec.proofs.Planning.Writes.{same_fields}
 use Rattle.settle_spec.specs.FirstPlace.{ranges_are_apart}
 use Rattle.settle_spec.specs.Lists.{Request}
 use Rattle.settle_spec.specs.Parts.{FunctionPart, system_parts, function_parts, parts_of, header_parts, addresses, is_part}
-use Rattle.settle_spec.specs.Stands.{rank, are_beside, is_in_place, is_kept_off, leads_to_told, takes_from, stands, precedes}
+use Rattle.settle_spec.specs.Stands.{rank, are_beside, is_in_place, is_kept_off, leads_to_told, takes_from, stands, told_part_precedes}
 use Rattle.settle_laws.specs.Standing.{IsStanding}
 use Rattle.settle_laws.proofs.Order.{precedes_itself}
 use Rattle.settle_laws.proofs.Standing.{stands_alone}
@@ -109,10 +109,10 @@ module _ (q : Request) (s : System) where
         (apart : (r t : FunctionPart) → Contains (system_parts q s) r → Contains (system_parts q s) t → are_beside q r t ≡ true → (rank r ≡ rank t → ⊥) → ranges_are_apart (addresses r) (addresses t) ≡ true) where
       none_takes : (t r : FunctionPart) → Contains (system_parts q s) t → Contains (system_parts q s) r → takes_from q s t r ≡ false
       none_takes t r in_t in_r = false_from_ne_true (takes_from q s t r) (λ takes.
-          let two = and_parts (are_beside q t r && precedes q s t r) (not (ranges_are_apart (addresses t) (addresses r))) takes in
-          let one = and_parts (are_beside q t r) (precedes q s t r) two.0 in
+          let two = and_parts (are_beside q t r && told_part_precedes q s t r) (not (ranges_are_apart (addresses t) (addresses r))) takes in
+          let one = and_parts (are_beside q t r) (told_part_precedes q s t r) two.0 in
           let differ : (rank t ≡ rank r → ⊥) = λ same.
-          both_ways (precedes q s r r) (precedes_itself q s r) (subst (λ x. precedes q s x r ≡ true) (one_region t r (looked t in_t) (looked r in_r) same) one.1) in
+          both_ways (told_part_precedes q s r r) (precedes_itself q s r) (subst (λ x. told_part_precedes q s x r ≡ true) (one_region t r (looked t in_t) (looked r in_r) same) one.1) in
           both_ways (not (ranges_are_apart (addresses t) (addresses r))) (ap not (apart t r in_t in_r one.0 differ)) two.1)
 
       standing : IsStanding q s looked_at

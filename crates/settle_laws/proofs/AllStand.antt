@@ -15,7 +15,7 @@ use Rattle.settle_spec.specs.Lines.{taken_for}
 use Rattle.settle_spec.specs.Lists.{Request}
 use Rattle.settle_spec.specs.Parts.{FunctionPart, system_parts, addresses, class_in}
 use Rattle.settle_spec.specs.Stands.{window_part, stands}
-use Rattle.settle_spec.specs.Items.{Item, place_each, place_in, are_placed, taken_on, bus_items, has_of, has_room, has_room_behind, stays, new_window}
+use Rattle.settle_spec.specs.Items.{PlacingItem, place_each, place_in, are_placed, taken_on, bus_items, has_of, has_room, has_room_behind, stays, new_window}
 use Rattle.settle_spec.proofs.Nested.{is_no_root, one_bridge}
 use Rattle.settle_laws.specs.Holding.{TellsRoom}
 use Rattle.settle_laws.proofs.Holding.{holds_alone, stays_on_root, stays_by_bus}
@@ -25,7 +25,7 @@ use Rattle.settle_laws.proofs.ItemForms.{IsItemOf, IsPlaceable, IsOwnPart, IsNew
 use Rattle.settle_laws.proofs.Kept.{in_regions, window_listed, within_over}
 use Rattle.settle_laws.proofs.PartPlaces.{IsBehindOf, behind_of}
 
-none_in : (xs : List Item) → ((i : Item) → Contains xs i → ⊥) → xs ≡ []
+none_in : (xs : List PlacingItem) → ((i : PlacingItem) → Contains xs i → ⊥) → xs ≡ []
 none_in [] none = refl
 none_in (i ∷ xs) none = absurd (none i (in_head i xs))
 
@@ -70,10 +70,10 @@ module _ (q : Request) (s : System) (system : IsSystem s) (nested : IsNested q.r
   pub no_items : (keeps : FunctionPart → Bool) → ((r : FunctionPart) → Contains (system_parts q s) r → keeps r ≡ true) → (c : WindowKind) (bus : ℕ) → bus_items q s c keeps (new_window q s c) bus ≡ []
   no_items keeps each c bus = none_in (bus_items q s c keeps (new_window q s c) bus) (λ i has.
       let is = items_are q s (new_window q s) c keeps bus i has in
-      let moves = ap (λ (j : Item). keeps j.region) is.is ∙ item_moves q s (new_window q s) c keeps bus i has in
+      let moves = ap (λ (j : PlacingItem). keeps j.region) is.is ∙ item_moves q s (new_window q s) c keeps bus i has in
       both_ways (keeps record { function = is.f; part = is.p }) moves (each record { function = is.f; part = is.p } (looked_at c bus i is is.can)))
     where
-      looked_at : (c : WindowKind) (bus : ℕ) (i : Item) (is : IsItemOf q s (new_window q s) c bus i) → IsPlaceable q s c is.f is.p → Contains (system_parts q s) record { function = is.f; part = is.p }
+      looked_at : (c : WindowKind) (bus : ℕ) (i : PlacingItem) (is : IsItemOf q s (new_window q s) c bus i) → IsPlaceable q s c is.f is.p → Contains (system_parts q s) record { function = is.f; part = is.p }
       looked_at c bus i is (IsOwnPart plain part) = in_regions q s is.f is.p is.listed (header_of is.f is.p is.there) part
       looked_at c bus i is (IsNewWindow window bridge has) =
           subst (λ o. Contains (system_parts q s) record { function = is.f; part = o }) (sym window)

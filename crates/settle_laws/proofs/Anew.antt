@@ -11,7 +11,7 @@ use Rattle.settle_spec.specs.FirstPlace.{first_place}
 use Rattle.settle_spec.specs.Lists.{Request}
 use Rattle.settle_spec.specs.Parts.{FunctionPart, system_parts, bridge_over, are_same_space}
 use Rattle.settle_spec.specs.Stands.{part_space, window_part}
-use Rattle.settle_spec.specs.Items.{Item, Placed, place_all}
+use Rattle.settle_spec.specs.Items.{PlacingItem, Placed, place_all}
 use Rattle.settle_spec.specs.Places.{root_ranges, placed_of, place_among, placed_range}
 use Rattle.settle_spec.specs.Kept.{Kept}
 use Rattle.settle_spec.specs.Keeping.Places.{space_items, taken_at, place_behind, place_of_item, placing_within}
@@ -29,7 +29,7 @@ abbrev pub new_ranges : (ℕ → List Placed) → WindowKind → Option Function
 new_ranges placed c None = []
 new_ranges placed c (Some b) = placed_range (place_among (window_part c b) (placed b.slot.bus))
 
-abbrev pub ranges_anew : Request → System → (ℕ → List Placed) → Item → List Range
+abbrev pub ranges_anew : Request → System → (ℕ → List Placed) → PlacingItem → List Range
 ranges_anew q s placed i =
     if is_root q.roots i.region.function.slot.bus then root_ranges q i
     else new_ranges placed i.class (bridge_over s i.region.function.slot.bus)
@@ -39,11 +39,11 @@ module _ (q : Request) (untold : q.told.ranges ≡ []) (s : System) (k : Kept) (
   none_taken space bus = taken_at_is q untold s k space bus ∙ ap (map k.range) (nowhere (λ r. are_siblings q.roots bus r.function.slot.bus && are_same_space space (part_space r) && k.stays r) (system_parts q s)
       (λ r. and_right (are_siblings q.roots bus r.function.slot.bus && are_same_space space (part_space r)) (k.stays r) (none r)))
 
-  behind_anew : (placed : ℕ → List Placed) (i : Item) (xs : List Range) (o : Option Function) → place_behind k placed i xs o ≡ first_place (new_ranges placed i.class o) xs i.extent
+  behind_anew : (placed : ℕ → List Placed) (i : PlacingItem) (xs : List Range) (o : Option Function) → place_behind k placed i xs o ≡ first_place (new_ranges placed i.class o) xs i.extent
   behind_anew placed i xs None = refl
   behind_anew placed i xs (Some b) = ap (λ kept. if kept then k.place b i xs else first_place (placed_range (place_among (window_part i.class b) (placed b.slot.bus))) xs i.extent) (none (window_part i.class b))
 
-  place_anew : (placed : ℕ → List Placed) (i : Item) (xs : List Range) → place_of_item q s k placed i xs ≡ first_place (ranges_anew q s placed i) xs i.extent
+  place_anew : (placed : ℕ → List Placed) (i : PlacingItem) (xs : List Range) → place_of_item q s k placed i xs ≡ first_place (ranges_anew q s placed i) xs i.extent
   place_anew placed i xs = by (is_root q.roots i.region.function.slot.bus)
     where
       by : (root : Bool) → (if root then first_place (root_ranges q i) xs i.extent else place_behind k placed i xs (bridge_over s i.region.function.slot.bus))

@@ -9,7 +9,7 @@ use Rattle.pci_spec.proofs.BusRanges.{all_gives}
 use Rattle.settle_spec.specs.FirstPlace.{ranges_are_apart}
 use Rattle.settle_spec.specs.Lists.{Request}
 use Rattle.settle_spec.specs.Parts.{FunctionPart, system_parts, addresses, is_part, lies_within, class_in, bridge_over, are_same_space}
-use Rattle.settle_spec.specs.Stands.{rank, part_space, are_beside, is_in_lists, is_in_window, is_in_place, window_part, takes_from, stands, precedes}
+use Rattle.settle_spec.specs.Stands.{rank, part_space, are_beside, is_in_lists, is_in_window, is_in_place, window_part, takes_from, stands, told_part_precedes}
 use Rattle.settle_spec.proofs.BridgeOver.{over_is}
 use Rattle.settle_laws.proofs.Order.{precedes_else}
 use Rattle.settle_laws.proofs.Standing.{stands_is, allowed}
@@ -55,11 +55,11 @@ module _ (q : Request) (s : System) where
         record { place = (and_parts (allowed q s r && is_part q s r.function r.part) place parts.0).1; free = parts.1 }
 
     -- it shares no address with what stands before it
-    apart_before : (t : FunctionPart) → Contains (system_parts q s) t → stands q s t ≡ true → are_beside q t r ≡ true → precedes q s t r ≡ true → ranges_are_apart (addresses t) (addresses r) ≡ true
+    apart_before : (t : FunctionPart) → Contains (system_parts q s) t → stands q s t ≡ true → are_beside q t r ≡ true → told_part_precedes q s t r ≡ true → ranges_are_apart (addresses t) (addresses r) ≡ true
     apart_before t in_t stands_t beside before = elim (cases_Bool (ranges_are_apart (addresses t) (addresses r))) [
       | inl fine ↦ fine
       | inr shares ↦
-          let takes = and_from (are_beside q t r && precedes q s t r) (not (ranges_are_apart (addresses t) (addresses r))) (and_from (are_beside q t r) (precedes q s t r) beside before) (ap not shares) in
+          let takes = and_from (are_beside q t r && told_part_precedes q s t r) (not (ranges_are_apart (addresses t) (addresses r))) (and_from (are_beside q t r) (told_part_precedes q s t r) beside before) (ap not shares) in
           absurd (both_ways (not (takes_from q s t r && stands q s t))
           (not_from_true (takes_from q s t r && stands q s t) (and_from (takes_from q s t r) (stands q s t) takes stands_t))
           (all_gives (λ t. not (takes_from q s t r && stands q s t)) (system_parts q s) sides.free t in_t))
@@ -82,7 +82,7 @@ module _ (q : Request) (s : System) where
 
   pub apart_where_beside : (r t : FunctionPart) → IsNested q.roots s → Contains (system_parts q s) r → Contains (system_parts q s) t → stands q s r ≡ true → stands q s t ≡ true → are_beside q r t ≡ true → rank r ≢ rank t
       → ranges_are_apart (addresses r) (addresses t) ≡ true
-  apart_where_beside r t nested in_r in_t stands_r stands_t beside differ = elim (cases_Bool (precedes q s r t)) [
+  apart_where_beside r t nested in_r in_t stands_r stands_t beside differ = elim (cases_Bool (told_part_precedes q s r t)) [
     | inl before ↦ apart_before nested t in_t stands_t r in_r stands_r beside before
     | inr not_before ↦
         or_swap (nat_lt (addresses r).last (addresses t).first) (nat_lt (addresses t).last (addresses r).first)

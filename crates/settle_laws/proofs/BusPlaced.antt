@@ -8,12 +8,12 @@ use Rattle.pci_spec.specs.Window.{WindowKind, MemoryWindow, PrefetchWindow, page
 use Rattle.pci_spec.proofs.Members.{in_nil, in_cons_cases}
 use Rattle.plan_spec.specs.Plan.{same_class}
 use Rattle.plan_spec.proofs.Planning.Placement.{power_pos, step_power}
-use Rattle.settle_spec.specs.Items.{Item}
+use Rattle.settle_spec.specs.Items.{PlacingItem}
 
 pub one_left : (r t : Range) → Contains (r ∷ []) t → r ≡ t
 one_left r t has = elim (in_cons_cases r [] t has) [ inl is ↦ is | inr none ↦ absurd (in_nil t none) ]
 
-pub nothing_long : (xs : List Item) → nat_lt 0 (length xs) ≡ false → xs ≡ []
+pub nothing_long : (xs : List PlacingItem) → nat_lt 0 (length xs) ≡ false → xs ≡ []
 nothing_long [] none = refl
 nothing_long (i ∷ xs) none = absurd (both_ways (nat_lt 0 (length (i ∷ xs))) none (lt-ltb 0 (length (i ∷ xs)) (omega arith)))
 

@@ -9,7 +9,7 @@ use Rattle.plan_spec.specs.Place.{range_from}
 use Rattle.plan_spec.proofs.Planning.Behind.{any_from}
 use Rattle.settle_spec.specs.FirstPlace.{Extent, ranges_are_apart, first_place}
 use Rattle.settle_spec.specs.Stands.{rank}
-use Rattle.settle_spec.specs.Items.{Item, Placed, Placing, AllPlaced, Lacks, and_placed, place_next, are_placed, place_all, taken_by, place_each}
+use Rattle.settle_spec.specs.Items.{PlacingItem, Placed, Placing, AllPlaced, Lacks, and_placed, place_next, are_placed, place_all, taken_by, place_each}
 use Rattle.settle_spec.specs.Places.{placed_of, place_among}
 use Rattle.settle_spec.specs.PlacingLaws.{PlacesAreApart, HasOtherRank}
 use Rattle.settle_spec.proofs.FirstSpot.{IsApart}
@@ -19,14 +19,14 @@ use Rattle.settle_spec.proofs.Buses.{next_same}
 
 -- ---- by first places
 
-pub each_all : (ranges : Item → List Range) (taken : List Range) (items : List Item) → place_each (λ i xs. first_place (ranges i) xs i.extent) taken items ≡ place_all ranges taken items
+pub each_all : (ranges : PlacingItem → List Range) (taken : List Range) (items : List PlacingItem) → place_each (λ i xs. first_place (ranges i) xs i.extent) taken items ≡ place_all ranges taken items
 each_all ranges taken [] = refl
 each_all ranges taken (i ∷ items) =
     next_same i (first_place (ranges i) taken i.extent) (λ a. place_each (λ i xs. first_place (ranges i) xs i.extent) (taken_by i a ∷ taken) items) (λ a. place_all ranges (taken_by i a ∷ taken) items)
     (λ a. each_all ranges (taken_by i a ∷ taken) items)
 
 -- what is placed are the items, in turn
-pub each_items : (find : Item → List Range → Option ℕ) (taken : List Range) (items : List Item) (placed : List Placed) → place_each find taken items ≡ AllPlaced placed → map (λ (p : Placed). p.item) placed ≡ items
+pub each_items : (find : PlacingItem → List Range → Option ℕ) (taken : List Range) (items : List PlacingItem) (placed : List Placed) → place_each find taken items ≡ AllPlaced placed → map (λ (p : Placed). p.item) placed ≡ items
 each_items find taken [] placed done = sym (ap (λ p. map (λ (x : Placed). x.item) (placed_of p)) done)
 each_items find taken (i ∷ items) placed done =
     by (find i taken) done (λ a rest is. each_items find (taken_by i a ∷ taken) items rest is)
@@ -44,7 +44,7 @@ each_items find taken (i ∷ items) placed done =
 
 -- ---- places that are known beforehand
 
-pub looked_up : (find : Item → List Range → Option ℕ) (taken : List Range) (placed : List Placed) → ((p : Placed) (xs : List Range) → Contains placed p → find p.item xs ≡ Some p.at)
+pub looked_up : (find : PlacingItem → List Range → Option ℕ) (taken : List Range) (placed : List Placed) → ((p : Placed) (xs : List Range) → Contains placed p → find p.item xs ≡ Some p.at)
     → place_each find taken (map (λ (p : Placed). p.item) placed) ≡ AllPlaced placed
 looked_up find taken [] known = refl
 looked_up find taken (p ∷ placed) known =
@@ -77,7 +77,7 @@ pub record IsFreeAt (e : Extent) (taken : List Range) (a : ℕ) : Type 0 where
   pub free : (t : Range) → Contains taken t → IsApart e.size a t
   pub highest : a + (e.size - 1) ≤ e.highest
 
-pub record AreFree (taken : List Range) (items : List Item) (placed : List Placed) : Type 0 where
+pub record AreFree (taken : List Range) (items : List PlacingItem) (placed : List Placed) : Type 0 where
   pub all : map (λ (p : Placed). p.item) placed ≡ items
   pub each : (p : Placed) → Contains placed p → IsFreeAt p.item.extent taken p.at
   pub apart : AllPairs PlacesAreApart placed
@@ -89,7 +89,7 @@ swap : (e : Extent) (t : Range) (a : ℕ) → IsApart e.size a t → ranges_are_
 swap e t a (inl under) = or_right (nat_lt t.last a) (nat_lt (a + (e.size - 1)) t.first) (lt-ltb (a + (e.size - 1)) t.first under)
 swap e t a (inr over) = or_left (nat_lt t.last a) (nat_lt (a + (e.size - 1)) t.first) (lt-ltb t.last a over)
 
-first_free : (taken : List Range) (i : Item) (items : List Item) (a : ℕ) → IsFreeAt i.extent taken a → (rest : List Placed) → AreFree (taken_by i a ∷ taken) items rest
+first_free : (taken : List Range) (i : PlacingItem) (items : List PlacingItem) (a : ℕ) → IsFreeAt i.extent taken a → (rest : List Placed) → AreFree (taken_by i a ∷ taken) items rest
     → AreFree taken (i ∷ items) (record { item = i; at = a } ∷ rest)
 first_free taken i items a free rest are =
     let first : Placed = record { item = i; at = a } in
@@ -102,8 +102,8 @@ first_free taken i items a free rest are =
       apart = pairs_cons PlacesAreApart first rest (λ p listed. swap p.item.extent (taken_by i a) p.at ((are.each p listed).free (taken_by i a) (in_head (taken_by i a) taken))) are.apart;
     }
 
-pub each_free : (find : Item → List Range → Option ℕ) (taken : List Range) (items : List Item) (placed : List Placed)
-    → ((i : Item) (xs : List Range) (a : ℕ) → Contains items i → find i xs ≡ Some a → IsFreeAt i.extent xs a) → place_each find taken items ≡ AllPlaced placed → AreFree taken items placed
+pub each_free : (find : PlacingItem → List Range → Option ℕ) (taken : List Range) (items : List PlacingItem) (placed : List Placed)
+    → ((i : PlacingItem) (xs : List Range) (a : ℕ) → Contains items i → find i xs ≡ Some a → IsFreeAt i.extent xs a) → place_each find taken items ≡ AllPlaced placed → AreFree taken items placed
 each_free find taken [] placed free done =
     subst (AreFree taken []) (ap placed_of done) (record { all = refl; each = λ p listed. absurd (in_nil p listed); apart = pairs_nil PlacesAreApart })
 each_free find taken (i ∷ items) placed free done =

@@ -17,8 +17,8 @@ use Rattle.settle_spec.specs.Lists.{Request, class_ranges}
 use Rattle.settle_spec.specs.Parts.{FunctionPart, system_parts, addresses, bridge_over, class_in, lies_within}
 use Rattle.settle_spec.specs.Stands.{is_fixed_part, rank, part_space, are_beside, is_listed, is_in_lists, window_part, stands}
 use Rattle.settle_spec.specs.Items.{highest_in, has_room_behind}
-use Rattle.settle_spec.specs.Reach.{ranges_for, range_over, room_around, reach_in, reach_if, reach_within, reach}
-use Rattle.settle_spec.specs.Growth.{window_comes_to, part_comes_to, is_clear, there, comes_to, takes, has_grown}
+use Rattle.settle_spec.specs.Reach.{root_window_ranges, range_over, room_around, reach_in, reach_if, reach_within, reach}
+use Rattle.settle_spec.specs.Growth.{window_comes_to, part_comes_to, is_clear, there, comes_to, takes_growth, has_grown}
 use Rattle.settle_spec.specs.Kept.{is_kept, stays_growing, range_or, range_growing, growing}
 use Rattle.settle_spec.proofs.BridgeOver.{found}
 use Rattle.settle_spec.proofs.Grown.{growth_holds_all, part_holds}
@@ -72,18 +72,18 @@ module _ (q : Request) (s : System) where
     pub range : Range
     pub comes : comes_to q s r ≡ Some range
 
-  pub taking : (r : FunctionPart) → takes q s r ≡ true → Takes r
+  pub taking : (r : FunctionPart) → takes_growth q s r ≡ true → Takes r
   taking r is = by (comes_to q s r) refl is
     where
       by : (o : Option Range) → comes_to q s r ≡ o → is_clear q s (there q s) r o ≡ true → Takes r
       by None comes clear = absurd (false≢true clear)
       by (Some x) comes clear = record { range = x; comes = comes }
 
-  pub takes_stands : (r : FunctionPart) → takes q s r ≡ true → stands q s r ≡ true
+  pub takes_stands : (r : FunctionPart) → takes_growth q s r ≡ true → stands q s r ≡ true
   takes_stands r is = let to = taking r is in comes_stands r.function r.part to.range to.comes
 
-  pub grown_takes : (r : FunctionPart) → has_grown q s r ≡ true → takes q s r ≡ true
-  grown_takes r is = (and_parts (takes q s r) _ is).0
+  pub grown_takes : (r : FunctionPart) → has_grown q s r ≡ true → takes_growth q s r ≡ true
+  grown_takes r is = (and_parts (takes_growth q s r) _ is).0
 
   pub grown_range : (r : FunctionPart) (x : Range) → has_grown q s r ≡ true → comes_to q s r ≡ Some x → range_growing q s r ≡ x
   grown_range r x grown comes = ap (λ b. if b then range_or (comes_to q s r) (addresses r) else addresses r) grown ∙ ap (λ o. range_or o (addresses r)) comes
@@ -125,8 +125,8 @@ module _ (q : Request) (s : System) where
     pub stays_by_over : (r : FunctionPart) (b : Function) → LeadsTo s b r.function.slot.bus → stays_growing q s r ≡ (is_kept q s r && stays_growing q s (window_part (class_in q s r.function r.part) b))
     stays_by_over r b leads = ap (λ x. is_kept q s r && x) (over_first (is_kept q s) (class_in q s r.function r.part) b r.function.slot.bus leads)
 
-    pub grown_by_over : (r : FunctionPart) (b : Function) → LeadsTo s b r.function.slot.bus → has_grown q s r ≡ (takes q s r && has_grown q s (window_part (class_in q s r.function r.part) b))
-    grown_by_over r b leads = ap (λ x. takes q s r && x) (over_first (takes q s) (class_in q s r.function r.part) b r.function.slot.bus leads)
+    pub grown_by_over : (r : FunctionPart) (b : Function) → LeadsTo s b r.function.slot.bus → has_grown q s r ≡ (takes_growth q s r && has_grown q s (window_part (class_in q s r.function r.part) b))
+    grown_by_over r b leads = ap (λ x. takes_growth q s r && x) (over_first (takes_growth q s) (class_in q s r.function r.part) b r.function.slot.bus leads)
 
     -- ---- what is kept is there, with all that it has then
 
@@ -135,14 +135,14 @@ module _ (q : Request) (s : System) where
       pub is : there q s r ≡ Some range
       pub holds : lies_within (range_growing q s r) range ≡ true
 
-    pub there_taking : (r : FunctionPart) → Contains (system_parts q s) r → takes q s r ≡ true → there q s r ≡ comes_to q s r
+    pub there_taking : (r : FunctionPart) → Contains (system_parts q s) r → takes_growth q s r ≡ true → there q s r ≡ comes_to q s r
     there_taking r listed taken = there_by_bus q s system nested r listed ∙ ap (λ b. if b then comes_to q s r else if has_room_behind q s r then Some (addresses r) else None) taken
 
-    pub there_else : (r : FunctionPart) → Contains (system_parts q s) r → takes q s r ≡ false → there q s r ≡ (if has_room_behind q s r then Some (addresses r) else None)
+    pub there_else : (r : FunctionPart) → Contains (system_parts q s) r → takes_growth q s r ≡ false → there q s r ≡ (if has_room_behind q s r then Some (addresses r) else None)
     there_else r listed off = there_by_bus q s system nested r listed ∙ ap (λ b. if b then comes_to q s r else if has_room_behind q s r then Some (addresses r) else None) off
 
     pub kept_is_there : (r : FunctionPart) → Contains (system_parts q s) r → is_kept q s r ≡ true → IsThereWith r
-    kept_is_there r listed kept = elim (cases_Bool (takes q s r)) [
+    kept_is_there r listed kept = elim (cases_Bool (takes_growth q s r)) [
       | inl taken ↦
           let to = taking r taken in
           let holds = part_holds q s r.function r.part to.range to.comes in
@@ -155,7 +155,7 @@ module _ (q : Request) (s : System) where
             ];
           }
       | inr off ↦
-          let not_grown : has_grown q s r ≡ false = ap (λ b. b && list_all (λ d. takes q s (window_part (class_in q s r.function r.part) d)) (bridges_above s r.function.slot.bus)) off in
+          let not_grown : has_grown q s r ≡ false = ap (λ b. b && list_all (λ d. takes_growth q s (window_part (class_in q s r.function r.part) d)) (bridges_above s r.function.slot.bus)) off in
           let holds = or_else_right (has_grown q s r) (has_room_behind q s r) kept not_grown in
           record {
             range = addresses r;
@@ -168,8 +168,8 @@ module _ (q : Request) (s : System) where
         itself x = within_from x x (record { first = omega arith; last = omega arith })
 
     -- and what is there behind a window that grows is kept
-    pub there_is_kept : (r : FunctionPart) (x : Range) → Contains (system_parts q s) r → there q s r ≡ Some x → (takes q s r ≡ true → has_grown q s r ≡ true) → is_kept q s r ≡ true
-    there_is_kept r x listed is grows = elim (cases_Bool (takes q s r)) [
+    pub there_is_kept : (r : FunctionPart) (x : Range) → Contains (system_parts q s) r → there q s r ≡ Some x → (takes_growth q s r ≡ true → has_grown q s r ≡ true) → is_kept q s r ≡ true
+    there_is_kept r x listed is grows = elim (cases_Bool (takes_growth q s r)) [
       | inl taken ↦ or_left (has_grown q s r) (has_room_behind q s r) (grows taken)
       | inr off ↦ or_right (has_grown q s r) (has_room_behind q s r) (by (has_room_behind q s r) (sym (there_else r listed off) ∙ is))
     ]
@@ -193,7 +193,7 @@ module _ (q : Request) (s : System) where
           stays = both.1;
           within = elim (cases_Bool (has_grown q s r)) [
             | inl grown ↦
-                let two = and_parts (takes q s r) (has_grown q s w) (sym (grown_by_over r b leads) ∙ grown) in
+                let two = and_parts (takes_growth q s r) (has_grown q s w) (sym (grown_by_over r b leads) ∙ grown) in
                 let to = taking r two.0 in
                 let over = taking w (grown_takes w two.1) in
                 let to_bus = leads.2 in
@@ -225,13 +225,13 @@ module _ (q : Request) (s : System) where
 
       -- ---- in the lists of a root
 
-      listed_for : (c : WindowKind) (bus : ℕ) (x room : Range) → Contains (ranges_for q c bus) room → lies_within x room ≡ true → is_in_lists q bus x (window_space c) ≡ true
+      listed_for : (c : WindowKind) (bus : ℕ) (x room : Range) → Contains (root_window_ranges q c bus) room → lies_within x room ≡ true → is_in_lists q bus x (window_space c) ≡ true
       listed_for c bus x room has within = by c has
         where
           in_class : (d : WindowKind) → Contains (class_ranges q d bus) room → is_listed q bus x d ≡ true
           in_class d here = any_from (lies_within x) (class_ranges q d bus) room here within
 
-          by : (c : WindowKind) → Contains (ranges_for q c bus) room → is_in_lists q bus x (window_space c) ≡ true
+          by : (c : WindowKind) → Contains (root_window_ranges q c bus) room → is_in_lists q bus x (window_space c) ≡ true
           by IoWindow here = in_class IoWindow here
           by MemoryWindow here = elim (Contains-append_cases (class_ranges q MemoryWindow bus) (class_ranges q PrefetchWindow bus) room here) [
             | inl own ↦ or_left (is_listed q bus x MemoryWindow) (is_listed q bus x PrefetchWindow) (in_class MemoryWindow own)
@@ -256,13 +256,13 @@ module _ (q : Request) (s : System) where
           by_room None e = own
           by_room (Some room) e = by (is_fixed_part q w)
             where
-              here : find (lies_within (addresses w)) (ranges_for q c b.slot.bus) ≡ Some room
-              here = sym (ap (λ t. if t then find (lies_within (addresses w)) (ranges_for q c b.slot.bus) else range_over (reach_within q s c 255) (bridge_over s b.slot.bus)) root) ∙ e
+              here : find (lies_within (addresses w)) (root_window_ranges q c b.slot.bus) ≡ Some room
+              here = sym (ap (λ t. if t then find (lies_within (addresses w)) (root_window_ranges q c b.slot.bus) else range_over (reach_within q s c 255) (bridge_over s b.slot.bus)) root) ∙ e
 
               by : (fixed : Bool) → is_in_lists q b.slot.bus (if fixed then addresses w else reach_in q s c b room) (window_space c) ≡ true
               by true = own
               by false =
-                  listed_for c b.slot.bus (reach_in q s c b room) room (found (lies_within (addresses w)) (ranges_for q c b.slot.bus) room here).0
+                  listed_for c b.slot.bus (reach_in q s c b room) room (found (lies_within (addresses w)) (root_window_ranges q c b.slot.bus) room here).0
                   (reach_is_around q s c b room (room_holds q s c nested system (reach_within q s c 255) (reachable q s c nested system low 255) b is room e) (low c b (in_system q s c nested system low b is) is.stands) (apart_beside q s c nested b is)).1
 
       in_reach_listed : (f : Function) (p : Part) (x : Range) → Contains (system_parts q s) (record { function = f; part = p }) → is_root q.roots f.slot.bus ≡ true → comes_to q s (record { function = f; part = p }) ≡ Some x

@@ -16,12 +16,12 @@ use Rattle.settle_spec.specs.LastPlace.{last_place_in}
 use Rattle.settle_spec.specs.Lists.{Request}
 use Rattle.settle_spec.specs.Parts.{FunctionPart, system_parts, header_parts, addresses, class_in, are_same_space}
 use Rattle.settle_spec.specs.Stands.{part_space, window_part, stands}
-use Rattle.settle_spec.specs.Items.{Item, Placed, Placing, AllPlaced, Lacks, taken_by, bus_items, highest_in, new_window, has_room_behind, place_each, place_in}
+use Rattle.settle_spec.specs.Items.{PlacingItem, Placed, Placing, AllPlaced, Lacks, taken_by, bus_items, highest_in, new_window, has_room_behind, place_each, place_in}
 use Rattle.settle_spec.specs.Places.{placed_of, place_among}
 use Rattle.settle_spec.specs.PlacingLaws.{HasOtherRank}
 use Rattle.settle_spec.specs.Reach.{reach}
-use Rattle.settle_spec.specs.Growth.{place_around, grown_to, grown_around, there_on, taken_around, window_comes_to, there, comes_to, takes, has_grown}
-use Rattle.settle_spec.specs.Kept.{is_kept, stays_growing, range_growing, place_of, growing}
+use Rattle.settle_spec.specs.Growth.{place_around, grown_to, grown_around, there_on, taken_around, window_comes_to, there, comes_to, takes_growth, has_grown}
+use Rattle.settle_spec.specs.Kept.{is_kept, stays_growing, range_growing, address_of_placed, growing}
 use Rattle.settle_spec.specs.Keeping.Places.{taken_at}
 use Rattle.settle_spec.proofs.FirstPlace.{in_is}
 use Rattle.settle_spec.proofs.FirstSpot.{IsApart}
@@ -35,7 +35,7 @@ use Rattle.settle_laws.proofs.Reach.{some_is}
 use Rattle.settle_laws.proofs.Standing.{window_listed, stands_by_itself}
 use Rattle.settle_laws.proofs.There.{there_on_from}
 use Rattle.settle_laws.proofs.ThereAlone.{unstanding}
-use Rattle.settle_laws.specs.KeptLaws.{IsAside, IsAlikeIn, AreOffBehind, HavePlaces, IsGrown}
+use Rattle.settle_laws.specs.KeptLaws.{IsRangeApart, IsAlikeIn, AreOffBehind, HavePlaces, IsGrown}
 use Rattle.settle_laws.proofs.EachPlaced.{IsFreeAt, AreFree, each_free, looked_up, among_is}
 use Rattle.settle_laws.proofs.Held.{same_itself}
 use Rattle.settle_laws.proofs.ItemRanks.{items_differ}
@@ -77,7 +77,7 @@ less_apart : (size a : ℕ) (x t : Range) → LiesIn t x → IsApart size a x �
 less_apart size a x t inside (inl under) = (let f = inside.first in inl (omega (arith, f, under)))
 less_apart size a x t inside (inr over) = (let l = inside.last in inr (omega (arith, l, over)))
 
-off_aside : (r t : Range) (size a : ℕ) → r.first ≤ a → a + (size - 1) ≤ r.last → IsAside r t → IsApart size a t
+off_aside : (r t : Range) (size a : ℕ) → r.first ≤ a → a + (size - 1) ≤ r.last → IsRangeApart r t → IsApart size a t
 off_aside r t size a from to (inl under) = inr (omega (arith, from, under))
 off_aside r t size a from to (inr over) = inl (omega (arith, to, over))
 
@@ -101,16 +101,16 @@ module _ (q : Request) (s : System) (system : IsSystem s) (nested : IsNested q.r
         ∙ ap (λ d. is_kept q s t && stays_growing q s (window_part d b)) class
         ∙ and_true (is_kept q s t) (stays_growing q s w) keeps
 
-    grown_there : (t : FunctionPart) → are_siblings q.roots bus t.function.slot.bus ≡ true → class_in q s t.function t.part ≡ c → has_grown q s t ≡ (takes q s t && has_grown q s w)
+    grown_there : (t : FunctionPart) → are_siblings q.roots bus t.function.slot.bus ≡ true → class_in q s t.function t.part ≡ c → has_grown q s t ≡ (takes_growth q s t && has_grown q s w)
     grown_there t beside class =
         grown_by_over q s system nested t b (leads_to q s (growing q s) system nested b listed bridge t.function.slot.bus beside)
-        ∙ ap (λ d. takes q s t && has_grown q s (window_part d b)) class
+        ∙ ap (λ d. takes_growth q s t && has_grown q s (window_part d b)) class
 
     -- ---- one that stays as it stands
 
     module _ (off : has_grown q s w ≡ false) where
       not_grown : (t : FunctionPart) → are_siblings q.roots bus t.function.slot.bus ≡ true → class_in q s t.function t.part ≡ c → has_grown q s t ≡ false
-      not_grown t beside class = grown_there t beside class ∙ and_right (takes q s t) (has_grown q s w) off
+      not_grown t beside class = grown_there t beside class ∙ and_right (takes_growth q s t) (has_grown q s w) off
 
       or_false : (x y : Bool) → x ≡ false → (x || y) ≡ y
       or_false x y none = ap (λ b. b || y) none
@@ -118,10 +118,10 @@ module _ (q : Request) (s : System) (system : IsSystem s) (nested : IsNested q.r
       holds : has_room_behind q s w ≡ true
       holds = sym (or_false (has_grown q s w) (has_room_behind q s w) off) ∙ stays_kept q s w keeps
 
-      find_is : (i : Item) (xs : List Range) → i.class ≡ c → (growing q s).place b i xs ≡ place_in (addresses w) i xs
+      find_is : (i : PlacingItem) (xs : List Range) → i.class ≡ c → (growing q s).place b i xs ≡ place_in (addresses w) i xs
       find_is i xs class =
-          ap (λ d. if has_grown q s (window_part d b) then place_of (place_among i.region (placed_of (taken_around q s (there q s) d b))) else place_in (addresses (window_part d b)) i xs) class
-          ∙ ap (λ t. if t then place_of (place_among i.region (placed_of (taken_around q s (there q s) c b))) else place_in (addresses w) i xs) off
+          ap (λ d. if has_grown q s (window_part d b) then address_of_placed (place_among i.region (placed_of (taken_around q s (there q s) d b))) else place_in (addresses (window_part d b)) i xs) class
+          ∙ ap (λ t. if t then address_of_placed (place_among i.region (placed_of (taken_around q s (there q s) c b))) else place_in (addresses w) i xs) off
 
       module _ (low : WindowsAreLow q s) where
         as_it_was : (taken : List Range) → IsAlikeIn (range_growing q s w) taken (taken_at q s (growing q s) (window_space c) bus) → IsAlikeIn (range_growing q s w) (taken_at q s (growing q s) (window_space c) bus) taken
@@ -138,7 +138,7 @@ module _ (q : Request) (s : System) (system : IsSystem s) (nested : IsNested q.r
       abbrev before : FunctionPart → Bool
       before r = is_some (there q s r)
 
-      abbrev items : List Item
+      abbrev items : List PlacingItem
       items = bus_items q s c before (new_window q s c) bus
 
       abbrev taken_there : List Range
@@ -147,7 +147,7 @@ module _ (q : Request) (s : System) (system : IsSystem s) (nested : IsNested q.r
       abbrev others : List Range
       others = there_on q s (there q s) (λ r. same_class c (class_in q s r.function r.part)) bus
 
-      abbrev find : Item → List Range → Option ℕ
+      abbrev find : PlacingItem → List Range → Option ℕ
       find i taken = place_around (addresses w) (reach q s c b) (taken_for q i.region taken) i.extent
 
       -- what is there behind it is what stays there
@@ -169,7 +169,7 @@ module _ (q : Request) (s : System) (system : IsSystem s) (nested : IsNested q.r
           by None is has off = refl
           by (Some x) is has off =
               absurd (both_ways (is_kept q s t) off
-              (there_is_kept q s system nested t x has is (λ taken. grown_there t beside class ∙ and_true (takes q s t) (has_grown q s w) grown ∙ taken)))
+              (there_is_kept q s system nested t x has is (λ taken. grown_there t beside class ∙ and_true (takes_growth q s t) (has_grown q s w) grown ∙ taken)))
 
       record IsComeTo : Type 0 where
         placed : List Placed
@@ -192,7 +192,7 @@ module _ (q : Request) (s : System) (system : IsSystem s) (nested : IsNested q.r
           by_stand g comes false e = absurd (false≢true (ap is_some e))
 
       -- a place that is found is off what is taken, and what lines hold behind
-      found_free : (i : Item) (xs : List Range) (a : ℕ) → Contains items i → find i xs ≡ Some a → IsFreeAt i.extent (taken_for q i.region xs) a
+      found_free : (i : PlacingItem) (xs : List Range) (a : ℕ) → Contains items i → find i xs ≡ Some a → IsFreeAt i.extent (taken_for q i.region xs) a
       found_free i xs a has is = around_free (addresses w) (reach q s c b) (taken_for q i.region xs) i.extent a (items_aligned q s (growing q s) c before bus i has) is
 
       free : AreFree taken_there items come_to.placed
@@ -216,10 +216,10 @@ module _ (q : Request) (s : System) (system : IsSystem s) (nested : IsNested q.r
       known p xs has =
           let i = p.item in
           let class = item_class q s (growing q s) c before bus i (in_items p has) in
-          ap (λ d. if has_grown q s (window_part d b) then place_of (place_among i.region (placed_of (taken_around q s (there q s) d b))) else place_in (addresses (window_part d b)) i xs) class
-          ∙ ap (λ t. if t then place_of (place_among i.region (placed_of (taken_around q s (there q s) c b))) else place_in (addresses w) i xs) grown
-          ∙ ap (λ p. place_of (place_among i.region (placed_of p))) come_to.all
-          ∙ ap place_of (among_is come_to.placed differ p has)
+          ap (λ d. if has_grown q s (window_part d b) then address_of_placed (place_among i.region (placed_of (taken_around q s (there q s) d b))) else place_in (addresses (window_part d b)) i xs) class
+          ∙ ap (λ t. if t then address_of_placed (place_among i.region (placed_of (taken_around q s (there q s) c b))) else place_in (addresses w) i xs) grown
+          ∙ ap (λ p. address_of_placed (place_among i.region (placed_of p))) come_to.all
+          ∙ ap address_of_placed (among_is come_to.placed differ p has)
 
       -- the places are in what it comes to
       inside : (p : Placed) → Contains come_to.placed p → LiesIn (taken_by p.item p.at) (range_growing q s w)
@@ -282,7 +282,7 @@ module _ (q : Request) (s : System) (system : IsSystem s) (nested : IsNested q.r
             off = off_behind;
           }
         where
-          own_place : Item → List Range → Option ℕ
+          own_place : PlacingItem → List Range → Option ℕ
           own_place i xs = (growing q s).place b i (taken_for q i.region xs)
 
   pub growing_places : WindowsAreLow q s → (c : WindowKind) (b : Function) (taken : List Range) → Contains s b → is_bridge b ≡ true → stays_growing q s (window_part c b) ≡ true

@@ -17,7 +17,7 @@ use Rattle.settle_spec.specs.Parts.{FunctionPart, system_parts, header_parts, ad
 use Rattle.settle_spec.specs.Stands.{window_part, part_space, stands}
 use Rattle.settle_spec.specs.Items.{bus_items, new_window, place_each}
 use Rattle.settle_spec.specs.Reach.{reach}
-use Rattle.settle_spec.specs.Growth.{place_around, grown_to, grown_around, there_on, window_comes_to, there, comes_to, takes, has_grown}
+use Rattle.settle_spec.specs.Growth.{place_around, grown_to, grown_around, there_on, window_comes_to, there, comes_to, takes_growth, has_grown}
 use Rattle.settle_spec.specs.Kept.{range_growing}
 use Rattle.settle_spec.proofs.Grown.{grown_holds}
 use Rattle.settle_spec.proofs.Nested.{on_it}
@@ -120,12 +120,12 @@ module _ (q : Request) (s : System) (system : IsSystem s) (nested : IsNested q.r
   -- ---- from the highest bus down
 
   one_there : (r : FunctionPart) → Contains (system_parts q s) r → AreThere r.function.slot.bus → there q s r ≡ Some (addresses r)
-  one_there r listed behind = elim (cases_Bool (takes q s r)) [
+  one_there r listed behind = elim (cases_Bool (takes_growth q s r)) [
     | inl taken ↦ there_taking q s system nested r listed taken ∙ by r.function r.part listed behind taken
     | inr off ↦ there_else q s system nested r listed off ∙ ap (λ b. if b then Some (addresses r) else None) (all_hold q s system nested all r listed)
   ]
     where
-      by : (f : Function) (p : Part) → Contains (system_parts q s) (record { function = f; part = p }) → AreThere f.slot.bus → takes q s (record { function = f; part = p }) ≡ true → comes_to q s (record { function = f; part = p }) ≡ Some (addresses (record { function = f; part = p }))
+      by : (f : Function) (p : Part) → Contains (system_parts q s) (record { function = f; part = p }) → AreThere f.slot.bus → takes_growth q s (record { function = f; part = p }) ≡ true → comes_to q s (record { function = f; part = p }) ≡ Some (addresses (record { function = f; part = p }))
       by f (Window c) listed behind taken = comes_same c f listed behind
       by f (Bar n) listed behind taken = absurd (false≢true (ap is_some (taking q s (record { function = f; part = Bar n }) taken).comes))
       by f Rom listed behind taken = absurd (false≢true (ap is_some (taking q s (record { function = f; part = Rom }) taken).comes))

@@ -15,7 +15,7 @@ use Rattle.settle_spec.specs.Lines.{lines_on, taken_for}
 use Rattle.settle_spec.specs.Lists.{Request}
 use Rattle.settle_spec.specs.Parts.{FunctionPart, system_parts, function_parts, parts_of, header_parts, is_part, addresses, class_in, are_same_space}
 use Rattle.settle_spec.specs.Stands.{window_part, part_space, stands}
-use Rattle.settle_spec.specs.Items.{Item, in_turn, own_item, is_own, has_of, items_of, bus_items, new_window, taken_on, are_placed, has_places, has_room, holds_within, has_room_behind, stays, place_each, place_in}
+use Rattle.settle_spec.specs.Items.{PlacingItem, in_turn, own_item, is_own, has_of, items_of, bus_items, new_window, taken_on, are_placed, has_places, has_room, holds_within, has_room_behind, stays, place_each, place_in}
 use Rattle.settle_spec.proofs.Nested.{on_it}
 use Rattle.settle_laws.specs.Holding.{TellsRoom}
 use Rattle.settle_laws.proofs.Standing.{part_of, in_header, stands_by_itself}
@@ -58,7 +58,7 @@ module _ (q : Request) (s : System) where
           | inr off ↦ ap (λ b. b && not (test (record { function = f; part = p }))) off ∙ sym (ap (λ b. b && not (other (record { function = f; part = p }))) off)
         ]
 
-    abbrev window_item : Function → Bool → List Item
+    abbrev window_item : Function → Bool → List PlacingItem
     window_item f kept = cond (is_bridge f && has_of q s c f && not kept) (record { region = window_part c f; class = c; extent = new_window q s c f } ∷ []) []
 
     pub items_same_on : bus_items q s c test (new_window q s c) bus ≡ bus_items q s c other (new_window q s c) bus

@@ -13,8 +13,8 @@ use Rattle.settle_spec.specs.FirstPlace.{Extent, first_place, is_high, ranges_ar
 use Rattle.settle_spec.specs.Lines.{lines_on, taken_for}
 use Rattle.settle_spec.specs.Lists.{Request, class_ranges}
 use Rattle.settle_spec.specs.Parts.{FunctionPart, addresses, is_part, header_parts, function_parts, system_parts, class_in, bridge_over, are_same_space}
-use Rattle.settle_spec.specs.Stands.{window_part, part_space, is_in_lists, is_in_window, is_in_place, is_kept_off, leads_to_told, takes_from, are_beside, stands_within, stands, precedes}
-use Rattle.settle_spec.specs.Items.{Item, Placed, in_turn, own_item, is_own, has_of, items_of, bus_items, window_around, window_within, new_window, nothing, are_placed, taken_on, place_in, has_places, has_room, holds_within, has_room_behind, stays, place_each}
+use Rattle.settle_spec.specs.Stands.{window_part, part_space, is_in_lists, is_in_window, is_in_place, is_kept_off, leads_to_told, takes_from, are_beside, stands_within, stands, told_part_precedes}
+use Rattle.settle_spec.specs.Items.{PlacingItem, Placed, in_turn, own_item, is_own, has_of, items_of, bus_items, window_around, window_within, new_window, nothing, are_placed, taken_on, place_in, has_places, has_room, holds_within, has_room_behind, stays, place_each}
 use Rattle.settle_spec.specs.Places.{wide_ranges, placed_of, place_among, placed_range}
 use Rattle.settle_spec.specs.Keeping.Places.{place_behind, place_of_item, space_items, taken_at, placing_within, placing_on}
 use Rattle.settle_spec.proofs.ItemsOn.{each_in}
@@ -171,8 +171,8 @@ module _ (q : Request) (s : System) where
 
     apart_same : (r : FunctionPart) → part_space r ≡ Io → (t : FunctionPart) → not (takes_from p s t r && test t) ≡ not (takes_from q s t r && other t)
     apart_same r io t = by_taken (takes_from q s t r) (test t) (other t) (λ takes.
-        let both = and_parts (are_beside q t r && precedes q s t r) (not (ranges_are_apart (addresses t) (addresses r))) takes in
-        let beside = and_parts (are_beside q t r) (precedes q s t r) both.0 in
+        let both = and_parts (are_beside q t r && told_part_precedes q s t r) (not (ranges_are_apart (addresses t) (addresses r))) takes in
+        let beside = and_parts (are_beside q t r) (told_part_precedes q s t r) both.0 in
         let space = and_parts (are_siblings q.roots t.function.slot.bus r.function.slot.bus) (are_same_space (part_space t) (part_space r)) beside.0 in
         same t (beside_io (part_space t) (part_space r) io space.1))
 
@@ -230,7 +230,7 @@ module _ (q : Request) (s : System) where
   pub record AreAlikeInIo (k j : Kept) : Type 0 where
     pub stays : (r : FunctionPart) → part_space r ≡ Io → k.stays r ≡ j.stays r
     pub range : (r : FunctionPart) → part_space r ≡ Io → k.range r ≡ j.range r
-    pub place : (b : Function) (x : Item) (taken : List Range) → x.class ≡ IoWindow → k.place b x taken ≡ j.place b x taken
+    pub place : (b : Function) (x : PlacingItem) (taken : List Range) → x.class ≡ IoWindow → k.place b x taken ≡ j.place b x taken
 
   module _ (k j : Kept) (alike : AreAlikeInIo k j) where
     abbrev is_taken : ℕ → FunctionPart → Bool
@@ -249,7 +249,7 @@ module _ (q : Request) (s : System) where
         io_space Memory same = absurd (let no : ⊥ = cc in no)
 
     module _ (d e : ℕ → List Placed) (same : (bus : ℕ) → d bus ≡ e bus) where
-      behind_alike : (x : Item) (xs : List Range) → x.class ≡ IoWindow → (o : Option Function) → place_behind k d x xs o ≡ place_behind j e x xs o
+      behind_alike : (x : PlacingItem) (xs : List Range) → x.class ≡ IoWindow → (o : Option Function) → place_behind k d x xs o ≡ place_behind j e x xs o
       behind_alike x xs io None = refl
       behind_alike x xs io (Some b) =
           let stay = alike.stays (window_part x.class b) (ap window_space io) in
@@ -257,7 +257,7 @@ module _ (q : Request) (s : System) where
           let placed = same b.slot.bus in
           λ i. if stay i then place i else first_place (placed_range (place_among (window_part x.class b) (placed i))) xs x.extent
 
-      place_alike : (x : Item) (xs : List Range) → x.class ≡ IoWindow → place_of_item p s k d x xs ≡ place_of_item q s j e x xs
+      place_alike : (x : PlacingItem) (xs : List Range) → x.class ≡ IoWindow → place_of_item p s k d x xs ≡ place_of_item q s j e x xs
       place_alike x xs io =
           let bus = x.region.function.slot.bus in
           let root = on_root bus (is_high x.extent) x.class io in

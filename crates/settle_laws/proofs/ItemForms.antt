@@ -25,7 +25,7 @@ use Rattle.settle_spec.specs.Lists.{Request, wanted_in}
 use Rattle.settle_spec.specs.Spares.{has_slot, doubled_in, spare_extent, with_spare}
 use Rattle.settle_spec.specs.Parts.{FunctionPart, is_part, parts_of, header_parts, function_parts, class_in}
 use Rattle.settle_spec.specs.Stands.{rank, window_part}
-use Rattle.settle_spec.specs.Items.{Item, in_turn, own_extent, own_item, is_own, has_of, items_of, bus_items, highest_in, spare_of, window_around, window_within, new_window}
+use Rattle.settle_spec.specs.Items.{PlacingItem, in_turn, own_extent, own_item, is_own, has_of, items_of, bus_items, highest_in, spare_of, window_around, window_within, new_window}
 use Rattle.settle_spec.proofs.InTurn.{turn_same}
 use Rattle.settle_spec.proofs.ItemsOn.{each_on}
 use Rattle.settle_laws.proofs.HeaderParts.{part_cases}
@@ -55,7 +55,7 @@ own_power new f Rom plain = (lowest_one 0 (rom_at f.image f.probe), refl)
 own_power new f (Window kind) plain = absurd (both_ways true plain refl)
 
 -- the item of a part in a class
-abbrev pub item_by : (WindowKind → Function → Extent) → WindowKind → Function → Part → Item
+abbrev pub item_by : (WindowKind → Function → Extent) → WindowKind → Function → Part → PlacingItem
 item_by new c f p = record { region = record { function = f; part = p }; class = c; extent = extent_by new f p }
 
 -- a BAR or ROM that is looked at, or the window of a bridge with one of the class behind it
@@ -63,7 +63,7 @@ pub data IsPlaceable (q : Request) (s : System) (c : WindowKind) (f : Function) 
   IsOwnPart : (plain : is_window p ≡ false) → (part : is_part q s f p ≡ true) → IsPlaceable q s c f p
   IsNewWindow : (window : p ≡ Window c) → (bridge : is_bridge f ≡ true) → (has : has_of q s c f ≡ true) → IsPlaceable q s c f p
 
-pub record IsItemOf (q : Request) (s : System) (new : WindowKind → Function → Extent) (c : WindowKind) (bus : ℕ) (i : Item) : Type 0 where
+pub record IsItemOf (q : Request) (s : System) (new : WindowKind → Function → Extent) (c : WindowKind) (bus : ℕ) (i : PlacingItem) : Type 0 where
   pub f : Function
   pub p : Part
   pub listed : Contains s f
@@ -80,16 +80,16 @@ module _ (q : Request) (s : System) (new : WindowKind → Function → Extent) (
   abbrev opens : Function → Bool
   opens f = is_bridge f && has_of q s c f && not (keeps (window_part c f))
 
-  abbrev window : Function → Item
+  abbrev window : Function → PlacingItem
   window f = record { region = window_part c f; class = c; extent = new c f }
 
-  abbrev own : Function → List Item
+  abbrev own : Function → List PlacingItem
   own f = map (own_item c) (filter kept (function_parts q s f))
 
-  abbrev later : Function → List Item
+  abbrev later : Function → List PlacingItem
   later f = cond (opens f) (window f ∷ []) []
 
-  pub items_are : (i : Item) → Contains (bus_items q s c keeps (new c) bus) i → IsItemOf q s new c bus i
+  pub items_are : (i : PlacingItem) → Contains (bus_items q s c keeps (new c) bus) i → IsItemOf q s new c bus i
   items_are = each_on q s c keeps (new c) bus (IsItemOf q s new c bus)
       (λ f on p is. record {
         f = f;
@@ -112,10 +112,10 @@ module _ (q : Request) (s : System) (new : WindowKind → Function → Extent) (
         can = IsNewWindow refl is.bridge is.has;
       })
 
-  abbrev on_bus : Function → List Item
+  abbrev on_bus : Function → List PlacingItem
   on_bus f = cond (are_siblings q.roots bus f.slot.bus) (items_of q s c keeps (new c) f) []
 
-  put : (f : Function) (i : Item) → Contains s f → are_siblings q.roots bus f.slot.bus ≡ true → Contains (items_of q s c keeps (new c) f) i → Contains (bus_items q s c keeps (new c) bus) i
+  put : (f : Function) (i : PlacingItem) → Contains s f → are_siblings q.roots bus f.slot.bus ≡ true → Contains (items_of q s c keeps (new c) f) i → Contains (bus_items q s c keeps (new c) bus) i
   put f i listed beside has =
       let all = flat_map on_bus s in
       Contains-permutation all (in_turn all) i (turn_same all)
@@ -147,14 +147,14 @@ module _ (q : Request) (s : System) (new : WindowKind → Function → Extent) (
       (Contains-append_right (own f) (later f) (window f) (subst (λ b. Contains (cond b (window f ∷ []) []) (window f)) (sym now) (in_head (window f) [])))
 
   -- and none that is
-  pub item_moves : (i : Item) → Contains (bus_items q s c keeps (new c) bus) i → keeps i.region ≡ false
+  pub item_moves : (i : PlacingItem) → Contains (bus_items q s c keeps (new c) bus) i → keeps i.region ≡ false
   item_moves = each_on q s c keeps (new c) bus (λ i. keeps i.region ≡ false) (λ f on p is. is.moves) (λ f on is. is.moves)
 
 -- ---- alignments are powers of two
 
 -- those of items, where those of windows are
-pub item_power : (q : Request) (s : System) (new : WindowKind → Function → Extent) (c : WindowKind) (bus : ℕ) (i : Item) → ((b : Function) → IsPower (new c b).alignment) → IsItemOf q s new c bus i → IsPower i.extent.alignment
-item_power q s new c bus i power is = subst (λ (j : Item). IsPower j.extent.alignment) is.is (by is.can)
+pub item_power : (q : Request) (s : System) (new : WindowKind → Function → Extent) (c : WindowKind) (bus : ℕ) (i : PlacingItem) → ((b : Function) → IsPower (new c b).alignment) → IsItemOf q s new c bus i → IsPower i.extent.alignment
+item_power q s new c bus i power is = subst (λ (j : PlacingItem). IsPower j.extent.alignment) is.is (by is.can)
   where
     by : IsPlaceable q s c is.f is.p → IsPower (extent_by new is.f is.p).alignment
     by (IsOwnPart plain part) = own_power new is.f is.p plain
@@ -204,16 +204,16 @@ in_with_spare None extents e has = has
 in_with_spare (Some x) extents e has = Contains-append_left extents (x ∷ []) e has
 
 module _ (q : Request) (s : System) where
-  around_power : (c : WindowKind) (b : Function) (items : List Item) → ((i : Item) → Contains items i → IsPower i.extent.alignment) → IsPower (window_around q c b items).alignment
+  around_power : (c : WindowKind) (b : Function) (items : List PlacingItem) → ((i : PlacingItem) → Contains items i → IsPower i.extent.alignment) → IsPower (window_around q c b items).alignment
   around_power c b items each =
-      let extents = map (λ (i : Item). i.extent) items in
+      let extents = map (λ (i : PlacingItem). i.extent) items in
       let all = with_spare (spare_of q c b) extents in
       greatest_power (page_size c) (map (λ (e : Extent). e.alignment) all) (step_power c)
       (λ x has.
       let e : IsMade (λ (e : Extent). e.alignment) all x = in_map_to (λ (e : Extent). e.alignment) all x has in
       elim (with_spare_cases (spare_of q c b) extents e.from e.has) [
         | inl own ↦
-            let i : IsMade (λ (i : Item). i.extent) items e.from = in_map_to (λ (i : Item). i.extent) items e.from own in
+            let i : IsMade (λ (i : PlacingItem). i.extent) items e.from = in_map_to (λ (i : PlacingItem). i.extent) items e.from own in
             subst IsPower (ap (λ (e : Extent). e.alignment) i.is ∙ e.is) (each i.from i.has)
         | inr spare ↦ subst IsPower (ap alignment_or spare ∙ e.is) (spare_power q c b)
       ])
@@ -234,10 +234,10 @@ module _ (q : Request) (s : System) where
   -- ---- the items of a space
 
   -- a rank names one item
-  pub item_of_rank : IsSystem s → (c : WindowKind) (bus : ℕ) (i : Item) → IsItemOf q s (new_window q s) c bus i → (f : Function) (p : Part) → Contains s f → has_part f p ≡ true → rank i.region ≡ rank record { function = f; part = p }
+  pub item_of_rank : IsSystem s → (c : WindowKind) (bus : ℕ) (i : PlacingItem) → IsItemOf q s (new_window q s) c bus i → (f : Function) (p : Part) → Contains s f → has_part f p ≡ true → rank i.region ≡ rank record { function = f; part = p }
       → i ≡ item_by (new_window q s) (class_in q s f p) f p
   item_of_rank system c bus i o f p listed there ranks =
-      let own : rank record { function = o.f; part = o.p } ≡ rank record { function = f; part = p } = ap (λ (j : Item). rank j.region) o.is ∙ ranks in
+      let own : rank record { function = o.f; part = o.p } ≡ rank record { function = f; part = p } = ap (λ (j : PlacingItem). rank j.region) o.is ∙ ranks in
       let low = register_of-lt o.f o.p o.there in
       let high = register_of-lt f p there in
       let slot : slot_number o.f.slot ≡ slot_number f.slot = omega (arith, own, low, high) in

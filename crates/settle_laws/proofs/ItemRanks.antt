@@ -13,7 +13,7 @@ use Rattle.settle_spec.specs.FirstPlace.{Extent}
 use Rattle.settle_spec.specs.Lists.{Request}
 use Rattle.settle_spec.specs.Parts.{FunctionPart, is_part, parts_of, header_parts, function_parts}
 use Rattle.settle_spec.specs.Stands.{rank, window_part}
-use Rattle.settle_spec.specs.Items.{Item, in_turn, own_item, is_own, has_of, items_of, bus_items}
+use Rattle.settle_spec.specs.Items.{PlacingItem, in_turn, own_item, is_own, has_of, items_of, bus_items}
 use Rattle.settle_spec.specs.PlacingLaws.{HasOtherRank}
 use Rattle.settle_spec.proofs.InTurn.{turn_same}
 use Rattle.settle_spec.proofs.ItemsOn.{each_of, opened, placed_part}
@@ -33,21 +33,21 @@ module _ (q : Request) (s : System) (c : WindowKind) (keeps : FunctionPart → B
   abbrev opens : Function → Bool
   opens f = is_bridge f && has_of q s c f && not (keeps (window_part c f))
 
-  abbrev window : Function → Item
+  abbrev window : Function → PlacingItem
   window f = record { region = window_part c f; class = c; extent = extent f }
 
-  abbrev own : Function → List Item
+  abbrev own : Function → List PlacingItem
   own f = map (own_item c) (filter moves (function_parts q s f))
 
-  abbrev later : Function → List Item
+  abbrev later : Function → List PlacingItem
   later f = cond (opens f) (window f ∷ []) []
 
   -- ---- of a function
 
-  abbrev InSlot : Function → Item → Type 0
+  abbrev InSlot : Function → PlacingItem → Type 0
   InSlot f i = (slot_number f.slot * 256 ≤ rank i.region) × (rank i.region < slot_number f.slot * 256 + 64)
 
-  items_in_slot : (f : Function) (i : Item) → Contains (items_of q s c keeps extent f) i → InSlot f i
+  items_in_slot : (f : Function) (i : PlacingItem) → Contains (items_of q s c keeps extent f) i → InSlot f i
   items_in_slot f = each_of q s c keeps extent f (InSlot f)
       (λ p is. in_slot q s f (record { function = f; part = p }) (in_map_from (λ p. record { function = f; part = p }) (parts_of q s f) p (in_filter_from (is_part q s f) (header_parts f) p is.there is.part)))
       (λ is. let low = window_low c in (omega arith, omega (arith, low)))
@@ -56,26 +56,26 @@ module _ (q : Request) (s : System) (c : WindowKind) (keeps : FunctionPart → B
   own_differ f = pairs_map HasOtherRank (own_item c) (filter moves (function_parts q s f))
       (λ i j d up inside same. let less = pairs_filter (λ r t. rank r < rank t) moves (function_parts q s f) (own_rise q s f) i j d up inside in let no : ⊥ = omega (arith, less, same) in no)
 
-  one : (b : Bool) (i : Item) → AllPairs HasOtherRank (cond b (i ∷ []) [])
+  one : (b : Bool) (i : PlacingItem) → AllPairs HasOtherRank (cond b (i ∷ []) [])
   one true i = pairs_cons HasOtherRank i [] (λ j listed. absurd (in_nil j listed)) (pairs_nil HasOtherRank)
   one false i = pairs_nil HasOtherRank
 
   -- a BAR or ROM isn't a window
-  record IsPlain (f : Function) (i : Item) : Type 0 where
+  record IsPlain (f : Function) (i : PlacingItem) : Type 0 where
     p : Part
     region : record { function = f; part = p } ≡ i.region
     there : Contains (header_parts f) p
     plain : is_window p ≡ false
 
-  in_own : (f : Function) (i : Item) → Contains (own f) i → IsPlain f i
+  in_own : (f : Function) (i : PlacingItem) → Contains (own f) i → IsPlain f i
   in_own f i has =
       let made : IsMade (own_item c) (filter moves (function_parts q s f)) i = in_map_to (own_item c) (filter moves (function_parts q s f)) i has in
       let passed = in_filter_to moves (function_parts q s f) made.from made.has in
       let of : IsMade (λ p. record { function = f; part = p }) (parts_of q s f) made.from = in_map_to (λ p. record { function = f; part = p }) (parts_of q s f) made.from passed.0 in
       let is = placed_part q s c keeps extent f of.from of.has (ap moves of.is ∙ passed.1) in
-      record { p = of.from; region = of.is ∙ ap (λ (j : Item). j.region) made.is; there = is.there; plain = is.plain }
+      record { p = of.from; region = of.is ∙ ap (λ (j : PlacingItem). j.region) made.is; there = is.there; plain = is.plain }
 
-  other_window : (f : Function) (i : Item) → Contains (own f) i → opens f ≡ true → HasOtherRank i (window f)
+  other_window : (f : Function) (i : PlacingItem) → Contains (own f) i → opens f ≡ true → HasOtherRank i (window f)
   other_window f i has is same =
       let at = in_own f i has in
       let p = at.p in
@@ -98,7 +98,7 @@ module _ (q : Request) (s : System) (c : WindowKind) (keeps : FunctionPart → B
 
   -- ---- of a bus
 
-  abbrev on_bus : ℕ → Function → List Item
+  abbrev on_bus : ℕ → Function → List PlacingItem
   on_bus bus f = cond (are_siblings q.roots bus f.slot.bus) (items_of q s c keeps extent f) []
 
   if_differ : (b : Bool) (f : Function) → AllPairs HasOtherRank (cond b (items_of q s c keeps extent f) [])

@@ -21,7 +21,7 @@ use Rattle.settle_spec.proofs.Nested.{at_secondary, is_no_root}
 use Rattle.settle_laws.proofs.Apart.{apart_where_beside, in_window_over}
 use Rattle.settle_laws.proofs.Holding.{holds_by_bus, stays_by_bus}
 use Rattle.settle_laws.proofs.Standing.{stands_by_itself}
-use Rattle.settle_laws.specs.KeptLaws.{IsAside}
+use Rattle.settle_laws.specs.KeptLaws.{IsRangeApart}
 use Rattle.settle_laws.proofs.HeaderParts.{one_window, window_of}
 use Rattle.settle_laws.proofs.Held.{above_above, same_itself}
 use Rattle.std.proofs.lemmas.List.Elements.{Contains-append_cases, Contains-append_left, Contains-append_right}
@@ -52,7 +52,7 @@ lie_apart r t apart = elim (or_cases (nat_lt r.last t.first) (nat_lt t.last r.fi
 ]
 
 -- what lies in a range is outside what is apart from it
-pub outside_within : (r w t : Range) → LieApart r w → lies_within t w ≡ true → IsAside r t
+pub outside_within : (r w t : Range) → LieApart r w → lies_within t w ≡ true → IsRangeApart r t
 outside_within r w t apart within =
     let parts = and_parts (nat_le w.first t.first) (nat_le t.last w.last) within in
     let from = leb-true w.first t.first parts.0 in

@@ -16,7 +16,7 @@ use Rattle.settle_spec.specs.Lines.{lines_on, lines_behind, taken_for}
 use Rattle.settle_spec.specs.Lists.{Request}
 use Rattle.settle_spec.specs.Parts.{FunctionPart, system_parts, function_parts, parts_of, header_parts, is_part, addresses, class_in, are_same_space}
 use Rattle.settle_spec.specs.Stands.{are_beside, part_space, window_part}
-use Rattle.settle_spec.specs.Items.{Item, are_placed, place_each, has_room_behind, bus_items, new_window, taken_on, place_in}
+use Rattle.settle_spec.specs.Items.{PlacingItem, are_placed, place_each, has_room_behind, bus_items, new_window, taken_on, place_in}
 use Rattle.settle_spec.specs.PlacingLaws.{ArePlaced}
 use Rattle.settle_spec.specs.Kept.{Kept}
 use Rattle.settle_spec.specs.Keeping.Places.{taken_at}
@@ -24,7 +24,7 @@ use Rattle.settle_spec.proofs.Nested.{on_it}
 use Rattle.settle_laws.specs.KeptApart.{IsKeptApart}
 use Rattle.settle_laws.proofs.Holding.{items_same_on}
 use Rattle.settle_laws.proofs.Standing.{part_of}
-use Rattle.settle_laws.specs.KeptLaws.{IsAside, IsAlikeIn, HavePlaces}
+use Rattle.settle_laws.specs.KeptLaws.{IsRangeApart, IsAlikeIn, HavePlaces}
 use Rattle.settle_spec.proofs.Buses.{each_same}
 use Rattle.settle_laws.proofs.Held.{same_itself}
 use Rattle.settle_laws.proofs.ItemForms.{items_are, item_power, new_window_power}
@@ -90,11 +90,11 @@ module _ (q : Request) (s : System) (k : Kept) where
       subst (λ (r : FunctionPart). Contains (header_parts r.function) r.part) made.is (in_filter_to (is_part q s f) (header_parts f) made.from made.has).0
 
   -- alignments are never 0
-  pub items_aligned : (c : WindowKind) (keeps : FunctionPart → Bool) (bus : ℕ) (i : Item) → Contains (bus_items q s c keeps (new_window q s c) bus) i → 0 < i.extent.alignment
+  pub items_aligned : (c : WindowKind) (keeps : FunctionPart → Bool) (bus : ℕ) (i : PlacingItem) → Contains (bus_items q s c keeps (new_window q s c) bus) i → 0 < i.extent.alignment
   items_aligned c keeps bus i has = power_pos i.extent.alignment (item_power q s (new_window q s) c bus i (new_window_power q s c) (items_are q s (new_window q s) c keeps bus i has))
 
-  pub item_class : (c : WindowKind) (keeps : FunctionPart → Bool) (bus : ℕ) (i : Item) → Contains (bus_items q s c keeps (new_window q s c) bus) i → i.class ≡ c
-  item_class c keeps bus i has = let is = items_are q s (new_window q s) c keeps bus i has in ap (λ (j : Item). j.class) (sym is.is)
+  pub item_class : (c : WindowKind) (keeps : FunctionPart → Bool) (bus : ℕ) (i : PlacingItem) → Contains (bus_items q s c keeps (new_window q s c) bus) i → i.class ≡ c
+  item_class c keeps bus i has = let is = items_are q s (new_window q s) c keeps bus i has in ap (λ (j : PlacingItem). j.class) (sym is.is)
 
   module _ (system : IsSystem s) (nested : IsNested q.roots s) (b : Function) (listed : Contains s b) (bridge : is_bridge b ≡ true) where
     abbrev bus : ℕ
@@ -120,13 +120,13 @@ module _ (q : Request) (s : System) (k : Kept) where
           (ap (are_same_space (window_space c)) (sym spaces) ∙ same_itself (window_space c))
 
       -- what stays behind in the other class is outside the window
-      pub other_kept : (t : Range) (is : IsKeptThere (window_space c) bus t) → same_class c (class_in q s is.of.function is.of.part) ≡ false → IsAside (k.range w) t
+      pub other_kept : (t : Range) (is : IsKeptThere (window_space c) bus t) → same_class c (class_in q s is.of.function is.of.part) ≡ false → IsRangeApart (k.range w) t
       other_kept t is differ =
           let r = is.of in
           let d = class_in q s r.function r.part in
           let over = apart.windows r b is.listed is.kept (off_root r.function.slot.bus is.beside) (leads_to r.function.slot.bus is.beside) in
           let spaces : window_space c ≡ window_space d = sym is.at ∙ sym (space_of_class q s r.function r.part) in
-          subst (IsAside (k.range w)) is.is
+          subst (IsRangeApart (k.range w)) is.is
           (outside_within (k.range w) (k.range (window_part d b)) (k.range r)
           (lie_apart (k.range w) (k.range (window_part d b))
           (apart.apart w (window_part d b) (window_listed q s system nested b listed bridge c (apart.stands w keeps)) (window_listed q s system nested b listed bridge d (apart.stands (window_part d b) over.1)) keeps over.1
@@ -138,11 +138,11 @@ module _ (q : Request) (s : System) (k : Kept) where
       module _ (same : k.range w ≡ addresses w) (holds : has_room_behind q s w ≡ true)
           (stay : (t : FunctionPart) → Contains s t.function → Contains (header_parts t.function) t.part → are_siblings q.roots bus t.function.slot.bus ≡ true → class_in q s t.function t.part ≡ c → k.stays t ≡ has_room_behind q s t)
           (own : (t : FunctionPart) → are_siblings q.roots bus t.function.slot.bus ≡ true → class_in q s t.function t.part ≡ c → k.stays t ≡ true → k.range t ≡ addresses t)
-          (own_place : (i : Item) (xs : List Range) → i.class ≡ c → k.place b i xs ≡ place_in (addresses w) i xs) where
+          (own_place : (i : PlacingItem) (xs : List Range) → i.class ≡ c → k.place b i xs ≡ place_in (addresses w) i xs) where
         abbrev holding_on : List Range
         holding_on = taken_on q s c (has_room_behind q s) bus
 
-        abbrev items : List Item
+        abbrev items : List PlacingItem
         items = bus_items q s c k.stays (new_window q s c) bus
 
         held : (t : FunctionPart) → Contains (system_parts q s) t → are_siblings q.roots bus t.function.slot.bus ≡ true → class_in q s t.function t.part ≡ c → k.stays t ≡ has_room_behind q s t
@@ -167,7 +167,7 @@ module _ (q : Request) (s : System) (k : Kept) where
           ]
         ]
 
-        of_other : (t : Range) (is : IsTaken q s (window_space c) (has_room_behind q s) bus t) → same_class c (class_in q s is.of.function is.of.part) ≡ false → IsAside (addresses w) t
+        of_other : (t : Range) (is : IsTaken q s (window_space c) (has_room_behind q s) bus t) → same_class c (class_in q s is.of.function is.of.part) ≡ false → IsRangeApart (addresses w) t
         of_other t is differ =
             let r = is.of in
             let in_r = (part_of q s r is.listed).listed in
@@ -175,7 +175,7 @@ module _ (q : Request) (s : System) (k : Kept) where
             let stands_w = apart.stands w keeps in
             let within = within_over q s system nested b listed bridge r is.listed (on_bus r.function.slot.bus is.beside) (holding q s system nested r in_r is.kept).stands in
             let itself = or_left (b.slot.bus == b.slot.bus) (is_root q.roots b.slot.bus && is_root q.roots b.slot.bus) (eq-eqb b.slot.bus b.slot.bus refl) in
-            subst (IsAside (addresses w)) is.is
+            subst (IsRangeApart (addresses w)) is.is
             (outside_within (addresses w) (addresses (window_part d b)) (addresses r)
             (stand_apart q s system nested b.slot.bus w (window_part d b) (window_listed q s system nested b listed bridge c stands_w) (window_listed q s system nested b listed bridge d within.1) stands_w within.1
             itself itself (sym is.at ∙ sym (space_of_class q s r.function r.part))
@@ -190,21 +190,21 @@ module _ (q : Request) (s : System) (k : Kept) where
                 let class = same_class_is c (class_in q s r.function r.part) one in
                 let kept = held r is.listed is.beside class ∙ is.kept in
                 inl (there_kept (window_space c) bus t record { of = r; listed = is.listed; beside = is.beside; at = is.at; kept = kept; is = own r is.beside class kept ∙ is.is })
-            | inr other ↦ inr (subst (λ v. IsAside v t) (sym same) (of_other t is other))
+            | inr other ↦ inr (subst (λ v. IsRangeApart v t) (sym same) (of_other t is other))
           ]
         ]
 
         through : (xs ys zs : List Range) → IsAlikeIn (k.range w) xs ys → IsAlikeIn (k.range w) ys zs → IsAlikeIn (addresses w) xs zs
         through xs ys zs first second t has = elim (first t has) [
-          | inl there ↦ elim (second t there) [ inl further ↦ inl further | inr out ↦ inr (subst (λ v. IsAside v t) same out) ]
-          | inr out ↦ inr (subst (λ v. IsAside v t) same out)
+          | inl there ↦ elim (second t there) [ inl further ↦ inl further | inr out ↦ inr (subst (λ v. IsRangeApart v t) same out) ]
+          | inr out ↦ inr (subst (λ v. IsRangeApart v t) same out)
         ]
 
         pub standing_places : (taken : List Range) → IsAlikeIn (k.range w) taken (taken_at q s k (window_space c) bus) → IsAlikeIn (k.range w) (taken_at q s k (window_space c) bus) taken
             → HavePlaces q (k.range w) (k.place b) taken items
         standing_places taken to back =
-            let more : Item → List Range = λ i. lines_behind q i.region in
-            let find : Item → List Range → Option ℕ = λ i xs. place_in (addresses w) i (taken_for q i.region xs) in
+            let more : PlacingItem → List Range = λ i. lines_behind q i.region in
+            let find : PlacingItem → List Range → Option ℕ = λ i xs. place_in (addresses w) i (taken_for q i.region xs) in
             let at = taken_at q s k (window_space c) bus in
             let pos = items_aligned c k.stays bus in
             let alike : place_each find taken items ≡ place_each find holding_on (bus_items q s c (has_room_behind q s) (new_window q s c) bus) =

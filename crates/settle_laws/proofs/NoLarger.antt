@@ -22,7 +22,7 @@ use Rattle.settle_spec.specs.FirstPlace.{Extent}
 use Rattle.settle_spec.specs.Lists.{Request, wanted_in}
 use Rattle.settle_spec.specs.Spares.{spare_extent, with_spare}
 use Rattle.settle_spec.specs.Parts.{FunctionPart, class_in}
-use Rattle.settle_spec.specs.Items.{Item, items_of, bus_items, nothing, laid_out, end_of, highest_in, extent_around, window_around, new_window}
+use Rattle.settle_spec.specs.Items.{PlacingItem, items_of, bus_items, nothing, laid_out, end_of, highest_in, extent_around, window_around, new_window}
 use Rattle.settle_spec.proofs.Nested.{at_secondary, is_no_root, on_it}
 use Rattle.settle_spec.proofs.NewWindows.{window_is_around}
 use Rattle.settle_laws.proofs.ItemForms.{extent_by, IsPlaceable, IsOwnPart, IsNewWindow, IsItemOf, items_are, own_power, new_window_power}
@@ -33,7 +33,7 @@ use Rattle.settle_laws.proofs.TurnFalls.{turn_falls}
 module _ (q : Request) (s : System) (pools : Pools) (c : WindowKind) (system : IsSystem s) (nested : IsNested q.roots s)
     (classes : (f : Function) (p : Part) → class_in q s f p ≡ class_of s pools f p)
     (small : (b : Function) → Contains s b → is_bridge b ≡ true → need_behind s pools c b ≤ 2 ^ 65) where
-  abbrev size : Item → ℕ
+  abbrev size : PlacingItem → ℕ
   size i = planned s pools c i
 
   own_aside : (f : Function) (p : Part) → is_window p ≡ false → IsSetAside (extent_by (new_window q s) f p) (size_in s pools c f p)
@@ -42,10 +42,10 @@ module _ (q : Request) (s : System) (pools : Pools) (c : WindowKind) (system : I
   own_aside f (Window kind) plain = absurd (both_ways true plain refl)
 
   -- an item's place is set aside, where that of windows is
-  pub item_aside : (bus : ℕ) (i : Item) → IsItemOf q s (new_window q s) c bus i
+  pub item_aside : (bus : ℕ) (i : PlacingItem) → IsItemOf q s (new_window q s) c bus i
       → ((b : Function) → Contains s b → is_bridge b ≡ true → are_siblings q.roots bus b.slot.bus ≡ true → IsSetAside (new_window q s c b) (size_in s pools c b (Window c)))
       → IsSetAside i.extent (size i)
-  item_aside bus i is windows = subst (λ (j : Item). IsSetAside j.extent (size j)) is.is (by is.can)
+  item_aside bus i is windows = subst (λ (j : PlacingItem). IsSetAside j.extent (size j)) is.is (by is.can)
     where
       by : IsPlaceable q s c is.f is.p → IsSetAside (extent_by (new_window q s) is.f is.p) (size_in s pools c is.f is.p)
       by (IsOwnPart plain part) = own_aside is.f is.p plain
@@ -54,7 +54,7 @@ module _ (q : Request) (s : System) (pools : Pools) (c : WindowKind) (system : I
   -- the items of a bus
   pub items_aside : (keeps : FunctionPart → Bool) (start bus : ℕ)
       → ((b : Function) → Contains s b → is_bridge b ≡ true → are_siblings q.roots bus b.slot.bus ≡ true → IsSetAside (new_window q s c b) (size_in s pools c b (Window c)))
-      → ((i : Item) → Contains (bus_items q s c keeps (new_window q s c) bus) i → start % i.extent.alignment ≡ 0)
+      → ((i : PlacingItem) → Contains (bus_items q s c keeps (new_window q s c) bus) i → start % i.extent.alignment ≡ 0)
       → AreSetAside size start (bus_items q s c keeps (new_window q s c) bus)
   items_aside keeps start bus windows even = record {
     each = λ i listed. item_aside bus i (items_are q s (new_window q s) c keeps bus i listed) windows;
@@ -63,11 +63,11 @@ module _ (q : Request) (s : System) (pools : Pools) (c : WindowKind) (system : I
   }
 
   -- a window around items without a spare
-  abbrev around_items : Function → List Item → Extent
-  around_items b items = extent_around (page_size c) (highest_in c b.probe) (map (λ (i : Item). i.extent) items)
+  abbrev around_items : Function → List PlacingItem → Extent
+  around_items b items = extent_around (page_size c) (highest_in c b.probe) (map (λ (i : PlacingItem). i.extent) items)
 
   -- one around items that are set aside
-  around_aside : (b : Function) (items : List Item) → AreSetAside size 0 items → sum_by size items ≤ need_behind s pools c b → need_behind s pools c b ≤ 2 ^ 65
+  around_aside : (b : Function) (items : List PlacingItem) → AreSetAside size 0 items → sum_by size items ≤ need_behind s pools c b → need_behind s pools c b ≤ 2 ^ 65
       → IsPower (around_items b items).alignment → IsSetAside (around_items b items) (size_in s pools c b (Window c))
   around_aside b items aside within less power =
       let least = window_least c (need_behind s pools c b) less in
@@ -75,13 +75,13 @@ module _ (q : Request) (s : System) (pools : Pools) (c : WindowKind) (system : I
       let enough = least.enough in
       let steps = least.steps in
       let end = laid_ends size 0 [] items aside (λ t listed. absurd (in_nil t listed)) in
-      let whole = raised (page_size c) (end_of (laid_out [] (map (λ (i : Item). i.extent) items))) (power_pos (page_size c) (step_power c)) in
+      let whole = raised (page_size c) (end_of (laid_out [] (map (λ (i : PlacingItem). i.extent) items))) (power_pos (page_size c) (step_power c)) in
       let pages = whole.least n (mod_of_multiple n (page_size c) (power_multiple n (page_size c) least.power (step_power c) steps)) (omega (arith, end, within, enough)) in
-      let alignments = map (λ (e : Extent). e.alignment) (map (λ (i : Item). i.extent) items) in
+      let alignments = map (λ (e : Extent). e.alignment) (map (λ (i : PlacingItem). i.extent) items) in
       let total = sum-map size items in
       let most = greatest_least n alignments (λ x has.
-      let e : IsMade (λ (e : Extent). e.alignment) (map (λ (i : Item). i.extent) items) x = in_map_to (λ (e : Extent). e.alignment) (map (λ (i : Item). i.extent) items) x has in
-      let i : IsMade (λ (i : Item). i.extent) items e.from = in_map_to (λ (i : Item). i.extent) items e.from e.has in
+      let e : IsMade (λ (e : Extent). e.alignment) (map (λ (i : PlacingItem). i.extent) items) x = in_map_to (λ (e : Extent). e.alignment) (map (λ (i : PlacingItem). i.extent) items) x has in
+      let i : IsMade (λ (i : PlacingItem). i.extent) items e.from = in_map_to (λ (i : PlacingItem). i.extent) items e.from e.has in
       let fine = (aside.each i.from i.has).even in
       let one = contained_le_sum (map size items) (size i.from) (in_map_from size items i.from i.has) in
       let same : i.from.extent.alignment ≡ x = ap (λ (e : Extent). e.alignment) i.is ∙ e.is in
@@ -98,11 +98,11 @@ module _ (q : Request) (s : System) (pools : Pools) (c : WindowKind) (system : I
 
   -- without slots no window has a spare
   module _ (none : q.slots ≡ []) where
-    without_spare : (b : Function) (items : List Item) → window_around q c b items ≡ around_items b items
+    without_spare : (b : Function) (items : List PlacingItem) → window_around q c b items ≡ around_items b items
     without_spare b items = ap
         (λ slots. extent_around (page_size c) (highest_in c b.probe)
         (with_spare (cond (list_any (same_slot b.slot) slots && is_bridge b && nat_lt 0 (wanted_in q.spares c)) (Some (spare_extent c (wanted_in q.spares c) (highest_in c b.probe))) None)
-        (map (λ (i : Item). i.extent) items))) none
+        (map (λ (i : PlacingItem). i.extent) items))) none
 
     fits_by : (b : Function) → Contains s b → is_bridge b ≡ true
         → ((d : Function) → Contains s d → is_bridge d ≡ true → are_siblings q.roots (secondary b) d.slot.bus ≡ true → IsSetAside (new_window q s c d) (size_in s pools c d (Window c)))

@@ -11,11 +11,11 @@ use Rattle.plan_spec.specs.Plan.{bridges_above}
 use Rattle.settle_spec.specs.Lists.{Request}
 use Rattle.settle_spec.specs.Parts.{FunctionPart, system_parts, addresses, class_in}
 use Rattle.settle_spec.specs.Stands.{window_part, stands}
-use Rattle.settle_spec.specs.Items.{Item, stays, place_in}
+use Rattle.settle_spec.specs.Items.{PlacingItem, stays, place_in}
 use Rattle.settle_spec.specs.Places.{placed_of, place_among}
-use Rattle.settle_spec.specs.Growth.{taken_around, window_comes_to, part_comes_to, is_clear, takes, there, comes_to, has_grown}
+use Rattle.settle_spec.specs.Growth.{taken_around, window_comes_to, part_comes_to, is_clear, takes_growth, there, comes_to, has_grown}
 use Rattle.settle_spec.specs.Writes.{Settling, BadLists, Fixed, NoRoom, Settled, NotKept}
-use Rattle.settle_spec.specs.Kept.{no_wish, as_it_stands, stays_growing, range_or, range_growing, place_of, place_growing, growing}
+use Rattle.settle_spec.specs.Kept.{no_wish, as_it_stands, stays_growing, range_or, range_growing, address_of_placed, place_growing, growing}
 use Rattle.settle_spec.specs.Keeping.Writes.{settle_keeping}
 use Rattle.settle_spec.specs.Growing.{or_else, settle_growing}
 use Rattle.settle_laws.proofs.Told.OnlyHeld.{held_of, none_stands, none_stays}
@@ -28,11 +28,11 @@ module _ (q : Request) (held : AllLinesAreHeld q) (s : System) (anew : IsTrue q.
   none_come f Rom = refl
   none_come f (Window c) = ap (λ b. if b then window_comes_to q s (there q s) c f else None) (none_stands q s anew held (length (system_parts q s)) (window_part c f))
 
-  none_takes : (r : FunctionPart) → takes q s r ≡ false
+  none_takes : (r : FunctionPart) → takes_growth q s r ≡ false
   none_takes r = ap (is_clear q s (there q s) r) (none_come r.function r.part)
 
   none_grows : (r : FunctionPart) → has_grown q s r ≡ false
-  none_grows r = ap (λ b. b && list_all (λ b. takes q s (window_part (class_in q s r.function r.part) b)) (bridges_above s r.function.slot.bus)) (none_takes r)
+  none_grows r = ap (λ b. b && list_all (λ b. takes_growth q s (window_part (class_in q s r.function r.part) b)) (bridges_above s r.function.slot.bus)) (none_takes r)
 
   same_stays : (r : FunctionPart) → stays_growing q s r ≡ stays q s r
   same_stays r =
@@ -42,8 +42,8 @@ module _ (q : Request) (held : AllLinesAreHeld q) (s : System) (anew : IsTrue q.
   same_range : (r : FunctionPart) → range_growing q s r ≡ addresses r
   same_range r = ap (λ b. if b then range_or (comes_to q s r) (addresses r) else addresses r) (none_grows r)
 
-  same_place : (b : Function) (i : Item) (taken : List Range) → place_growing q s b i taken ≡ place_in (addresses (window_part i.class b)) i taken
-  same_place b i taken = ap (λ g. if g then place_of (place_among i.region (placed_of (taken_around q s (there q s) i.class b))) else place_in (addresses (window_part i.class b)) i taken) (none_grows (window_part i.class b))
+  same_place : (b : Function) (i : PlacingItem) (taken : List Range) → place_growing q s b i taken ≡ place_in (addresses (window_part i.class b)) i taken
+  same_place b i taken = ap (λ g. if g then address_of_placed (place_among i.region (placed_of (taken_around q s (there q s) i.class b))) else place_in (addresses (window_part i.class b)) i taken) (none_grows (window_part i.class b))
 
   -- the same is kept
   pub growing_is_standing : growing q s ≡ as_it_stands q s

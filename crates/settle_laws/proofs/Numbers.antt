@@ -5,7 +5,7 @@ use Rattle.std.proofs.lemmas.List.{length-set, get_or-set_same, get_or-set_other
 use Rattle.std.proofs.Math.Nat.{div-div-eq-div-mul, pow-succ'}
 use Rattle.pci_spec.specs.Number.{byte_at, IsImage}
 use Rattle.pci_spec.specs.Header.{command}
-use Rattle.settle_spec.specs.Registers.{with_number}
+use Rattle.judge_spec.specs.Windows.{with_number}
 
 pub length_with : (w o v : ℕ) (image : List ℕ) → length (with_number w o v image) ≡ length image
 length_with zero o v image = refl

@@ -4,7 +4,7 @@ use Rattle.std.proofs.lemmas.List.{length-set}
 use Rattle.std.proofs.lemmas.Nat.{shr-shr}
 use Rattle.pci_spec.specs.Number.{byte_at, number_at}
 use Rattle.plan_spec.proofs.Planning.Registers.{powers_same}
-use Rattle.settle_spec.specs.Registers.{with_number}
+use Rattle.judge_spec.specs.Windows.{with_number}
 use Rattle.settle_laws.proofs.Numbers.{with_first}
 
 next_byte : (v k : ℕ) → v / 256 / 256 ^ k ≡ v / 256 ^ (suc k)

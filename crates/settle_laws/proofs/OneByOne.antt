@@ -12,12 +12,12 @@ use Rattle.plan_spec.specs.Planning.Placing.{IsPower}
 use Rattle.plan_spec.proofs.Planning.Placement.{mod_of_multiple, multiple_of_mod, multiple_add, power_multiple, power_pos}
 use Rattle.plan_spec.proofs.Planning.Tallies.{greatest_least}
 use Rattle.settle_spec.specs.FirstPlace.{Extent, ends_by, first_spot, first_place, else_at}
-use Rattle.settle_spec.specs.Items.{Item, Placing, AllPlaced, Lacks, and_placed, place_next, place_all, are_placed, taken_by, laid_out, end_of}
+use Rattle.settle_spec.specs.Items.{PlacingItem, Placing, AllPlaced, Lacks, and_placed, place_next, place_all, are_placed, taken_by, laid_out, end_of}
 use Rattle.settle_spec.proofs.FirstSpot.{spot_from, spot_gives, least_spot}
 use Rattle.settle_laws.proofs.Powers.{multiple_below}
 
 -- an item is as aligned as another or less
-abbrev pub IsNoMoreAligned : Item → Item → Type 0
+abbrev pub IsNoMoreAligned : PlacingItem → PlacingItem → Type 0
 IsNoMoreAligned i j = j.extent.alignment ≤ i.extent.alignment
 
 -- what is set aside for an item is a power of two that is no less than its size and its alignment
@@ -28,19 +28,19 @@ pub record IsSetAside (e : Extent) (size : ℕ) : Type 0 where
   pub holds : e.size ≤ size
 
 -- the ranges of an item begin with one, all of whose addresses it can have
-pub record HasFirst (ranges : Item → List Range) (r : Range) (i : Item) : Type 0 where
+pub record HasFirst (ranges : PlacingItem → List Range) (r : Range) (i : PlacingItem) : Type 0 where
   pub more : List Range
   pub begins : ranges i ≡ r ∷ more
   pub below : r.last ≤ i.extent.highest
 
-module _ (aside : Item → ℕ) where
+module _ (aside : PlacingItem → ℕ) where
   -- all items are set aside, and a start is a multiple of their alignments
-  pub record AreSetAside (start : ℕ) (items : List Item) : Type 0 where
-    pub each : (i : Item) → Contains items i → IsSetAside i.extent (aside i)
-    pub even : (i : Item) → Contains items i → start % i.extent.alignment ≡ 0
+  pub record AreSetAside (start : ℕ) (items : List PlacingItem) : Type 0 where
+    pub each : (i : PlacingItem) → Contains items i → IsSetAside i.extent (aside i)
+    pub even : (i : PlacingItem) → Contains items i → start % i.extent.alignment ≡ 0
     pub falling : AllPairs IsNoMoreAligned items
 
-  rest_aside : (start : ℕ) (i : Item) (items : List Item) → AreSetAside start (i ∷ items) → AreSetAside (start + aside i) items
+  rest_aside : (start : ℕ) (i : PlacingItem) (items : List PlacingItem) → AreSetAside start (i ∷ items) → AreSetAside (start + aside i) items
   rest_aside start i items h = record {
     each = λ j listed. h.each j (in_tail i items j listed);
     even = λ j listed.
@@ -56,7 +56,7 @@ module _ (aside : Item → ℕ) where
 
   -- ---- laid out
 
-  spot_below : (low start : ℕ) (taken : List Range) (i : Item) (items : List Item) → AreSetAside start (i ∷ items) → low ≤ start
+  spot_below : (low start : ℕ) (taken : List Range) (i : PlacingItem) (items : List PlacingItem) → AreSetAside start (i ∷ items) → low ≤ start
       → ((t : Range) → Contains taken t → (t.last < start) ⊎ (start + (i.extent.size - 1) < t.first)) → first_spot low taken i.extent ≤ start
   spot_below low start taken i items h from off =
       let own = h.each i (in_head i items) in
@@ -67,8 +67,8 @@ module _ (aside : Item → ℕ) where
         free = λ t listed. elim (off t listed) [ inl under ↦ inr under | inr over ↦ inl over ];
       })
 
-  pub laid_ends : (start : ℕ) (taken : List Range) (items : List Item) → AreSetAside start items → ((t : Range) → Contains taken t → t.last < start)
-      → end_of (laid_out taken (map (λ (i : Item). i.extent) items)) ≤ start + sum_by aside items
+  pub laid_ends : (start : ℕ) (taken : List Range) (items : List PlacingItem) → AreSetAside start items → ((t : Range) → Contains taken t → t.last < start)
+      → end_of (laid_out taken (map (λ (i : PlacingItem). i.extent) items)) ≤ start + sum_by aside items
   laid_ends start taken [] h below =
       let end = greatest_least start (map (λ (t : Range). t.last + 1) taken) (λ x has.
       let made : IsMade (λ (t : Range). t.last + 1) taken x = in_map_to (λ (t : Range). t.last + 1) taken x has in
@@ -94,13 +94,13 @@ module _ (aside : Item → ℕ) where
 
   -- ---- placed in the first of some ranges
 
-  placed_too : (i : Item) (a : ℕ) (p : Placing) → are_placed (and_placed i a p) ≡ are_placed p
+  placed_too : (i : PlacingItem) (a : ℕ) (p : Placing) → are_placed (and_placed i a p) ≡ are_placed p
   placed_too i a (AllPlaced placed) = refl
   placed_too i a (Lacks j) = refl
 
-  module _ (ranges : Item → List Range) (r : Range) (others : List Item) where
-    pub all_in_first : (start : ℕ) (taken : List Range) (items : List Item) → AreSetAside start items → r.first ≤ start → start + sum_by aside items ≤ r.last + 1
-        → ((i : Item) → Contains items i → HasFirst ranges r i)
+  module _ (ranges : PlacingItem → List Range) (r : Range) (others : List PlacingItem) where
+    pub all_in_first : (start : ℕ) (taken : List Range) (items : List PlacingItem) → AreSetAside start items → r.first ≤ start → start + sum_by aside items ≤ r.last + 1
+        → ((i : PlacingItem) → Contains items i → HasFirst ranges r i)
         → ((t : Range) → Contains taken t → (t.last < start) ⊎ (r.last < t.first))
         → ((later : List Range) → ((t : Range) → Contains later t → Contains taken t ⊎ IsInside t r) → are_placed (place_all ranges later others) ≡ true)
         → are_placed (place_all ranges taken (items ++ others)) ≡ true

@@ -20,7 +20,7 @@ use Rattle.settle_spec.specs.Lists.{Request}
 use Rattle.settle_spec.specs.Parts.{has_left, are_same_space}
 use Rattle.settle_spec.specs.Keeping.Registers.{settled_function, settled_command}
 use Rattle.settle_spec.specs.Writes.{differs_at, part_registers, closing_registers, setting_registers, upper_halves}
-use Rattle.settle_spec.specs.Keeping.Writes.{changes_window, is_left_on, is_replaced, closed_function, closing_of, setting_of, closing_from, setting_from, opening_from, closings, settle_writes}
+use Rattle.settle_spec.specs.Keeping.Writes.{changes_window, is_left_on, is_replaced, closed_function, change_to_closed, setting_of, closing_from, setting_from, opening_from, closings, settle_writes}
 use Rattle.settle_laws.specs.WriteLaws.{KeepsRegisters}
 use Rattle.settle_laws.proofs.ClosedSame.{none_flat, no_difference}
 use Rattle.settle_laws.proofs.Keeping.ChangedWindows.{no_window_changes}
@@ -113,7 +113,7 @@ module _ (q : Request) (s : System) (k : Kept) (system : IsSystem s) (f : Functi
   at_slot g in_g same = one_function s system g f in_g listed (ap slot_number same)
 
   no_closing : closing_from q s k f ≡ []
-  no_closing = none_flat (register_write (closing_of q s k f)) (closing_registers f) (λ r has. no_difference (closing_of q s k f) r (ap (λ (g : Function). number_at g.image r.0 r.1) closed_is))
+  no_closing = none_flat (register_write (change_to_closed q s k f)) (closing_registers f) (λ r has. no_difference (change_to_closed q s k f) r (ap (λ (g : Function). number_at g.image r.0 r.1) closed_is))
 
   no_setting : setting_from q s k f ≡ []
   no_setting = none_flat (register_write (setting_of q s k f)) (setting_registers (setting_of q s k f)) (λ r has.
@@ -129,7 +129,7 @@ module _ (q : Request) (s : System) (k : Kept) (system : IsSystem s) (f : Functi
   only_opened w has same = elim (Contains-append_cases (closings q s k s) (flat_map (setting_from q s k) s ++ flat_map (opening_from q s k) s) w has) [
     | inl closing ↦
         let piece : IsInPiece (closing_from q s k) s w = closing_piece q s k s w closing in
-        let is = at_slot piece.of piece.has (sym (own_writes q s k system (closing_of q s k piece.of) (closing_registers piece.of) w piece.piece) ∙ same) in
+        let is = at_slot piece.of piece.has (sym (own_writes q s k system (change_to_closed q s k piece.of) (closing_registers piece.of) w piece.piece) ∙ same) in
         absurd (in_nil w (subst (λ ws. Contains ws w) (ap (closing_from q s k) is ∙ no_closing) piece.piece))
     | inr later ↦ elim (Contains-append_cases (flat_map (setting_from q s k) s) (flat_map (opening_from q s k) s) w later) [
       | inl setting ↦

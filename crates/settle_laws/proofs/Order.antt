@@ -9,7 +9,7 @@ use Rattle.pci_spec.specs.System.{System}
 use Rattle.settle_spec.specs.Lists.{Request}
 use Rattle.settle_spec.specs.Parts.{FunctionPart, addresses}
 use Rattle.settle_laws.specs.Order.{level, comes_first}
-use Rattle.settle_spec.specs.Stands.{is_fixed_part, is_part_on, count, rank, first_by, part_precedes, precedes, leads_to_one_on}
+use Rattle.settle_spec.specs.Stands.{is_fixed_part, is_part_on, count, rank, first_by, part_precedes, told_part_precedes, leads_to_one_on}
 
 -- ---- precedence
 
@@ -78,13 +78,13 @@ module _ (q : Request) (s : System) where
   abbrev leads : FunctionPart → Bool
   leads r = leads_to_one_on q s r
 
-  pub precedes_trans : (r t u : FunctionPart) → precedes q s r t ≡ true → precedes q s t u ≡ true → precedes q s r u ≡ true
+  pub precedes_trans : (r t u : FunctionPart) → told_part_precedes q s r t ≡ true → told_part_precedes q s t u ≡ true → told_part_precedes q s r u ≡ true
   precedes_trans r t u h k = first_trans (leads r) (leads t) (leads u) (part_precedes q r t) (part_precedes q t u) (part_precedes q r u) (part_trans r t u) h k
 
-  pub precedes_itself : (r : FunctionPart) → precedes q s r r ≡ false
+  pub precedes_itself : (r : FunctionPart) → told_part_precedes q s r r ≡ false
   precedes_itself r = first_itself (leads r) (part_precedes q r r) (part_itself r)
 
-  pub precedes_else : (r t : FunctionPart) → rank r ≢ rank t → precedes q s r t ≡ false → precedes q s t r ≡ true
+  pub precedes_else : (r t : FunctionPart) → rank r ≢ rank t → told_part_precedes q s r t ≡ false → told_part_precedes q s t r ≡ true
   precedes_else r t differ h = first_else (leads r) (leads t) (part_precedes q r t) (part_precedes q t r) (part_else r t differ) h
 
   -- ---- buses
@@ -98,10 +98,10 @@ module _ (q : Request) (s : System) where
   pub first_first : (r t u : FunctionPart) → comes_first q s r t ≡ true → comes_first q s t u ≡ true → comes_first q s r u ≡ true
   first_first r t u h k =
       by_level (level q r.function.slot.bus) (level q t.function.slot.bus) (level q u.function.slot.bus)
-      (precedes q s r t) (precedes q s t u) (precedes q s r u) (precedes_trans r t u) h k
+      (told_part_precedes q s r t) (told_part_precedes q s t u) (told_part_precedes q s r u) (precedes_trans r t u) h k
 
   pub not_itself : (r : FunctionPart) → comes_first q s r r ≡ false
-  not_itself r = level_itself (level q r.function.slot.bus) (precedes q s r r) (precedes_itself r)
+  not_itself r = level_itself (level q r.function.slot.bus) (told_part_precedes q s r r) (precedes_itself r)
 
   -- how many of a list come before a part
   abbrev pub before : List FunctionPart → FunctionPart → ℕ

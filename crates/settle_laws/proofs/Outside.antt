@@ -6,7 +6,7 @@ use Rattle.std.proofs.lemmas.Bool.{and_parts, and_from, both_ways, false_from_ne
 use Rattle.pci_spec.specs.Decoded.{Range}
 use Rattle.pci_spec.proofs.Members.{in_head, in_tail, in_cons_cases}
 use Rattle.settle_spec.specs.FirstPlace.{Extent, is_spot, ends_by, is_place, first_place_in, first_place, else_at}
-use Rattle.settle_spec.specs.Items.{Item, Placed, Placing, AllPlaced, Lacks, and_placed, place_next, place_all, are_placed, taken_by}
+use Rattle.settle_spec.specs.Items.{PlacingItem, Placed, Placing, AllPlaced, Lacks, and_placed, place_next, place_all, are_placed, taken_by}
 use Rattle.settle_spec.proofs.FirstPlace.{in_is, in_none, in_by, in_by_none}
 use Rattle.settle_spec.proofs.FirstSpot.{spot_gives, spot_from}
 use Rattle.settle_laws.specs.KeptLaws.{IsAlikeIn}
@@ -50,12 +50,12 @@ module _ (r : Range) (xs ys : List Range) (to : IsAlikeIn r xs ys) (back : IsAli
   pub same_first : (e : Extent) → 0 < e.alignment → first_place (r ∷ []) xs e ≡ first_place (r ∷ []) ys e
   same_first e pos = ap (λ o. else_at o None) (same_in e pos)
 
-next_by : (i : Item) (o : Option ℕ) (f g : ℕ → Placing) → ((a : ℕ) → f a ≡ g a) → place_next i o f ≡ place_next i o g
+next_by : (i : PlacingItem) (o : Option ℕ) (f g : ℕ → Placing) → ((a : ℕ) → f a ≡ g a) → place_next i o f ≡ place_next i o g
 next_by i None f g same = refl
 next_by i (Some a) f g same = ap (and_placed i a) (same a)
 
 -- so it is with all items of a window
-pub same_outside : (r : Range) (items : List Item) (xs ys : List Range) → IsAlikeIn r xs ys → IsAlikeIn r ys xs → ((i : Item) → Contains items i → 0 < i.extent.alignment)
+pub same_outside : (r : Range) (items : List PlacingItem) (xs ys : List Range) → IsAlikeIn r xs ys → IsAlikeIn r ys xs → ((i : PlacingItem) → Contains items i → 0 < i.extent.alignment)
     → place_all (λ i. r ∷ []) xs items ≡ place_all (λ i. r ∷ []) ys items
 same_outside r [] xs ys to back pos = refl
 same_outside r (i ∷ items) xs ys to back pos =
@@ -70,15 +70,15 @@ abbrev pub with_taken : List Placed → List Range → List Range
 with_taken [] taken = taken
 with_taken (p ∷ placed) taken = with_taken placed (taken_by p.item p.at ∷ taken)
 
-and_given : (i : Item) (a : ℕ) (p : Placing) (placed : List Placed) → and_placed i a p ≡ AllPlaced placed → (rest : List Placed) × (p ≡ AllPlaced rest) × (record { item = i; at = a } ∷ rest ≡ placed)
+and_given : (i : PlacingItem) (a : ℕ) (p : Placing) (placed : List Placed) → and_placed i a p ≡ AllPlaced placed → (rest : List Placed) × (p ≡ AllPlaced rest) × (record { item = i; at = a } ∷ rest ≡ placed)
 and_given i a (AllPlaced rest) placed is = let e : record { item = i; at = a } ∷ rest ≡ placed = cc in (rest, refl, e)
 and_given i a (Lacks j) placed is = cc
 
-and_are : (i : Item) (a : ℕ) (p : Placing) → are_placed (and_placed i a p) ≡ are_placed p
+and_are : (i : PlacingItem) (a : ℕ) (p : Placing) → are_placed (and_placed i a p) ≡ are_placed p
 and_are i a (AllPlaced placed) = refl
 and_are i a (Lacks j) = refl
 
-next_given : (ranges : Item → List Range) (taken : List Range) (i : Item) (items more : List Item) (o : Option ℕ)
+next_given : (ranges : PlacingItem → List Range) (taken : List Range) (i : PlacingItem) (items more : List PlacingItem) (o : Option ℕ)
     → ((a : ℕ) (rest : List Placed) → place_all ranges (taken_by i a ∷ taken) items ≡ AllPlaced rest → are_placed (place_all ranges (taken_by i a ∷ taken) (items ++ more)) ≡ are_placed (place_all ranges (with_taken rest (taken_by i a ∷ taken)) more))
     → (placed : List Placed) → place_next i o (λ a. place_all ranges (taken_by i a ∷ taken) items) ≡ AllPlaced placed
     → are_placed (place_next i o (λ a. place_all ranges (taken_by i a ∷ taken) (items ++ more))) ≡ are_placed (place_all ranges (with_taken placed taken) more)
@@ -89,7 +89,7 @@ next_given ranges taken i items more (Some a) rest placed is =
     ∙ rest a given.0 given.1
     ∙ ap (λ ps. are_placed (place_all ranges (with_taken ps taken) more)) given.2
 
-pub placed_after : (ranges : Item → List Range) (taken : List Range) (items more : List Item) (placed : List Placed) → place_all ranges taken items ≡ AllPlaced placed
+pub placed_after : (ranges : PlacingItem → List Range) (taken : List Range) (items more : List PlacingItem) (placed : List Placed) → place_all ranges taken items ≡ AllPlaced placed
     → are_placed (place_all ranges taken (items ++ more)) ≡ are_placed (place_all ranges (with_taken placed taken) more)
 placed_after ranges taken [] more placed is = let e : [] ≡ placed = cc in ap (λ ps. are_placed (place_all ranges (with_taken ps taken) more)) e
 placed_after ranges taken (i ∷ items) more placed is =

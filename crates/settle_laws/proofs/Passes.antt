@@ -12,7 +12,7 @@ use Rattle.pci_spec.proofs.BusRanges.{all_gives, all_from}
 use Rattle.settle_spec.specs.FirstPlace.{ranges_are_apart}
 use Rattle.settle_spec.specs.Lists.{Request}
 use Rattle.settle_spec.specs.Parts.{FunctionPart, system_parts, addresses, is_part, are_same_space}
-use Rattle.settle_spec.specs.Stands.{part_space, are_beside, window_part, takes_from, stands_if, stands, precedes}
+use Rattle.settle_spec.specs.Stands.{part_space, are_beside, window_part, takes_from, stands_if, stands, told_part_precedes}
 use Rattle.settle_laws.specs.Passes.{AreInOrder, IsAmong, AreFirstTold, AreTakenBeside}
 use Rattle.settle_laws.specs.Order.{level, comes_first}
 use Rattle.settle_laws.proofs.Order.{first_first, not_itself}
@@ -48,7 +48,7 @@ module _ (q : Request) (s : System) (nested : IsNested q.roots s) (rs : List Fun
     r_listed = subst (Contains (system_parts q s)) r_is (part_at count r within)
 
     -- what stands beside it comes before it
-    precedes_it : (t : FunctionPart) → Contains (system_parts q s) t → test t ≡ true → are_beside q t r ≡ true → precedes q s t r ≡ true
+    precedes_it : (t : FunctionPart) → Contains (system_parts q s) t → test t ≡ true → are_beside q t r ≡ true → told_part_precedes q s t r ≡ true
     precedes_it t listed is beside =
         let among = told.only t (part_of q s t listed).listed is in
         let siblings = (and_parts (are_siblings q.roots t.function.slot.bus r.function.slot.bus) (are_same_space (part_space t) (part_space r)) beside).0 in
@@ -56,7 +56,7 @@ module _ (q : Request) (s : System) (nested : IsNested q.roots s) (rs : List Fun
         let first : comes_first q s t r ≡ true =
         subst (λ x. comes_first q s t x ≡ true) (get_or_default rs count t r within ∙ r_is)
         (subst (λ x. comes_first q s x (get_or rs count t) ≡ true) among.is (ordered.order among.at count t low within)) in
-        by_same_level (level q t.function.slot.bus) (level q r.function.slot.bus) (precedes q s t r) (one_level q s t.function.slot.bus r.function.slot.bus siblings) first
+        by_same_level (level q t.function.slot.bus) (level q r.function.slot.bus) (told_part_precedes q s t r) (one_level q s t.function.slot.bus r.function.slot.bus siblings) first
 
     -- so it is free of them where it shares no address with them
     pub free_of_taken : (taken : List Range) → AreTakenBeside q s test r taken
@@ -79,7 +79,7 @@ module _ (q : Request) (s : System) (nested : IsNested q.roots s) (rs : List Fun
           elim (cases_Bool (ranges_are_apart (addresses t) (addresses r))) [
             | inl apart ↦ subst (λ y. ranges_are_apart y (addresses r) ≡ true) of.4 apart
             | inr shares ↦
-                let takes = and_from (are_beside q t r && precedes q s t r) (not (ranges_are_apart (addresses t) (addresses r))) (and_from (are_beside q t r) (precedes q s t r) of.3 (precedes_it t of.1 of.2 of.3)) (ap not shares) in
+                let takes = and_from (are_beside q t r && told_part_precedes q s t r) (not (ranges_are_apart (addresses t) (addresses r))) (and_from (are_beside q t r) (told_part_precedes q s t r) of.3 (precedes_it t of.1 of.2 of.3)) (ap not shares) in
                 absurd (both_ways (not (takes_from q s t r && test t)) (not_from_true (takes_from q s t r && test t) (and_from (takes_from q s t r) (test t) takes of.2))
                 (all_gives (λ t. not (takes_from q s t r && test t)) (system_parts q s) all t of.1))
           ]))))

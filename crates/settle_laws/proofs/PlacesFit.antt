@@ -13,7 +13,7 @@ use Rattle.plan_spec.proofs.Planning.BitsFit.{BitsFit}
 use Rattle.plan_spec.proofs.Planning.Registers.{register_bit, datum_bit_at}
 use Rattle.plan_spec.proofs.Planning.WindowFits.{AreKept, PartsFit, open_kept}
 use Rattle.settle_spec.specs.Items.{highest_in}
-use Rattle.settle_spec.specs.Registers.{with_number, with_bounds}
+use Rattle.judge_spec.specs.Windows.{with_number, with_bounds}
 use Rattle.settle_laws.proofs.Numbers.{with_elsewhere, with_image, with_inside}
 
 -- ---- what is written where only address bits differ

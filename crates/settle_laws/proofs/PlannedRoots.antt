@@ -37,7 +37,7 @@ use Rattle.plan_spec.proofs.Planning.Tables.{class_itself}
 use Rattle.settle_spec.specs.FirstPlace.{Extent, is_high}
 use Rattle.settle_spec.specs.Lists.{Request, class_ranges}
 use Rattle.settle_spec.specs.Parts.{class_in, bridge_over}
-use Rattle.settle_spec.specs.Items.{Item, Placed, Placing, AllPlaced, Lacks, place_all, are_placed, bus_items, new_window}
+use Rattle.settle_spec.specs.Items.{PlacingItem, Placed, Placing, AllPlaced, Lacks, place_all, are_placed, bus_items, new_window}
 use Rattle.settle_spec.specs.Places.{wide_ranges, placed_of, first_lack}
 use Rattle.settle_spec.specs.Keeping.Places.{space_items, placing_within, placing_on, root_lack}
 use Rattle.settle_spec.proofs.LaidOut.{greatest_more}
@@ -68,7 +68,7 @@ pools_apart pools good = elim (cases_lt pools.prefetch.last pools.memory.first) 
   ]
 ]
 
-nothing_needed : (size : Item → ℕ) (items : List Item) → ((i : Item) → Contains items i → 0 < size i) → sum_by size items ≤ 0 → items ≡ []
+nothing_needed : (size : PlacingItem → ℕ) (items : List PlacingItem) → ((i : PlacingItem) → Contains items i → 0 < size i) → sum_by size items ≤ 0 → items ≡ []
 nothing_needed size [] some none = refl
 nothing_needed size (i ∷ items) some none =
     let step = sum_by-cons size i items in
@@ -86,7 +86,7 @@ some_greatest (x ∷ sizes) some =
       | inr none ↦ (let rest = some_greatest sizes (omega (arith, step, some, none)) in omega (arith, more, rest))
     ]
 
-lacks_none : (p : Placing) (other : Option Item) → are_placed p ≡ true → first_lack p other ≡ other
+lacks_none : (p : Placing) (other : Option PlacingItem) → are_placed p ≡ true → first_lack p other ≡ other
 lacks_none (AllPlaced placed) other is = refl
 lacks_none (Lacks i) other is = absurd (both_ways false refl is)
 
@@ -108,10 +108,10 @@ module _ (roots : List ℕ) (s : System) (pools : Pools) (system : IsSystem s) (
     abbrev pool : Range
     pool = pool_of pools c
 
-    abbrev size : Item → ℕ
+    abbrev size : PlacingItem → ℕ
     size i = planned s pools c i
 
-    abbrev items : List Item
+    abbrev items : List PlacingItem
     items = bus_items q s c k.stays (new_window q s c) root
 
     below : pool.last < 2 ^ 64
@@ -127,8 +127,8 @@ module _ (roots : List ℕ) (s : System) (pools : Pools) (system : IsSystem s) (
     start = raised_to (greatest_of_roots roots s pools c) pool.first
 
     -- an item of the roots is one of planning
-    is_planned : (i : Item) → IsItemOf q s (new_window q s) c root i → is_placed s pools c i.region.function i.region.part ≡ true
-    is_planned i is = subst (λ (j : Item). is_placed s pools c j.region.function j.region.part ≡ true) is.is (by is.p is.there (sym (ap (same_class c) (sym (classes is.f is.p) ∙ is.class))) is.can)
+    is_planned : (i : PlacingItem) → IsItemOf q s (new_window q s) c root i → is_placed s pools c i.region.function i.region.part ≡ true
+    is_planned i is = subst (λ (j : PlacingItem). is_placed s pools c j.region.function j.region.part ≡ true) is.is (by is.p is.there (sym (ap (same_class c) (sym (classes is.f is.p) ∙ is.class))) is.can)
       where
         by : (p : Part) → has_part is.f p ≡ true → same_class c c ≡ same_class c (class_of s pools is.f p) → IsPlaceable q s c is.f p → is_placed s pools c is.f p ≡ true
         by (Bar n) there class (IsOwnPart plain part) =
@@ -152,12 +152,12 @@ module _ (roots : List ℕ) (s : System) (pools : Pools) (system : IsSystem s) (
         (sorted_to roots s pools c system nested small root made.from
         (Contains-permutation (items_beside roots s pools c root) (sorted_on roots s pools c system nested small root) made.from (ordered_permutes (items_beside roots s pools c root)) made.has)).part.power
 
-    size_listed : (i : Item) → IsItemOf q s (new_window q s) c root i → Contains sizes (size i)
+    size_listed : (i : PlacingItem) → IsItemOf q s (new_window q s) c root i → Contains sizes (size i)
     size_listed i is =
         let f = i.region.function in
         let p = i.region.part in
-        let listed = subst (λ (j : Item). Contains s j.region.function) is.is is.listed in
-        let beside = subst (λ (j : Item). are_siblings roots root j.region.function.slot.bus ≡ true) is.is is.beside in
+        let listed = subst (λ (j : PlacingItem). Contains s j.region.function) is.is is.listed in
+        let beside = subst (λ (j : PlacingItem). are_siblings roots root j.region.function.slot.bus ≡ true) is.is is.beside in
         let there = sorted_from roots s pools c system nested small root f p listed beside (is_planned i is) in
         let of = sorted_to roots s pools c system nested small root (item_of s pools f p) there in
         let own : size_in s pools c f p ≡ (item_of s pools f p).size = sym (same_item f p) ∙ of.part.size in
@@ -174,13 +174,13 @@ module _ (roots : List ℕ) (s : System) (pools : Pools) (system : IsSystem s) (
     windows : (b : Function) → Contains s b → is_bridge b ≡ true → are_siblings roots root b.slot.bus ≡ true → IsSetAside (new c b) (size_in s pools c b (Window c))
     windows b listed bridge beside = window_fits q s pools c system nested classes small refl b listed bridge
 
-    item_is : (i : Item) → Contains items i → IsItemOf q s (new_window q s) c root i
+    item_is : (i : PlacingItem) → Contains items i → IsItemOf q s (new_window q s) c root i
     item_is i has = items_are q s (new_window q s) c k.stays root i has
 
-    one_aside : (i : Item) → Contains items i → IsSetAside i.extent (size i)
+    one_aside : (i : PlacingItem) → Contains items i → IsSetAside i.extent (size i)
     one_aside i has = item_aside q s pools c system nested classes small root i (item_is i has) windows
 
-    start_even : (i : Item) → Contains items i → (start % i.extent.alignment ≡ 0) × (pool.first ≤ start)
+    start_even : (i : PlacingItem) → Contains items i → (start % i.extent.alignment ≡ 0) × (pool.first ≤ start)
     start_even i has =
         let aside = one_aside i has in
         let most = below_greatest sizes (size i) (size_listed i (item_is i has)) in
@@ -193,7 +193,7 @@ module _ (roots : List ℕ) (s : System) (pools : Pools) (system : IsSystem s) (
 
     -- ---- the pool comes first
 
-    pool_in_reach : (i : Item) → IsItemOf q s (new_window q s) c root i → pool.last ≤ i.extent.highest
+    pool_in_reach : (i : PlacingItem) → IsItemOf q s (new_window q s) c root i → pool.last ≤ i.extent.highest
     pool_in_reach i is = by c is
       where
         by : (d : WindowKind) → IsItemOf q s (new_window q s) d root i → (pool_of pools d).last ≤ i.extent.highest
@@ -207,7 +207,7 @@ module _ (roots : List ℕ) (s : System) (pools : Pools) (system : IsSystem s) (
           | inr over ↦ (let high = wide_items q s pools system nested (λ f p. classes_planned roots s pools f p) over root i is in omega (arith, top, high))
         ]
 
-    has_first : (over : ℕ → List Placed) (i : Item) → Contains items i → HasFirst (ranges_anew q s over) pool i
+    has_first : (over : ℕ → List Placed) (i : PlacingItem) → Contains items i → HasFirst (ranges_anew q s over) pool i
     has_first over i has =
         let is = item_is i has in
         let f = is.f in
@@ -224,7 +224,7 @@ module _ (roots : List ℕ) (s : System) (pools : Pools) (system : IsSystem s) (
         }
 
     -- so the items of a class have room in its pool, whatever is taken outside it
-    pub class_placed : (over : ℕ → List Placed) (others : List Item) (taken : List Range)
+    pub class_placed : (over : ℕ → List Placed) (others : List PlacingItem) (taken : List Range)
         → ((t : Range) → Contains taken t → (t.last < pool.first) ⊎ (pool.last < t.first))
         → ((later : List Range) → ((t : Range) → Contains later t → Contains taken t ⊎ IsInside t pool) → are_placed (place_all (ranges_anew q s over) later others) ≡ true)
         → are_placed (place_all (ranges_anew q s over) taken (items ++ others)) ≡ true

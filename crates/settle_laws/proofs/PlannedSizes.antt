@@ -23,11 +23,11 @@ use Rattle.settle_spec.specs.FirstPlace.{Extent}
 use Rattle.settle_spec.specs.Lists.{Request}
 use Rattle.settle_spec.specs.Parts.{FunctionPart, is_left, is_part, header_bars, header_parts, parts_of, function_parts, class_in}
 use Rattle.settle_spec.specs.Stands.{window_part}
-use Rattle.settle_spec.specs.Items.{Item, in_turn, own_item, is_own, has_of, items_of, bus_items}
+use Rattle.settle_spec.specs.Items.{PlacingItem, in_turn, own_item, is_own, has_of, items_of, bus_items}
 use Rattle.settle_spec.proofs.InTurn.{turn_same}
 
 -- what planning takes for an item of settling
-abbrev pub planned : System → Pools → WindowKind → Item → ℕ
+abbrev pub planned : System → Pools → WindowKind → PlacingItem → ℕ
 planned s pools c i = size_in s pools c i.region.function i.region.part
 
 -- sums of lists that are made of the same elements, each of which makes no more
@@ -51,7 +51,7 @@ nothing_twice true false = refl
 nothing_twice false d = refl
 
 module _ (q : Request) (s : System) (pools : Pools) (c : WindowKind) (classes : (f : Function) (p : Part) → class_in q s f p ≡ class_of s pools f p) where
-  abbrev size : Item → ℕ
+  abbrev size : PlacingItem → ℕ
   size i = planned s pools c i
 
   pub size_plain : (f : Function) (p : Part) → is_window p ≡ false → size_in s pools c f p ≡ size_of f p
@@ -132,14 +132,14 @@ module _ (q : Request) (s : System) (pools : Pools) (c : WindowKind) (classes : 
       abbrev opens : Function → Bool
       opens f = is_bridge f && has_of q s c f && not (keeps (window_part c f))
 
-      abbrev window : Function → Item
+      abbrev window : Function → PlacingItem
       window f = record { region = window_part c f; class = c; extent = extent f }
 
       module _ (f : Function) where
         abbrev region : Part → FunctionPart
         region p = record { function = f; part = p }
 
-        abbrev own_list : List Part → List Item
+        abbrev own_list : List Part → List PlacingItem
         own_list parts = map (own_item c) (filter kept (map region (filter (is_part q s f) parts)))
 
         abbrev of_class : Part → Bool
@@ -233,7 +233,7 @@ module _ (q : Request) (s : System) (pools : Pools) (c : WindowKind) (classes : 
       -- all items of a bus
       pub items_below : (bus : ℕ) → sum_by size (bus_items q s c keeps extent bus) ≤ sum (item_sizes (items_beside q.roots s pools c bus))
       items_below bus =
-          let on : Function → List Item = λ f. cond (are_siblings q.roots bus f.slot.bus) (items_of q s c keeps extent f) [] in
+          let on : Function → List PlacingItem = λ f. cond (are_siblings q.roots bus f.slot.bus) (items_of q s c keeps extent f) [] in
           let all = flat_map on s in
           let turned = sum_by-IsPermutation size all (in_turn all) (turn_same all) in
           let to = sum-map (λ (i : PlannedItem). i.size) (items_beside q.roots s pools c bus) in

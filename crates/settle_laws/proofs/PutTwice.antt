@@ -4,7 +4,7 @@ use Rattle.std.proofs.lemmas.Bool.{cases_eq, cases_lt}
 use Rattle.std.proofs.lemmas.List.{ext_get_or, length-set, get_or-set_same, get_or-set_other, get_or_past}
 use Rattle.pci_spec.specs.Number.{byte_at}
 use Rattle.pci_spec.specs.Window.{WindowKind, IoWindow, MemoryWindow, PrefetchWindow, Bounds}
-use Rattle.settle_spec.specs.Registers.{with_number, with_bounds}
+use Rattle.judge_spec.specs.Windows.{with_number, with_bounds}
 use Rattle.settle_laws.proofs.WindowBytes.{IsOf}
 
 -- images differ at some bytes alone

@@ -9,13 +9,12 @@ use Rattle.pci_spec.specs.Decoded.{Range}
 use Rattle.pci_spec.specs.System.{System, Function, IsSystem}
 use Rattle.pci_spec.specs.Bus.{is_root, IsNested, LeadsTo}
 use Rattle.pci_spec.proofs.Members.{IsMade, in_map_to, in_filter_to}
-use Rattle.plan_spec.proofs.Planning.Safe.{slots_of}
-use Rattle.plan_spec.proofs.Planning.Safe.{order_of}
+use Rattle.plan_spec.proofs.Planning.Safe.{slots_of, order_of}
 use Rattle.settle_spec.specs.FirstPlace.{ranges_are_apart}
 use Rattle.settle_spec.specs.Lists.{Request}
 use Rattle.settle_spec.specs.Parts.{FunctionPart, system_parts, addresses, bridge_over, lies_within}
 use Rattle.settle_spec.specs.Stands.{is_fixed_part, rank, are_beside, window_part, stands}
-use Rattle.settle_spec.specs.Reach.{standing_beside, ranges_for, range_over, room_around, reach_in, reach_if, reach_within, reach}
+use Rattle.settle_spec.specs.Reach.{standing_beside, root_window_ranges, range_over, room_around, reach_in, reach_if, reach_within, reach}
 use Rattle.settle_spec.specs.GrowthLaws.{CanReach}
 use Rattle.settle_spec.proofs.BridgeOver.{found, over_leads, over_is}
 use Rattle.settle_spec.proofs.Reaching.{LiesIn, lies_in_trans, within_gives, within_from, window_first, window_last, reach_is_around, reach_is_off}
@@ -94,10 +93,10 @@ module _ (q : Request) (s : System) (c : WindowKind) (nested : IsNested q.roots 
     pub room_holds : (f : Function → Range) → IsAround f → (b : Function) → Stands b → (room : Range) → room_around q s c f b ≡ Some room → lies_within (addresses (window_part c b)) room ≡ true
     room_holds f around b is room e = elim (cases_Bool (is_root q.roots b.slot.bus)) [
       | inl root ↦
-          let here = sym (ap (λ t. if t then find (lies_within (addresses (window_part c b))) (ranges_for q c b.slot.bus) else range_over f (bridge_over s b.slot.bus)) root) ∙ e in
-          (found (lies_within (addresses (window_part c b))) (ranges_for q c b.slot.bus) room here).1
+          let here = sym (ap (λ t. if t then find (lies_within (addresses (window_part c b))) (root_window_ranges q c b.slot.bus) else range_over f (bridge_over s b.slot.bus)) root) ∙ e in
+          (found (lies_within (addresses (window_part c b))) (root_window_ranges q c b.slot.bus) room here).1
       | inr off ↦
-          let here = sym (ap (λ t. if t then find (lies_within (addresses (window_part c b))) (ranges_for q c b.slot.bus) else range_over f (bridge_over s b.slot.bus)) off) ∙ e in
+          let here = sym (ap (λ t. if t then find (lies_within (addresses (window_part c b))) (root_window_ranges q c b.slot.bus) else range_over f (bridge_over s b.slot.bus)) off) ∙ e in
           behind off (bridge_over s b.slot.bus) refl here
     ]
       where
@@ -136,7 +135,7 @@ module _ (q : Request) (s : System) (c : WindowKind) (nested : IsNested q.roots 
 
       room_by : (f g : Function → Range) (b : Function) → ((o : Function) → o.slot.bus < b.slot.bus → f o ≡ g o) → room_around q s c f b ≡ room_around q s c g b
       room_by f g b same =
-          ap (λ r. if is_root q.roots b.slot.bus then find (lies_within (addresses (window_part c b))) (ranges_for q c b.slot.bus) else r) (over_by (bridge_over s b.slot.bus) refl)
+          ap (λ r. if is_root q.roots b.slot.bus then find (lies_within (addresses (window_part c b))) (root_window_ranges q c b.slot.bus) else r) (over_by (bridge_over s b.slot.bus) refl)
         where
           over_by : (o : Option Function) → bridge_over s b.slot.bus ≡ o → range_over f o ≡ range_over g o
           over_by None e = refl
@@ -171,7 +170,7 @@ module _ (q : Request) (s : System) (c : WindowKind) (nested : IsNested q.roots 
         where
           is_room : room_around q s c (reach_within q s c 255) b ≡ Some (reach_within q s c 255 over)
           is_room =
-              ap (λ t. if t then find (lies_within (addresses (window_part c b))) (ranges_for q c b.slot.bus) else range_over (reach_within q s c 255) (bridge_over s b.slot.bus)) off
+              ap (λ t. if t then find (lies_within (addresses (window_part c b))) (root_window_ranges q c b.slot.bus) else range_over (reach_within q s c 255) (bridge_over s b.slot.bus)) off
               ∙ ap (range_over (reach_within q s c 255)) (over_is q.roots s system nested b.slot.bus over leads)
 
           same : reach_within q s c 255 over ≡ reach q s c over

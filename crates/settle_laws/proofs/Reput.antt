@@ -7,7 +7,7 @@ use Rattle.pci_spec.specs.Number.{byte_at, number_at, IsImage}
 use Rattle.pci_spec.specs.Header.{bar_register}
 use Rattle.pci_spec.specs.Bar.{bar_at, is_wide, whole_bar}
 use Rattle.pci_spec.specs.Window.{WindowKind, IoWindow, MemoryWindow, PrefetchWindow, bounds_at}
-use Rattle.settle_spec.specs.Registers.{with_number, with_bounds}
+use Rattle.judge_spec.specs.Windows.{with_number, with_bounds}
 
 put_next : (w o v rest : ℕ) (image : List ℕ) → byte_at image o < 256 → v ≡ byte_at image o + 256 * rest → with_number w (o + 1) rest image ≡ image → with_number (suc w) o v image ≡ image
 put_next w o v rest image small e more =

@@ -21,12 +21,12 @@ use Rattle.plan_spec.proofs.Planning.Behind.{all_gives}
 use Rattle.plan_spec.proofs.Planning.Kept.{images_of}
 use Rattle.settle_spec.specs.Lists.{Request}
 use Rattle.settle_spec.specs.Parts.{FunctionPart, addresses, header_parts, parts_of, function_parts, is_part, class_in, are_same_space}
-use Rattle.settle_spec.specs.Stands.{part_space}
-use Rattle.settle_spec.specs.Stands.{rank}
-use Rattle.settle_spec.specs.Items.{Item, Placed, Placing, AllPlaced, Lacks, new_window}
+use Rattle.settle_spec.specs.Stands.{part_space, rank}
+use Rattle.settle_spec.specs.Items.{PlacingItem, Placed, Placing, AllPlaced, Lacks, new_window}
 use Rattle.settle_spec.specs.Places.{placed_of}
 use Rattle.settle_spec.specs.Keeping.Places.{place_of_item, new_place, placing_on, placing_within, space_items, taken_at}
-use Rattle.settle_spec.specs.Registers.{closed_if_open, changing, with_bounds}
+use Rattle.settle_spec.specs.Registers.{closed_if_open, changing}
+use Rattle.judge_spec.specs.Windows.{with_bounds}
 use Rattle.settle_spec.specs.Keeping.Registers.{is_same_range, with_range, with_kept, is_enabled_in, settled_command, settled_function, settled_image, shown}
 use Rattle.settle_spec.specs.Writes.{differs_at, part_registers, is_cut_off_in}
 use Rattle.settle_spec.specs.Keeping.Writes.{changes_at, changes_window, changes_above, moves, has_moving, is_shut_itself, is_shut}
@@ -67,7 +67,7 @@ module _ (q : Request) (s : System) (k : Kept) (system : IsSystem s) (nested : I
   is_item : (space : Space) (bus : ℕ) (placing : Placing) → placing_on q s k space bus ≡ placing → (x : Placed) → Contains (placed_of placing) x → Contains (space_items q s k space bus) x.item
   is_item space bus (Lacks i) e x has = absurd (in_nil x has)
   is_item space bus (AllPlaced placed) e x has =
-      let find : Item → List Range → Option ℕ = λ i xs. place_of_item q s k (λ over. placed_of (placing_within q s k space 255 over)) i (taken_for q i.region xs) in
+      let find : PlacingItem → List Range → Option ℕ = λ i xs. place_of_item q s k (λ over. placed_of (placing_within q s k space 255 over)) i (taken_for q i.region xs) in
       subst (λ items. Contains items x.item) (each_items find (taken_at q s k space bus) (space_items q s k space bus) placed (sym (placing_step q s k space 255 bus) ∙ e)) (in_map_from (λ (y : Placed). y.item) placed x has)
 
   record GetsPlace (f : Function) (p : Part) : Type 0 where
@@ -82,13 +82,13 @@ module _ (q : Request) (s : System) (k : Kept) (system : IsSystem s) (nested : I
       let at = found (λ (y : Placed). rank y.item.region == rank r) (placed_of (placing_on q s k space bus)) x e in
       let is : IsItemIn q s k space bus x.item = space_items_are q s k space bus x.item (is_item space bus (placing_on q s k space bus) refl x at.0) in
       let item : x.item ≡ item_by (new_window q s) (class_in q s f p) f p = same_rank q s k system space bus x.item is f p listed there (eqb-true (rank x.item.region) (rank r) at.1) in
-      let region : record { function = is.of.f; part = is.of.p } ≡ r = ap (λ (i : Item). i.region) (is.of.is ∙ item) in
+      let region : record { function = is.of.f; part = is.of.p } ≡ r = ap (λ (i : PlacingItem). i.region) (is.of.is ∙ item) in
       let function : is.of.f ≡ f = ap (λ (z : FunctionPart). z.function) region in
       let part : is.of.p ≡ p = ap (λ (z : FunctionPart). z.part) region in
-      let class : is.c ≡ class_in q s f p = ap (λ (i : Item). i.class) (is.of.is ∙ item) in
+      let class : is.c ≡ class_in q s f p = ap (λ (i : PlacingItem). i.class) (is.of.is ∙ item) in
       record {
         placeable = subst (λ o. IsPlaceable q s (class_in q s f p) f o) part (subst (λ g. IsPlaceable q s (class_in q s f p) g is.of.p) function (subst (λ c. IsPlaceable q s c is.of.f is.of.p) class is.of.can));
-        moves = ap (λ (i : Item). k.stays i.region) (sym item) ∙ item_moves q s (new_window q s) is.c k.stays bus x.item is.has;
+        moves = ap (λ (i : PlacingItem). k.stays i.region) (sym item) ∙ item_moves q s (new_window q s) is.c k.stays bus x.item is.has;
       }
 
   -- ---- registers

@@ -11,7 +11,7 @@ use Rattle.pci_spec.specs.Sound.{IsSound}
 use Rattle.settle_spec.specs.Lists.{Request, are_bad_lists}
 use Rattle.settle_spec.specs.Parts.{FunctionPart}
 use Rattle.settle_spec.specs.Stands.{stands}
-use Rattle.settle_spec.specs.Items.{Item}
+use Rattle.settle_spec.specs.Items.{PlacingItem}
 use Rattle.settle_spec.specs.Writes.{Settling, BadLists, Fixed, NoRoom, Settled, fixed_without, fixed_write, or_fixed, or_lack, or_write, NotKept}
 use Rattle.settle_spec.specs.Kept.{Kept, as_it_stands, growing}
 use Rattle.settle_spec.specs.Keeping.Places.{lacking}
@@ -45,14 +45,14 @@ writes_of (Settled writes) other = writes
 writes_of refused other = other
 
 -- lists are good, what is fixed stands, nothing lacks room, and these are the writes, none to what is fixed
-pub record IsEnd (bad : Bool) (fixed : Option FunctionPart) (lack : Option Item) (w : Option Write) (own writes : List Write) : Type 0 where
+pub record IsEnd (bad : Bool) (fixed : Option FunctionPart) (lack : Option PlacingItem) (w : Option Write) (own writes : List Write) : Type 0 where
   pub good : bad ≡ false
   pub stand : fixed ≡ None
   pub room : lack ≡ None
   pub unwritten : w ≡ None
   pub same : own ≡ writes
 
-pub ends : (bad : Bool) (a b : Option FunctionPart) (lack : Option Item) (w : Option Write) (own writes : List Write)
+pub ends : (bad : Bool) (a b : Option FunctionPart) (lack : Option PlacingItem) (w : Option Write) (own writes : List Write)
     → (if bad then BadLists else or_fixed a (or_fixed b (or_lack lack (or_write w (Settled own))))) ≡ Settled writes → IsEnd bad a lack w own writes
 ends true a b lack w own writes e = absurd (false≢true (ap is_settled e))
 ends false (Some r) b lack w own writes e = absurd (false≢true (ap is_settled e))

@@ -15,7 +15,7 @@ use Rattle.pci_spec.proofs.Ranges.{lawful_bar}
 use Rattle.plan_spec.specs.Plan.{is_open}
 use Rattle.settle_spec.specs.Lists.{Request}
 use Rattle.settle_spec.specs.Parts.{is_left, is_part}
-use Rattle.settle_spec.specs.Registers.{with_bounds}
+use Rattle.judge_spec.specs.Windows.{with_bounds}
 use Rattle.settle_laws.proofs.Numbers.{with_elsewhere, with_image}
 
 pub fold_keeps : {A B : Type 0} (P : A → Type 0) (step : A → B → A) (bs : List B) → ((b : B) → Contains bs b → (a : A) → P a → P (step a b)) → (a : A) → P a → P (fold step a bs)

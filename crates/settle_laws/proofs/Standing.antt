@@ -12,7 +12,7 @@ use Rattle.plan_spec.proofs.Planning.Safe.{order_of}
 use Rattle.settle_spec.specs.FirstPlace.{ranges_are_apart}
 use Rattle.settle_spec.specs.Lists.{Request}
 use Rattle.settle_spec.specs.Parts.{FunctionPart, system_parts, function_parts, parts_of, header_bars, header_parts, addresses, is_part, lies_within, class_in, bridge_over, are_same_space}
-use Rattle.settle_spec.specs.Stands.{part_space, are_beside, is_in_lists, is_in_window, is_in_place, window_part, takes_from, stands_if, stands_within, stands, precedes, is_kept_off, leads_to_told}
+use Rattle.settle_spec.specs.Stands.{part_space, are_beside, is_in_lists, is_in_window, is_in_place, window_part, takes_from, stands_if, stands_within, stands, told_part_precedes, is_kept_off, leads_to_told}
 use Rattle.settle_spec.proofs.BridgeOver.{over_leads}
 use Rattle.settle_laws.specs.Standing.{IsStanding}
 use Rattle.settle_laws.specs.Order.{level, comes_first}
@@ -143,13 +143,13 @@ module _ (q : Request) (s : System) where
   -- the three sides of what takes an address
   pub record Takes (t r : FunctionPart) : Type 0 where
     pub beside : are_beside q t r ≡ true
-    pub before : precedes q s t r ≡ true
+    pub before : told_part_precedes q s t r ≡ true
     pub shares : not (ranges_are_apart (addresses t) (addresses r)) ≡ true
 
   pub taking : (t r : FunctionPart) → takes_from q s t r ≡ true → Takes t r
   taking t r takes =
-      let two = and_parts (are_beside q t r && precedes q s t r) (not (ranges_are_apart (addresses t) (addresses r))) takes in
-      let one = and_parts (are_beside q t r) (precedes q s t r) two.0 in
+      let two = and_parts (are_beside q t r && told_part_precedes q s t r) (not (ranges_are_apart (addresses t) (addresses r))) takes in
+      let one = and_parts (are_beside q t r) (told_part_precedes q s t r) two.0 in
       record { beside = one.0; before = one.1; shares = two.1 }
 
   beside_first : (t r : FunctionPart) → takes_from q s t r ≡ true → comes_first q s t r ≡ true
@@ -158,8 +158,8 @@ module _ (q : Request) (s : System) where
       let below = level q t.function.slot.bus in
       let here = level q r.function.slot.bus in
       let siblings = (and_parts (are_siblings q.roots t.function.slot.bus r.function.slot.bus) (are_same_space (part_space t) (part_space r)) parts.beside).0 in
-      or_right (nat_lt below here) (below == here && precedes q s t r)
-      (and_from (below == here) (precedes q s t r) (eq-eqb below here (one_level t.function.slot.bus r.function.slot.bus siblings)) parts.before)
+      or_right (nat_lt below here) (below == here && told_part_precedes q s t r)
+      (and_from (below == here) (told_part_precedes q s t r) (eq-eqb below here (one_level t.function.slot.bus r.function.slot.bus siblings)) parts.before)
 
   module _ (nested : IsNested q.roots s) where
     rises : (b : Function) (bus : ℕ) → LeadsTo s b bus → is_root q.roots bus ≡ false → level q b.slot.bus < level q bus
@@ -176,7 +176,7 @@ module _ (q : Request) (s : System) where
     window_first c b r leads off =
         let below = level q b.slot.bus in
         let here = level q r.function.slot.bus in
-        or_left (nat_lt below here) (below == here && precedes q s (window_part c b) r) (lt-ltb below here (rises b r.function.slot.bus leads off))
+        or_left (nat_lt below here) (below == here && told_part_precedes q s (window_part c b) r) (lt-ltb below here (rises b r.function.slot.bus leads off))
 
     abbrev place : FunctionPart → ℕ
     place r = before q s (system_parts q s) r

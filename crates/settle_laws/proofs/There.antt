@@ -19,7 +19,7 @@ use Rattle.settle_spec.specs.LastPlace.{last_place_in}
 use Rattle.settle_spec.specs.Lists.{Request}
 use Rattle.settle_spec.specs.Parts.{FunctionPart, system_parts, addresses, class_in, lies_within, are_same_space}
 use Rattle.settle_spec.specs.Stands.{window_part, part_space, stands}
-use Rattle.settle_spec.specs.Items.{Item, Placed, Placing, AllPlaced, Lacks, and_placed, place_next, are_placed, taken_by, bus_items, new_window, has_room, has_room_behind, holds_within, place_each}
+use Rattle.settle_spec.specs.Items.{PlacingItem, Placed, Placing, AllPlaced, Lacks, and_placed, place_next, are_placed, taken_by, bus_items, new_window, has_room, has_room_behind, holds_within, place_each}
 use Rattle.settle_spec.specs.Lines.{lines_on, taken_for}
 use Rattle.settle_spec.specs.Places.{placed_of}
 use Rattle.settle_spec.specs.Reach.{reach}
@@ -71,15 +71,15 @@ place_in_reach w around taken e a pos forward high low found = by (first_place_i
 
 -- ---- each item has the place that was found for it
 
-pub record IsFoundPlace (find : Item → List Range → Option ℕ) (items : List Item) (p : Placed) : Type 0 where
+pub record IsFoundPlace (find : PlacingItem → List Range → Option ℕ) (items : List PlacingItem) (p : Placed) : Type 0 where
   pub taken : List Range
   pub found : find p.item taken ≡ Some p.at
   pub listed : Contains items p.item
 
-abbrev first_of : Item → ℕ → Placed
+abbrev first_of : PlacingItem → ℕ → Placed
 first_of i a = record { item = i; at = a }
 
-pub each_found : (find : Item → List Range → Option ℕ) (taken : List Range) (items : List Item) (placed : List Placed) → place_each find taken items ≡ AllPlaced placed
+pub each_found : (find : PlacingItem → List Range → Option ℕ) (taken : List Range) (items : List PlacingItem) (placed : List Placed) → place_each find taken items ≡ AllPlaced placed
     → (p : Placed) → Contains placed p → IsFoundPlace find items p
 each_found find taken [] placed all p has = absurd (in_nil p (subst (λ l. Contains l p) (sym (ap placed_of all)) has))
 each_found find taken (i ∷ items) placed all p has = by (find i taken) refl (λ taken placed all p has. each_found find taken items placed all p has)
@@ -261,10 +261,10 @@ module _ (q : Request) (s : System) where
           others : List Range
           others = there_on q s there (λ r. same_class c (class_in q s r.function r.part)) (secondary b)
 
-          items : List Item
+          items : List PlacingItem
           items = bus_items q s c (λ r. is_some (there r)) (new_window q s c) (secondary b)
 
-          find : Item → List Range → Option ℕ
+          find : PlacingItem → List Range → Option ℕ
           find i taken = place_around (addresses (window_part c b)) (reach q s c b) (taken_for q i.region taken) i.extent
 
           of_other : (t : Range) → Contains others t → lies_within t (reach q s c b) ≡ true

@@ -14,7 +14,7 @@ use Rattle.settle_spec.specs.Parts.{FunctionPart, system_parts, addresses}
 use Rattle.settle_spec.specs.Stands.{rank, are_beside, stands}
 use Rattle.settle_spec.specs.Items.{has_room_behind}
 use Rattle.settle_spec.specs.Reach.{reach}
-use Rattle.settle_spec.specs.Growth.{part_comes_to, is_before, is_off, is_clear, there_if, there_beside, there_within, there}
+use Rattle.settle_spec.specs.Growth.{part_comes_to, is_lower_beside, is_off, is_clear, there_if, there_beside, there_within, there}
 use Rattle.settle_spec.proofs.Reaching.{LieApart, LiesIn, ends_apart, apart_ends, within_gives}
 use Rattle.settle_laws.specs.Reach.{WindowsAreLow}
 use Rattle.settle_laws.specs.There.{ItemsAreAligned, part_reach}
@@ -56,17 +56,17 @@ module _ (q : Request) (s : System) (comes : FunctionPart → Option Range) wher
 
   -- ---- as many others as there are at lower addresses are enough
 
-  pub clear_same : (one other : FunctionPart → Option Range) (r : FunctionPart) → ((u : FunctionPart) → Contains (system_parts q s) u → is_before q u r ≡ true → one u ≡ other u)
+  pub clear_same : (one other : FunctionPart → Option Range) (r : FunctionPart) → ((u : FunctionPart) → Contains (system_parts q s) u → is_lower_beside q u r ≡ true → one u ≡ other u)
       → (o : Option Range) → is_clear q s one r o ≡ is_clear q s other r o
   clear_same one other r same None = refl
   clear_same one other r same (Some g) =
-      all_same (λ t. not (is_before q t r) || is_off g (one t)) (λ t. not (is_before q t r) || is_off g (other t)) (system_parts q s)
-      (λ u listed. elim (cases_Bool (is_before q u r)) [
-        | inl before ↦ ap (λ o. not (is_before q u r) || is_off g o) (same u listed before)
+      all_same (λ t. not (is_lower_beside q t r) || is_off g (one t)) (λ t. not (is_lower_beside q t r) || is_off g (other t)) (system_parts q s)
+      (λ u listed. elim (cases_Bool (is_lower_beside q u r)) [
+        | inl before ↦ ap (λ o. not (is_lower_beside q u r) || is_off g o) (same u listed before)
         | inr off ↦ ap (λ b. not b || is_off g (one u)) off ∙ sym (ap (λ b. not b || is_off g (other u)) off)
       ])
 
-  pub if_same : (one other : FunctionPart → Option Range) (r : FunctionPart) → ((u : FunctionPart) → Contains (system_parts q s) u → is_before q u r ≡ true → one u ≡ other u)
+  pub if_same : (one other : FunctionPart → Option Range) (r : FunctionPart) → ((u : FunctionPart) → Contains (system_parts q s) u → is_lower_beside q u r ≡ true → one u ≡ other u)
       → there_if q s comes one r ≡ there_if q s comes other r
   if_same one other r same =
       ap (λ b. if b then comes r else if has_room_behind q s r then Some (addresses r) else None) (clear_same one other r same (comes r))
@@ -87,7 +87,7 @@ module _ (q : Request) (s : System) (comes : FunctionPart → Option Range) wher
   record IsOffOrStands (r t : FunctionPart) (x y : Range) : Type 0 where
     is : (is_off y (Some x) ≡ true) ⊎ (y ≡ addresses t)
 
-  upper : (n : ℕ) (r t : FunctionPart) (x y : Range) → Contains (system_parts q s) r → Contains (system_parts q s) t → place t < n → is_before q r t ≡ true
+  upper : (n : ℕ) (r t : FunctionPart) (x y : Range) → Contains (system_parts q s) r → Contains (system_parts q s) t → place t < n → is_lower_beside q r t ≡ true
       → there_beside q s comes n r ≡ Some x → there_beside q s comes n t ≡ Some y → IsOffOrStands r t x y
   upper zero r t x y in_r in_t small before is_x is_y = absurd (let no : ⊥ = omega (arith, small) in no)
   upper (suc m) r t x y in_r in_t small before is_x is_y =
@@ -104,7 +104,7 @@ module _ (q : Request) (s : System) (comes : FunctionPart → Option Range) wher
       clear : (o : Option Range) → is_clear q s (there_beside q s comes m) t o ≡ true → o ≡ Some y → is_off y (Some x) ≡ true
       clear None is e = absurd (false≢true (ap is_some e))
       clear (Some g) is e =
-          let each = all_gives (λ u. not (is_before q u t) || is_off g (there_beside q s comes m u)) (system_parts q s) is r in_r in
+          let each = all_gives (λ u. not (is_lower_beside q u t) || is_off g (there_beside q s comes m u)) (system_parts q s) is r in_r in
           let off : is_off g (there_beside q s comes m r) ≡ true = sym (ap (λ b. not b || is_off g (there_beside q s comes m r)) before) ∙ each in
           subst (λ z. is_off z (Some x) ≡ true) (some_is g y e) (sym (ap (is_off g) same) ∙ off)
 

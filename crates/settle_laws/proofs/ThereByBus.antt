@@ -14,7 +14,7 @@ use Rattle.settle_spec.specs.Lines.{lines_on, taken_for}
 use Rattle.settle_spec.specs.Lists.{Request}
 use Rattle.settle_spec.specs.Parts.{FunctionPart, system_parts, header_parts, addresses, class_in, are_same_space}
 use Rattle.settle_spec.specs.Stands.{are_beside, window_part, part_space, stands}
-use Rattle.settle_spec.specs.Items.{Item, bus_items, new_window, has_room_behind, place_each}
+use Rattle.settle_spec.specs.Items.{PlacingItem, bus_items, new_window, has_room_behind, place_each}
 use Rattle.settle_spec.specs.Reach.{reach}
 use Rattle.settle_spec.specs.Growth.{place_around, grown_around, range_list, there_on, taken_around, window_comes_to, part_comes_to, is_clear, there_if, there_beside, there_within, there, comes_to}
 use Rattle.settle_spec.proofs.Nested.{at_secondary, is_no_root, on_it}
@@ -57,10 +57,10 @@ module _ (q : Request) (s : System) where
       of_space : FunctionPart → Bool
       of_space r = are_same_space (window_space c) (part_space r)
 
-      find : Item → List Range → Option ℕ
+      find : PlacingItem → List Range → Option ℕ
       find i taken = place_around (addresses (window_part c b)) (reach q s c b) (taken_for q i.region taken) i.extent
 
-      items : (FunctionPart → Option Range) → List Item
+      items : (FunctionPart → Option Range) → List PlacingItem
       items there = bus_items q s c (λ r. is_some (there r)) (new_window q s c) (secondary b)
 
   -- ---- buses of one height: all roots are one

@@ -5,25 +5,25 @@ use Rattle.std.specs.List.{Contains, AllPairs}
 use Rattle.std.proofs.lemmas.Bool.{cases_Bool, cases_lt, or_cases, or_left, and_parts, both_ways, lt-ltb, ltb-true, eqb-true}
 use Rattle.pci_spec.proofs.Members.{in_nil, in_head, in_tail, in_cons_cases, pairs_head, pairs_tail, pairs_nil, pairs_cons}
 use Rattle.settle_spec.specs.Stands.{rank}
-use Rattle.settle_spec.specs.Items.{Item, item_precedes, put_in, in_turn}
+use Rattle.settle_spec.specs.Items.{PlacingItem, item_precedes, put_in, in_turn}
 use Rattle.settle_laws.proofs.OneByOne.{IsNoMoreAligned}
 
-abbrev others : Item → Item → List Item → List Item
+abbrev others : PlacingItem → PlacingItem → List PlacingItem → List PlacingItem
 others i j items = j ∷ put_in i items
 
-before_falls : (i j : Item) → item_precedes i j ≡ true → j.extent.alignment ≤ i.extent.alignment
+before_falls : (i j : PlacingItem) → item_precedes i j ≡ true → j.extent.alignment ≤ i.extent.alignment
 before_falls i j before = elim (or_cases (nat_lt j.extent.alignment i.extent.alignment) (i.extent.alignment == j.extent.alignment && (nat_lt j.extent.size i.extent.size || (i.extent.size == j.extent.size && nat_lt (rank i.region) (rank j.region)))) before) [
   | inl less ↦ (let l = ltb-true j.extent.alignment i.extent.alignment less in omega (arith, l))
   | inr same ↦ (let e = eqb-true i.extent.alignment j.extent.alignment (and_parts (i.extent.alignment == j.extent.alignment) _ same).0 in omega (arith, e))
 ]
 
-behind_falls : (i j : Item) → item_precedes i j ≡ false → i.extent.alignment ≤ j.extent.alignment
+behind_falls : (i j : PlacingItem) → item_precedes i j ≡ false → i.extent.alignment ≤ j.extent.alignment
 behind_falls i j behind = elim (cases_lt j.extent.alignment i.extent.alignment) [
   | inl less ↦ absurd (both_ways (item_precedes i j) behind (or_left (nat_lt j.extent.alignment i.extent.alignment) _ (lt-ltb j.extent.alignment i.extent.alignment less)))
   | inr fine ↦ fine
 ]
 
-put_cases : (i : Item) (items : List Item) (k : Item) → Contains (put_in i items) k → (i ≡ k) ⊎ Contains items k
+put_cases : (i : PlacingItem) (items : List PlacingItem) (k : PlacingItem) → Contains (put_in i items) k → (i ≡ k) ⊎ Contains items k
 put_cases i [] k has = in_cons_cases i [] k has
 put_cases i (j ∷ items) k has = elim (cases_Bool (item_precedes i j)) [
   | inl first ↦ in_cons_cases i (j ∷ items) k (subst (λ b. Contains (cond b (i ∷ (j ∷ items)) (others i j items)) k) first has)
@@ -33,7 +33,7 @@ put_cases i (j ∷ items) k has = elim (cases_Bool (item_precedes i j)) [
   ]
 ]
 
-put_falls : (i : Item) (items : List Item) → AllPairs IsNoMoreAligned items → AllPairs IsNoMoreAligned (put_in i items)
+put_falls : (i : PlacingItem) (items : List PlacingItem) → AllPairs IsNoMoreAligned items → AllPairs IsNoMoreAligned (put_in i items)
 put_falls i [] falls = pairs_cons IsNoMoreAligned i [] (λ k listed. absurd (in_nil k listed)) falls
 put_falls i (j ∷ items) falls = elim (cases_Bool (item_precedes i j)) [
   | inl first ↦
@@ -52,6 +52,6 @@ put_falls i (j ∷ items) falls = elim (cases_Bool (item_precedes i j)) [
       ]) (put_falls i items (pairs_tail IsNoMoreAligned j items falls)))
 ]
 
-pub turn_falls : (items : List Item) → AllPairs IsNoMoreAligned (in_turn items)
+pub turn_falls : (items : List PlacingItem) → AllPairs IsNoMoreAligned (in_turn items)
 turn_falls [] = pairs_nil IsNoMoreAligned
 turn_falls (i ∷ items) = put_falls i (in_turn items) (turn_falls items)

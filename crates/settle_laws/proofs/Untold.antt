@@ -14,7 +14,7 @@ use Rattle.settle_spec.specs.Lines.{line_range, is_line_of, is_line_behind, line
 use Rattle.settle_spec.specs.Lists.{Request, are_bad_lists}
 use Rattle.settle_spec.specs.Parts.{FunctionPart, system_parts, function_parts, addresses, are_same_space}
 use Rattle.settle_spec.specs.Stands.{part_space, is_kept_off_by, is_kept_off, stands}
-use Rattle.settle_spec.specs.Items.{Item, place_all, place_each, taken_on}
+use Rattle.settle_spec.specs.Items.{PlacingItem, place_all, place_each, taken_on}
 use Rattle.settle_spec.specs.Registers.{is_answered_by, has_own}
 use Rattle.settle_spec.specs.Kept.{Kept}
 use Rattle.settle_spec.specs.Writes.{BadLists, Settled, fixed_without, fixed_write, or_fixed, or_lack, or_write}
@@ -38,12 +38,12 @@ module _ (q : Request) (untold : q.told.ranges ≡ []) where
   pub same_taken : (r : FunctionPart) (xs : List Range) → taken_for q r xs ≡ xs
   same_taken r xs = ap (λ ys. map line_range (filter (is_line_behind r) ys) ++ xs) no_regions
 
-  pub plain_finds : (find : Item → List Range → Option ℕ) (taken : List Range) (items : List Item)
+  pub plain_finds : (find : PlacingItem → List Range → Option ℕ) (taken : List Range) (items : List PlacingItem)
       → place_each (λ i xs. find i (taken_for q i.region xs)) taken items ≡ place_each find taken items
   plain_finds find taken items =
       each_same (λ i xs. find i (taken_for q i.region xs)) find taken items (λ i xs has. ap (find i) (same_taken i.region xs))
 
-  pub plain_places : (ranges : Item → List Range) (taken : List Range) (items : List Item)
+  pub plain_places : (ranges : PlacingItem → List Range) (taken : List Range) (items : List PlacingItem)
       → place_each (λ i xs. first_place (ranges i) (taken_for q i.region xs) i.extent) taken items ≡ place_all ranges taken items
   plain_places ranges taken items =
       plain_finds (λ i xs. first_place (ranges i) xs i.extent) taken items ∙ each_all ranges taken items

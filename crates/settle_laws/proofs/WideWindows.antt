@@ -16,7 +16,7 @@ use Rattle.settle_spec.specs.FirstPlace.{Extent, least_number}
 use Rattle.settle_spec.specs.Parts.{class_in, prefetchable_class}
 use Rattle.settle_spec.specs.Lists.{Request}
 use Rattle.settle_spec.specs.Spares.{with_spare}
-use Rattle.settle_spec.specs.Items.{Item, highest_of, highest_in, has_of, bus_items, nothing, spare_of, new_window}
+use Rattle.settle_spec.specs.Items.{PlacingItem, highest_of, highest_in, has_of, bus_items, nothing, spare_of, new_window}
 use Rattle.settle_spec.proofs.Classes.{class_planned}
 use Rattle.settle_spec.proofs.FirstSpot.{least_from}
 use Rattle.settle_spec.proofs.Nested.{on_it}
@@ -54,10 +54,10 @@ module _ (q : Request) (s : System) (system : IsSystem s) (nested : IsNested q.r
   own_high f Rom plain class = own f Rom plain class
   own_high f (Window kind) plain class = absurd (both_ways true plain refl)
 
-  item_high : (bus : ℕ) (i : Item) → IsItemOf q s (new_window q s) c bus i
+  item_high : (bus : ℕ) (i : PlacingItem) → IsItemOf q s (new_window q s) c bus i
       → ((b : Function) → Contains s b → is_bridge b ≡ true → are_siblings q.roots bus b.slot.bus ≡ true → has_of q s c b ≡ true → low ≤ (new_window q s c b).highest)
       → low ≤ i.extent.highest
-  item_high bus i is windows = subst (λ (j : Item). low ≤ j.extent.highest) is.is (by is.can)
+  item_high bus i is windows = subst (λ (j : PlacingItem). low ≤ j.extent.highest) is.is (by is.can)
     where
       by : IsPlaceable q s c is.f is.p → low ≤ (extent_by (new_window q s) is.f is.p).highest
       by (IsOwnPart plain part) = own_high is.f is.p plain is.class
@@ -68,14 +68,14 @@ module _ (q : Request) (s : System) (system : IsSystem s) (nested : IsNested q.r
       → low ≤ (new_window q s c b).highest
   window_high b listed bridge has inner =
       let items = bus_items q s c nothing (new_window q s c) (secondary b) in
-      let own = map (λ (i : Item). i.extent) items in
+      let own = map (λ (i : PlacingItem). i.extent) items in
       let extents = with_spare (spare_of q c b) own in
       let around : (new_window q s c b).highest ≡ least_number (highest_in c b.probe ∷ map (λ (e : Extent). e.highest) extents) = ap (λ (e : Extent). e.highest) (window_is_around q s c system nested b listed bridge) in
       let all = least_from (highest_in c b.probe) (map (λ (e : Extent). e.highest) extents) low (over b listed bridge has) (λ x in_x.
       let of : IsMade (λ (e : Extent). e.highest) extents x = in_map_to (λ (e : Extent). e.highest) extents x in_x in
       subst (λ n. low ≤ n) of.is (elim (with_spare_cases (spare_of q c b) own of.from of.has) [
         | inl here ↦
-            let made : IsMade (λ (i : Item). i.extent) items of.from = in_map_to (λ (i : Item). i.extent) items of.from here in
+            let made : IsMade (λ (i : PlacingItem). i.extent) items of.from = in_map_to (λ (i : PlacingItem). i.extent) items of.from here in
             subst (λ (e : Extent). low ≤ e.highest) made.is (item_high (secondary b) made.from (items_are q s (new_window q s) c nothing (secondary b) made.from made.has) inner)
         | inr spare ↦
             let same = sym (spare_highest q c b) ∙ ap (highest_or (highest_in c b.probe)) spare in
@@ -93,7 +93,7 @@ module _ (q : Request) (s : System) (system : IsSystem s) (nested : IsNested q.r
       let up = order_of q.roots s nested d in_d is_d in
       high_within n d in_d is_d has_d (omega (arith, at, up, far)))
 
-  pub items_high : (bus : ℕ) (i : Item) → IsItemOf q s (new_window q s) c bus i → low ≤ i.extent.highest
+  pub items_high : (bus : ℕ) (i : PlacingItem) → IsItemOf q s (new_window q s) c bus i → low ≤ i.extent.highest
   items_high bus i is = item_high bus i is (λ b listed bridge beside has. high_within 256 b listed bridge has (omega arith))
 
 -- ---- so they may lie as high as the pools of planning
@@ -110,7 +110,7 @@ module _ (q : Request) (s : System) (pools : Pools) (system : IsSystem s) (neste
   io_window true = omega arith
   io_window false = omega arith
 
-  pub io_items : (bus : ℕ) (i : Item) → IsItemOf q s (new_window q s) IoWindow bus i → 0xffff ≤ i.extent.highest
+  pub io_items : (bus : ℕ) (i : PlacingItem) → IsItemOf q s (new_window q s) IoWindow bus i → 0xffff ≤ i.extent.highest
   io_items = items_high q s system nested IoWindow 0xffff (λ f p plain class. any_high f p) (λ b listed bridge has. io_window (is_wide_window IoWindow b.probe))
 
   -- one of memory as high as 4 GB
@@ -131,14 +131,14 @@ module _ (q : Request) (s : System) (pools : Pools) (system : IsSystem s) (neste
   prefetch_not_io : IoWindow ≡ PrefetchWindow → ⊥
   prefetch_not_io e = cc
 
-  pub memory_items : (bus : ℕ) (i : Item) → IsItemOf q s (new_window q s) MemoryWindow bus i → 0xffff_ffff ≤ i.extent.highest
+  pub memory_items : (bus : ℕ) (i : PlacingItem) → IsItemOf q s (new_window q s) MemoryWindow bus i → 0xffff_ffff ≤ i.extent.highest
   memory_items = items_high q s system nested MemoryWindow 0xffff_ffff (λ f p plain class. plain_high f p (λ io. memory_not_io (io ∙ class))) (λ b listed bridge has. omega arith)
 
   prefetch_window : (wide : Bool) → 0xffff_ffff ≤ (if wide then 0xffff_ffff_ffff_ffff else 0xffff_ffff)
   prefetch_window true = omega arith
   prefetch_window false = omega arith
 
-  pub prefetch_items : (bus : ℕ) (i : Item) → IsItemOf q s (new_window q s) PrefetchWindow bus i → 0xffff_ffff ≤ i.extent.highest
+  pub prefetch_items : (bus : ℕ) (i : PlacingItem) → IsItemOf q s (new_window q s) PrefetchWindow bus i → 0xffff_ffff ≤ i.extent.highest
   prefetch_items = items_high q s system nested PrefetchWindow 0xffff_ffff (λ f p plain class. plain_high f p (λ io. prefetch_not_io (io ∙ class))) (λ b listed bridge has. prefetch_window (is_wide_window PrefetchWindow b.probe))
 
   -- and above 4 GB all that is prefetchable anywhere
@@ -174,5 +174,5 @@ module _ (q : Request) (s : System) (pools : Pools) (system : IsSystem s) (neste
         let most : highest_in PrefetchWindow b.probe ≡ 0xffff_ffff_ffff_ffff = ap (λ t. if t then 0xffff_ffff_ffff_ffff else 0xffff_ffff) wide in
         omega (arith, most)
 
-    pub wide_items : (bus : ℕ) (i : Item) → IsItemOf q s (new_window q s) PrefetchWindow bus i → 0xffff_ffff_ffff_ffff ≤ i.extent.highest
+    pub wide_items : (bus : ℕ) (i : PlacingItem) → IsItemOf q s (new_window q s) PrefetchWindow bus i → 0xffff_ffff_ffff_ffff ≤ i.extent.highest
     wide_items = items_high q s system nested PrefetchWindow 0xffff_ffff_ffff_ffff (λ f p plain class. own_wide f p plain (ap (same_class PrefetchWindow) (sym (classes f p) ∙ class))) bridge_wide

@@ -5,7 +5,7 @@ use Rattle.pci_spec.specs.Number.{byte_at, number_at, IsImage}
 use Rattle.pci_spec.specs.System.{Function}
 use Rattle.pci_spec.specs.Window.{WindowKind, IoWindow, MemoryWindow, PrefetchWindow, Bounds, bounds_at, page_size}
 use Rattle.plan_spec.proofs.Planning.WindowFits.{PartsFit}
-use Rattle.settle_spec.specs.Registers.{with_number, with_bounds}
+use Rattle.judge_spec.specs.Windows.{with_number, with_bounds}
 use Rattle.settle_laws.proofs.Images.{same_number}
 use Rattle.settle_laws.proofs.Numbers.{with_elsewhere, with_image}
 use Rattle.settle_laws.proofs.NumbersPut.{reads_one, reads_two, reads_four}

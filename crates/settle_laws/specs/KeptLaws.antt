@@ -11,7 +11,7 @@ use Rattle.judge_spec.specs.ToldRegion.{ToldRegion, told_regions}
 use Rattle.settle_spec.specs.Lists.{Request}
 use Rattle.settle_spec.specs.Parts.{FunctionPart, system_parts, addresses, lies_within}
 use Rattle.settle_spec.specs.Stands.{is_fixed_part, rank, part_space, are_beside, is_in_lists, window_part}
-use Rattle.settle_spec.specs.Items.{Item, Placed, AllPlaced, taken_by, bus_items, highest_in, new_window, place_each}
+use Rattle.settle_spec.specs.Items.{PlacingItem, Placed, AllPlaced, taken_by, bus_items, highest_in, new_window, place_each}
 use Rattle.settle_spec.specs.Lines.{line_range, can_keep_off, lines_behind, taken_for}
 use Rattle.settle_spec.specs.PlacingLaws.{ArePlaced}
 use Rattle.settle_spec.specs.GrowthLaws.{MoveOut}
@@ -21,12 +21,12 @@ use Rattle.settle_spec.specs.Wishes.{place_then, range_then}
 use Rattle.settle_laws.specs.KeptApart.{IsKeptApart}
 
 -- a range shares no address with another
-abbrev pub IsAside : Range → Range → Type 0
-IsAside r t = (t.last < r.first) ⊎ (r.last < t.first)
+abbrev pub IsRangeApart : Range → Range → Type 0
+IsRangeApart r t = (t.last < r.first) ⊎ (r.last < t.first)
 
 -- what is taken is taken in the other list too, or outside a range
 abbrev pub IsAlikeIn : Range → List Range → List Range → Type 0
-IsAlikeIn r xs ys = (t : Range) → Contains xs t → Contains ys t ⊎ IsAside r t
+IsAlikeIn r xs ys = (t : Range) → Contains xs t → Contains ys t ⊎ IsRangeApart r t
 
 -- What is placed is off what lines hold behind it: so it is with each new window.
 abbrev pub AreOffBehind : Request → List Placed → Type 0
@@ -35,7 +35,7 @@ AreOffBehind q placed =
 
 -- Items have the places that are found for them, beside what is taken: in a range, off that, off each other, and off what lines
 -- hold behind them.
-pub record HavePlaces (q : Request) (w : Range) (find : Item → List Range → Option ℕ) (taken : List Range) (items : List Item) : Type 0 where
+pub record HavePlaces (q : Request) (w : Range) (find : PlacingItem → List Range → Option ℕ) (taken : List Range) (items : List PlacingItem) : Type 0 where
   pub placed : List Placed
   pub found : place_each (λ i xs. find i (taken_for q i.region xs)) taken items ≡ AllPlaced placed
   pub are : ArePlaced (λ i. w ∷ []) taken items placed

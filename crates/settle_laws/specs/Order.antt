@@ -5,7 +5,7 @@ use Rattle.pci_spec.specs.System.{System, IsSystem}
 use Rattle.pci_spec.specs.Bus.{is_root}
 use Rattle.settle_spec.specs.Lists.{Request}
 use Rattle.settle_spec.specs.Parts.{FunctionPart, system_parts}
-use Rattle.settle_spec.specs.Stands.{rank, precedes}
+use Rattle.settle_spec.specs.Stands.{rank, told_part_precedes}
 
 -- all roots are the lowest bus
 abbrev pub level : Request → ℕ → ℕ
@@ -15,7 +15,7 @@ level q bus = if is_root q.roots bus then 0 else bus + 1
 abbrev pub comes_first : Request → System → FunctionPart → FunctionPart → Bool
 comes_first q s t r =
     nat_lt (level q t.function.slot.bus) (level q r.function.slot.bus)
-    || (level q t.function.slot.bus == level q r.function.slot.bus && precedes q s t r)
+    || (level q t.function.slot.bus == level q r.function.slot.bus && told_part_precedes q s t r)
 
 -- The parts of a system stand by rising slots and registers.
 abbrev pub RanksRise : Type 0

@@ -10,7 +10,7 @@ use Rattle.pci_spec.specs.Sound.{IsInProfile, HasChains}
 use Rattle.plan_spec.specs.Plan.{Pools, pool_of, need_of, window_size, fits}
 use Rattle.plan_spec.specs.PlanPromise.{CanBePlanned}
 use Rattle.settle_spec.specs.FirstPlace.{Extent}
-use Rattle.settle_spec.specs.Lists.{RootRange, Spares, Request}
+use Rattle.settle_spec.specs.Lists.{RootRange, Request, no_spares}
 use Rattle.settle_spec.specs.Items.{new_window}
 use Rattle.settle_spec.specs.Keeping.Places.{lacking}
 use Rattle.settle_laws.specs.Keeping.PlacesLaws.{CanSettle}
@@ -20,10 +20,6 @@ use Rattle.judge_spec.specs.ToldClaims.{nothing_told}
 -- a pool that all roots have, as the one range of a list
 abbrev pub pool_list : Range → List RootRange
 pool_list pool = record { root = None; range = pool } ∷ []
-
--- no addresses are wanted behind slots
-abbrev pub no_spares : Spares
-no_spares = record { io = 0; memory = 0; prefetch = 0 }
 
 -- all is placed anew below some roots, in the pools of planning, and no bridge has a slot
 abbrev pub anew_in : List ℕ → Pools → Request

@@ -38,8 +38,8 @@ pub record IsUncut (q : Request) (s : System) : Type 0 where
   pub above : (f : Function) (space : Space) → Contains s f → IsFalse (is_cut_off_in q s f space)
 
 -- Where each part stands, a system is sound if that is kept,
-abbrev pub StandingIsSound : Type 0
-StandingIsSound =
+abbrev pub StandingSystemIsSound : Type 0
+StandingSystemIsSound =
     (q : Request) (s : System) → IsStandingSystem q s → IsUncut q s → IsSound q.roots s
 
 -- and only then, as far as I/O is off where it has to be.

@@ -10,7 +10,7 @@ use Rattle.settle_spec.specs.FirstPlace.{ranges_are_apart}
 use Rattle.settle_spec.specs.Lists.{Request}
 use Rattle.settle_spec.specs.Parts.{FunctionPart, system_parts, addresses, lies_within, class_in}
 use Rattle.settle_spec.specs.Stands.{rank, are_beside, window_part, stands}
-use Rattle.settle_spec.specs.Items.{Item, bus_items, new_window}
+use Rattle.settle_spec.specs.Items.{PlacingItem, bus_items, new_window}
 use Rattle.settle_spec.specs.Reach.{reach}
 use Rattle.settle_spec.specs.Growth.{part_comes_to, there_if, there, comes_to}
 use Rattle.settle_laws.specs.Reach.{WindowsAreLow}
@@ -18,7 +18,7 @@ use Rattle.settle_laws.specs.Reach.{WindowsAreLow}
 -- each item has an alignment
 abbrev pub ItemsAreAligned : Request → System → Type 0
 ItemsAreAligned q s =
-    (c : WindowKind) (keeps : FunctionPart → Bool) (bus : ℕ) (i : Item)
+    (c : WindowKind) (keeps : FunctionPart → Bool) (bus : ℕ) (i : PlacingItem)
     → Contains (bus_items q s c keeps (new_window q s c) bus) i → 0 < i.extent.alignment
 
 -- a bus, all roots being the lowest one

@@ -26,7 +26,7 @@ use Rattle.settle_spec.specs.Keeping.Writes.{settle_writes, settle_keeping}
 use Rattle.settle_laws.specs.SparingLaws.{slot_and_register}
 use Rattle.settle_laws.specs.StandingTold.Kept.{LinesAreForward}
 use Rattle.settle_laws.specs.Told.Ranges.{IsSettledSo}
-use Rattle.settle_laws.specs.ToldSoundLaws.{IsAdmitted}
+use Rattle.settle_laws.specs.ToldSoundLaws.{IsAdmittedSystem}
 use Rattle.settle_laws.specs.Keeping.PlacesLaws.{CanSettle, end_range}
 
 -- ---- what is settled so
@@ -81,7 +81,7 @@ has_room_off q t c b e =
 
 -- A system is admitted, told ranges are as a text tells them, and nobody is asleep.
 pub record CanAskAwake (q : Request) (s : System) : Type 0 where
-  pub admitted : IsAdmitted q s
+  pub admitted : IsAdmittedSystem q s
   pub told : IsTold q.told.ranges
   pub awake : q.told.asleep ≡ []
 

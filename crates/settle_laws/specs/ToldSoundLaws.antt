@@ -80,7 +80,7 @@ AlwaysIsReached =
 -- ---- the whole
 
 -- A system is admitted, and lists of prefetchable memory end below 2^64.
-pub record IsAdmitted (q : Request) (s : System) : Type 0 where
+pub record IsAdmittedSystem (q : Request) (s : System) : Type 0 where
   pub high : (r : RootRange) → Contains q.lists.prefetch r → r.range.last < 2 ^ 64
   pub system : IsSystem s
   pub nested : IsNested q.roots s
@@ -89,7 +89,7 @@ pub record IsAdmitted (q : Request) (s : System) : Type 0 where
 
 -- A system is admitted, and so is what is told of it.
 pub record CanAskTold (q : Request) (s : System) : Type 0 where
-  pub admitted : IsAdmitted q s
+  pub admitted : IsAdmittedSystem q s
   pub told : IsToldOf q s
 
 -- What is settled beside what is kept soundly can be settled so, by just these writes.
@@ -105,14 +105,14 @@ SettledStandingIsSound =
     → settle_keeping q s (as_it_stands q s) ≡ Settled writes → IsSoundAsTold q (system_after s writes)
 
 -- and so is what it comes to where windows grow,
-abbrev pub SettledGrowingIsSound : Type 0
-SettledGrowingIsSound =
+abbrev pub ToldGrowingIsSound : Type 0
+ToldGrowingIsSound =
     (q : Request) (s : System) (writes : List Write) → CanAskTold q s
     → settle_growing q s ≡ Settled writes → IsSoundAsTold q (system_after s writes)
 
 -- and with room behind slots.
-abbrev pub SettledSparingIsSound : Type 0
-SettledSparingIsSound =
+abbrev pub ToldSparingIsSound : Type 0
+ToldSparingIsSound =
     (q : Request) (s : System) (writes : List Write) → CanAskTold q s
     → settle_sparing q s ≡ Settled writes → IsSoundAsTold q (system_after s writes)
 
@@ -124,15 +124,15 @@ SettlingStandingCanStop =
     → (length (closings q s (as_it_stands q s) s) ≤ n) ⊎ IsSoundAsTold q s
     → IsSoundAsTold q (system_after s (take n writes))
 
-abbrev pub SettlingGrowingCanStop : Type 0
-SettlingGrowingCanStop =
+abbrev pub ToldGrowingCanStop : Type 0
+ToldGrowingCanStop =
     (q : Request) (s : System) (writes : List Write) (n : ℕ) → CanAskTold q s
     → settle_growing q s ≡ Settled writes
     → (length (growing_closings q s) ≤ n) ⊎ IsSoundAsTold q s
     → IsSoundAsTold q (system_after s (take n writes))
 
-abbrev pub SettlingSparingCanStop : Type 0
-SettlingSparingCanStop =
+abbrev pub ToldSparingCanStop : Type 0
+ToldSparingCanStop =
     (q : Request) (s : System) (writes : List Write) (n : ℕ) → CanAskTold q s
     → settle_sparing q s ≡ Settled writes
     → (length (sparing_closings q s) ≤ n) ⊎ IsSoundAsTold q s
@@ -141,8 +141,8 @@ SettlingSparingCanStop =
 -- ---- what is written
 
 -- To a device at most 9 writes are made, and to a bridge 16.
-abbrev pub FewWritesEach : Type 0
-FewWritesEach =
+abbrev pub FewSparingWritesEach : Type 0
+FewSparingWritesEach =
     (q : Request) (s : System) (writes : List Write) → IsSystem s
     → settle_sparing q s ≡ Settled writes → (f : Function) → Contains s f
     → count_by (λ w. same_slot w.slot f.slot) writes ≤ most_settle_writes f
@@ -156,5 +156,5 @@ FixedIsNotWritten =
 -- Only address bits and Command's enables of I/O and memory change.
 abbrev pub SettlingMoves : Type 0
 SettlingMoves =
-    (q : Request) (s : System) (writes : List Write) → IsAdmitted q s
+    (q : Request) (s : System) (writes : List Write) → IsAdmittedSystem q s
     → settle_sparing q s ≡ Settled writes → AllZip IsMoved s (system_after s writes)

@@ -2,8 +2,8 @@
 
 ghost use Rattle.settle_laws.specs.Keeping.AgainLaws.{SettledPartsStand};
 ghost use Rattle.settle_laws.specs.Keeping.BusLaws.{PlacingIsByBus, RootsAreOne};
-ghost use Rattle.settle_laws.specs.Keeping.PlacesLaws.{EachBusIsPlaced, PartsGetPlaces, PlacesAreOfOthers, PlacesAreInLists, PlacesAreInWindows, PlacesAreApart};
-ghost use Rattle.settle_laws.specs.Keeping.SoundLaws.{SettledShowsPlaces, SettledOpensPlaces, SettledClosesTheRest, SettlingMoves, SettledIsInProfile, BridgesAreEnabled, SettledIsSound, SettlingCanStop, SettlingSettles};
+ghost use Rattle.settle_laws.specs.Keeping.PlacesLaws.{EachBusIsPlaced, PartsGetPlaces, PlacesAreOfOthers, PlacesAreInLists, PlacesAreInWindows, KeepingPlacesAreApart};
+ghost use Rattle.settle_laws.specs.Keeping.SoundLaws.{SettledShowsPlaces, SettledOpensPlaces, SettledClosesTheRest, SettlingKeepingMoves, SettledIsInProfile, BridgesAreEnabled, SettledKeepingIsSound, SettlingKeepingCanStop, SettlingSettles};
 ghost use Rattle.settle_laws.specs.Keeping.WriteLaws.{FewSettleWritesEach, UnshutIsNeverOff};
 
 /// Places are told by those on the bus of the bridge above, and all roots are one bus.
@@ -25,12 +25,12 @@ pub fn only_roots_lack_room()
 pub fn places_are_in_windows_and_apart()
     ensures listed { PlacesAreInLists }
     ensures inside { PlacesAreInWindows }
-    ensures apart { PlacesAreApart }
+    ensures apart { KeepingPlacesAreApart }
 {}
 
 /// Settling changes address bits and Command's enables of I/O and memory alone, and keeps the profile.
 pub fn settling_moves_addresses()
-    ensures moved { SettlingMoves }
+    ensures moved { SettlingKeepingMoves }
     ensures profile { SettledIsInProfile }
 {}
 
@@ -44,8 +44,8 @@ pub fn settled_registers_show_places()
 /// What settling comes to is sound, and so is what is left of it wherever its writes may stop.
 pub fn settling_is_sound()
     ensures enabled { BridgesAreEnabled }
-    ensures sound { SettledIsSound }
-    ensures stop { SettlingCanStop }
+    ensures sound { SettledKeepingIsSound }
+    ensures stop { SettlingKeepingCanStop }
     ensures settles { SettlingSettles }
 {}
 

@@ -1,11 +1,11 @@
 //! Laws of what Command enables where each part stands. These functions do nothing: each contract is a law.
 
-ghost use Rattle.settle_laws.specs.Switching.{StandingIsSound, SoundIsUncut, StandingIsSettled, SwitchedStands, EnabledIsUncut, PlannedIsStanding, SettledIsStanding, SettledAnewIsSettled};
+ghost use Rattle.settle_laws.specs.Switching.{StandingSystemIsSound, SoundIsUncut, StandingIsSettled, SwitchedStands, EnabledIsUncut, PlannedIsStanding, SettledIsStanding, SettledAnewIsSettled};
 
 /// A system in which each part stands, and I/O is off where an I/O BAR is left, is sound exactly if what is
 /// on has all bridges above on; and then it is settled.
 pub fn standing_systems_are_sound()
-    ensures sound { StandingIsSound }
+    ensures sound { StandingSystemIsSound }
     ensures uncut { SoundIsUncut }
     ensures settled { StandingIsSettled }
 {}

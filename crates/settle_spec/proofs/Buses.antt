@@ -8,15 +8,15 @@ use Rattle.pci_spec.specs.System.{System, IsSystem}
 use Rattle.pci_spec.specs.Bus.{is_root, are_siblings, IsNested}
 use Rattle.pci_spec.proofs.Members.{in_head, in_tail}
 use Rattle.settle_spec.specs.Lists.{Request}
-use Rattle.settle_spec.specs.Items.{Item, Placing, and_placed, place_next, taken_by, place_each}
+use Rattle.settle_spec.specs.Items.{PlacingItem, Placing, and_placed, place_next, taken_by, place_each}
 
 -- ---- searches that agree
 
-pub next_same : (i : Item) (o : Option ℕ) (f g : ℕ → Placing) → ((a : ℕ) → f a ≡ g a) → place_next i o f ≡ place_next i o g
+pub next_same : (i : PlacingItem) (o : Option ℕ) (f g : ℕ → Placing) → ((a : ℕ) → f a ≡ g a) → place_next i o f ≡ place_next i o g
 next_same i None f g same = refl
 next_same i (Some a) f g same = ap (and_placed i a) (same a)
 
-pub each_same : (find other : Item → List Range → Option ℕ) (taken : List Range) (items : List Item) → ((i : Item) (xs : List Range) → Contains items i → find i xs ≡ other i xs)
+pub each_same : (find other : PlacingItem → List Range → Option ℕ) (taken : List Range) (items : List PlacingItem) → ((i : PlacingItem) (xs : List Range) → Contains items i → find i xs ≡ other i xs)
     → place_each find taken items ≡ place_each other taken items
 each_same find other taken [] same = refl
 each_same find other taken (i ∷ items) same =

@@ -16,15 +16,15 @@ use Rattle.settle_spec.specs.FirstPlace.{Extent}
 use Rattle.settle_spec.specs.Lists.{Request}
 use Rattle.settle_spec.specs.Parts.{FunctionPart, function_parts}
 use Rattle.settle_spec.specs.Stands.{window_part}
-use Rattle.settle_spec.specs.Items.{Item, in_turn, own_item, is_own, has_of, items_of, bus_items, nothing}
+use Rattle.settle_spec.specs.Items.{PlacingItem, in_turn, own_item, is_own, has_of, items_of, bus_items, nothing}
 use Rattle.settle_spec.proofs.InTurn.{turn_same}
 use Rattle.settle_spec.proofs.Nested.{at_secondary, behind_outer, is_no_root, on_it}
 use Rattle.settle_spec.proofs.NewWindows.{on_bus}
 
-some_long : (xs : List Item) (i : Item) → Contains xs i → 0 < length xs
+some_long : (xs : List PlacingItem) (i : PlacingItem) → Contains xs i → 0 < length xs
 some_long xs i (k, less, at) = omega (arith, less)
 
-long_some : (xs : List Item) → 0 < length xs → (i : Item) × Contains xs i
+long_some : (xs : List PlacingItem) → 0 < length xs → (i : PlacingItem) × Contains xs i
 long_some [] some = absurd (let no : ⊥ = omega (arith, some) in no)
 long_some (i ∷ xs) some = (i, in_head i xs)
 
@@ -35,13 +35,13 @@ module _ (q : Request) (s : System) (c : WindowKind) (e : Function → Extent) w
   abbrev moves : FunctionPart → Bool
   moves r = is_own q s c r && not (nothing r)
 
-  abbrev own : Function → List Item
+  abbrev own : Function → List PlacingItem
   own f = map (own_item c) (filter moves (function_parts q s f))
 
   abbrev opens : Function → Bool
   opens f = is_bridge f && has_of q s c f && not (nothing (window_part c f))
 
-  abbrev window : Function → Item
+  abbrev window : Function → PlacingItem
   window f = record { region = window_part c f; class = c; extent = e f }
 
   has_by : (b f : Function) → Contains s f → is_behind b f.slot.bus ≡ true → has_own f ≡ true → has_of q s c b ≡ true
@@ -49,14 +49,14 @@ module _ (q : Request) (s : System) (c : WindowKind) (e : Function → Extent) w
       any_from (λ g. is_behind b g.slot.bus && has_own g) s f listed (and_from (is_behind b f.slot.bus) (has_own f) behind has)
 
   -- an item of a function is one of its bus
-  put : (f : Function) (i : Item) → Contains s f → Contains (items_of q s c nothing e f) i → Contains (bus_items q s c nothing e f.slot.bus) i
+  put : (f : Function) (i : PlacingItem) → Contains s f → Contains (items_of q s c nothing e f) i → Contains (bus_items q s c nothing e f.slot.bus) i
   put f i listed item =
       let all = flat_map (on_bus q s c e f.slot.bus) s in
       let beside : are_siblings q.roots f.slot.bus f.slot.bus ≡ true = or_left (f.slot.bus == f.slot.bus) (is_root q.roots f.slot.bus && is_root q.roots f.slot.bus) (eq-eqb f.slot.bus f.slot.bus refl) in
       Contains-permutation all (in_turn all) i (turn_same all)
       (in_flat_map_from (on_bus q s c e f.slot.bus) s f i listed (subst (λ b. Contains (cond b (items_of q s c nothing e f) []) i) (sym beside) item))
 
-  own_in : (f : Function) → has_own f ≡ true → (i : Item) × Contains (items_of q s c nothing e f) i
+  own_in : (f : Function) → has_own f ≡ true → (i : PlacingItem) × Contains (items_of q s c nothing e f) i
   own_in f has =
       let found = any_gives (is_own q s c) (function_parts q s f) has in (
         own_item c found.x,
@@ -80,7 +80,7 @@ module _ (q : Request) (s : System) (c : WindowKind) (e : Function → Extent) w
 
     -- ---- an item comes of something behind
 
-    of_item : (b f : Function) (i : Item) → Contains s b → Contains s f → is_bridge b ≡ true → secondary b ≡ f.slot.bus → Contains (items_of q s c nothing e f) i → has_of q s c b ≡ true
+    of_item : (b f : Function) (i : PlacingItem) → Contains s b → Contains s f → is_bridge b ≡ true → secondary b ≡ f.slot.bus → Contains (items_of q s c nothing e f) i → has_of q s c b ≡ true
     of_item b f i in_b in_f bridge at item =
         let behind = at_secondary q.roots s system nested b f.slot.bus in_b bridge at in
         elim (Contains-append_cases (own f) (cond (opens f) (window f ∷ []) []) i item) [
@@ -94,7 +94,7 @@ module _ (q : Request) (s : System) (c : WindowKind) (e : Function → Extent) w
               has_up f b in_f in_b parts.0 bridge behind parts.1
         ]
 
-    of_bus : (b : Function) (i : Item) → Contains s b → is_bridge b ≡ true → Contains (bus_items q s c nothing e (secondary b)) i → has_of q s c b ≡ true
+    of_bus : (b : Function) (i : PlacingItem) → Contains s b → is_bridge b ≡ true → Contains (bus_items q s c nothing e (secondary b)) i → has_of q s c b ≡ true
     of_bus b i in_b bridge listed =
         let all = flat_map (on_bus q s c e (secondary b)) s in
         let piece : IsInPiece (on_bus q s c e (secondary b)) s i =
@@ -106,8 +106,8 @@ module _ (q : Request) (s : System) (c : WindowKind) (e : Function → Extent) w
     -- ---- something behind makes an item
 
     -- an item on a bus behind a bridge makes one on the bus right behind it
-    item_up : (n : ℕ) (b f : Function) (i : Item) → f.slot.bus < n → Contains s b → Contains s f → is_bridge b ≡ true → is_behind b f.slot.bus ≡ true → Contains (items_of q s c nothing e f) i
-        → (j : Item) × Contains (bus_items q s c nothing e (secondary b)) j
+    item_up : (n : ℕ) (b f : Function) (i : PlacingItem) → f.slot.bus < n → Contains s b → Contains s f → is_bridge b ≡ true → is_behind b f.slot.bus ≡ true → Contains (items_of q s c nothing e f) i
+        → (j : PlacingItem) × Contains (bus_items q s c nothing e (secondary b)) j
     item_up zero b f i less in_b in_f bridge behind item = absurd (let no : ⊥ = omega (arith, less) in no)
     item_up (suc n) b f i less in_b in_f bridge behind item =
         let low = (behind_range b f.slot.bus behind).0 in
@@ -126,7 +126,7 @@ module _ (q : Request) (s : System) (c : WindowKind) (e : Function → Extent) w
               (window_in d leads.1 (of_item d f i leads.0 in_f leads.1 to item))
         ]
 
-    of_behind : (b : Function) → Contains s b → is_bridge b ≡ true → has_of q s c b ≡ true → (j : Item) × Contains (bus_items q s c nothing e (secondary b)) j
+    of_behind : (b : Function) → Contains s b → is_bridge b ≡ true → has_of q s c b ≡ true → (j : PlacingItem) × Contains (bus_items q s c nothing e (secondary b)) j
     of_behind b listed bridge has =
         let found = any_gives (λ g. is_behind b g.slot.bus && has_own g) s has in
         let f = found.x in

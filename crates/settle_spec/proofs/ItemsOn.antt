@@ -15,7 +15,7 @@ use Rattle.settle_spec.specs.FirstPlace.{Extent}
 use Rattle.settle_spec.specs.Lists.{Request}
 use Rattle.settle_spec.specs.Parts.{FunctionPart, is_part, parts_of, header_parts, function_parts, class_in}
 use Rattle.settle_spec.specs.Stands.{window_part}
-use Rattle.settle_spec.specs.Items.{Item, in_turn, own_item, is_own, has_of, items_of, bus_items, new_window}
+use Rattle.settle_spec.specs.Items.{PlacingItem, in_turn, own_item, is_own, has_of, items_of, bus_items, new_window}
 use Rattle.settle_spec.specs.Keeping.Places.{space_items}
 use Rattle.settle_spec.proofs.InTurn.{turn_same}
 use Rattle.settle_spec.specs.Kept.{Kept}
@@ -46,7 +46,7 @@ module _ (q : Request) (s : System) (c : WindowKind) (keeps : FunctionPart → B
   abbrev opens : Function → Bool
   opens f = is_bridge f && has_of q s c f && not (keeps (window_part c f))
 
-  abbrev window : Function → Item
+  abbrev window : Function → PlacingItem
   window f = record { region = window_part c f; class = c; extent = extent f }
 
   pub placed_part : (f : Function) (p : Part) → Contains (parts_of q s f) p → moves record { function = f; part = p } ≡ true → IsPlacedPart q s c keeps f p
@@ -70,8 +70,8 @@ module _ (q : Request) (s : System) (c : WindowKind) (keeps : FunctionPart → B
       record { bridge = bridge.0; has = bridge.1; moves = not-true (keeps (window_part c f)) both.1 }
 
   -- of each item of a function
-  pub each_of : (f : Function) (P : Item → Type 0) → ((p : Part) → IsPlacedPart q s c keeps f p → P (own_item c record { function = f; part = p })) → (IsOpened q s c keeps f → P (window f))
-      → (i : Item) → Contains (items_of q s c keeps extent f) i → P i
+  pub each_of : (f : Function) (P : PlacingItem → Type 0) → ((p : Part) → IsPlacedPart q s c keeps f p → P (own_item c record { function = f; part = p })) → (IsOpened q s c keeps f → P (window f))
+      → (i : PlacingItem) → Contains (items_of q s c keeps extent f) i → P i
   each_of f P own new i listed = elim (Contains-append_cases (map (own_item c) (filter moves (function_parts q s f))) (cond (opens f) (window f ∷ []) []) i listed) [
     | inl here ↦
         let made : IsMade (own_item c) (filter moves (function_parts q s f)) i = in_map_to (own_item c) (filter moves (function_parts q s f)) i here in
@@ -86,12 +86,12 @@ module _ (q : Request) (s : System) (c : WindowKind) (keeps : FunctionPart → B
         ]
   ]
 
-  abbrev on_bus : ℕ → Function → List Item
+  abbrev on_bus : ℕ → Function → List PlacingItem
   on_bus bus f = cond (are_siblings q.roots bus f.slot.bus) (items_of q s c keeps extent f) []
 
   -- of each item of a bus
-  pub each_on : (bus : ℕ) (P : Item → Type 0) → ((f : Function) → IsBeside q s bus f → (p : Part) → IsPlacedPart q s c keeps f p → P (own_item c record { function = f; part = p }))
-      → ((f : Function) → IsBeside q s bus f → IsOpened q s c keeps f → P (window f)) → (i : Item) → Contains (bus_items q s c keeps extent bus) i → P i
+  pub each_on : (bus : ℕ) (P : PlacingItem → Type 0) → ((f : Function) → IsBeside q s bus f → (p : Part) → IsPlacedPart q s c keeps f p → P (own_item c record { function = f; part = p }))
+      → ((f : Function) → IsBeside q s bus f → IsOpened q s c keeps f → P (window f)) → (i : PlacingItem) → Contains (bus_items q s c keeps extent bus) i → P i
   each_on bus P own new i listed =
       let all = flat_map (on_bus bus) s in
       let piece : IsInPiece (on_bus bus) s i = in_flat_map_to (on_bus bus) s i (Contains-permutation (in_turn all) all i (IsPermutation-sym all (in_turn all) (turn_same all)) listed) in
@@ -100,10 +100,10 @@ module _ (q : Request) (s : System) (c : WindowKind) (keeps : FunctionPart → B
       each_of piece.of P (own piece.of beside) (new piece.of beside) i split.1
 
 -- of each item of a bus in a space
-pub each_in : (q : Request) (s : System) (k : Kept) (space : Space) (bus : ℕ) (P : Item → Type 0)
+pub each_in : (q : Request) (s : System) (k : Kept) (space : Space) (bus : ℕ) (P : PlacingItem → Type 0)
     → ((c : WindowKind) → window_space c ≡ space → (f : Function) → IsBeside q s bus f → (p : Part) → IsPlacedPart q s c k.stays f p → P (own_item c record { function = f; part = p }))
     → ((c : WindowKind) → window_space c ≡ space → (f : Function) → IsBeside q s bus f → IsOpened q s c k.stays f → P record { region = window_part c f; class = c; extent = new_window q s c f })
-    → (i : Item) → Contains (space_items q s k space bus) i → P i
+    → (i : PlacingItem) → Contains (space_items q s k space bus) i → P i
 each_in q s k Io bus P own new i listed = each_on q s IoWindow k.stays (new_window q s IoWindow) bus P (own IoWindow refl) (new IoWindow refl) i listed
 each_in q s k Memory bus P own new i listed =
     elim (Contains-append_cases (bus_items q s MemoryWindow k.stays (new_window q s MemoryWindow) bus) (bus_items q s PrefetchWindow k.stays (new_window q s PrefetchWindow) bus) i listed) [

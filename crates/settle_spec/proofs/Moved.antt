@@ -6,7 +6,7 @@ use Rattle.std.proofs.lemmas.Bool.{cases_eq, cases_order}
 use Rattle.std.proofs.lemmas.List.{length-set, get_or-set_same, get_or-set_other}
 use Rattle.std.proofs.lemmas.List.Edits.{swap_is}
 use Rattle.std.proofs.lemmas.List.Sorted.{IsPermutation-keeps}
-use Rattle.settle_spec.specs.Items.{Item, in_turn}
+use Rattle.settle_spec.specs.Items.{PlacingItem, in_turn}
 use Rattle.settle_spec.specs.PlacingLaws.{HasOtherRank}
 use Rattle.settle_spec.proofs.InTurn.{turn_free}
 
@@ -90,6 +90,6 @@ module _ {X : Type 0} (R : X → X → Type 0) (back : (x y : X) → R x y → R
   pairs_moved xs ys moved pairs = IsPermutation-keeps xs (AllPairs R) pairs (λ l i j p q h. pairs_swap l i j p q h) ys moved
 
 -- items that differ have one turn
-pub turn_moved : (items others : List Item) → AllPairs HasOtherRank items → IsPermutation items others → in_turn items ≡ in_turn others
+pub turn_moved : (items others : List PlacingItem) → AllPairs HasOtherRank items → IsPermutation items others → in_turn items ≡ in_turn others
 turn_moved items others apart moved =
     turn_free items others apart (pairs_moved HasOtherRank (λ i j differ same. differ (sym same)) items others moved apart) moved

@@ -11,7 +11,7 @@ use Rattle.settle_spec.specs.FirstPlace.{Extent}
 use Rattle.settle_spec.specs.Lists.{Request}
 use Rattle.settle_spec.specs.Parts.{function_parts}
 use Rattle.settle_spec.specs.Stands.{window_part}
-use Rattle.settle_spec.specs.Items.{Item, in_turn, own_item, is_own, has_of, items_of, bus_items, nothing, window_around, window_within, new_window}
+use Rattle.settle_spec.specs.Items.{PlacingItem, in_turn, own_item, is_own, has_of, items_of, bus_items, nothing, window_around, window_within, new_window}
 use Rattle.settle_spec.proofs.Nested.{on_it}
 
 window_step : (q : Request) (s : System) (c : WindowKind) (depth : ℕ) (b : Function)
@@ -23,24 +23,24 @@ window_none : (q : Request) (s : System) (c : WindowKind) (b : Function) → win
 unfolding window_within
 window_none q s c b = refl
 
-flat_map_same : (f g : Function → List Item) (s : System) → ((x : Function) → Contains s x → f x ≡ g x) → flat_map f s ≡ flat_map g s
+flat_map_same : (f g : Function → List PlacingItem) (s : System) → ((x : Function) → Contains s x → f x ≡ g x) → flat_map f s ≡ flat_map g s
 flat_map_same f g [] same = refl
 flat_map_same f g (x ∷ s) same =
     ap (λ ys. ys ++ flat_map f s) (same x (in_head x s)) ∙ ap (λ ys. g x ++ ys) (flat_map_same f g s (λ y listed. same y (in_tail x s y listed)))
 
-flat_map_none : (f : Function → List Item) (s : System) → ((x : Function) → Contains s x → f x ≡ []) → flat_map f s ≡ []
+flat_map_none : (f : Function → List PlacingItem) (s : System) → ((x : Function) → Contains s x → f x ≡ []) → flat_map f s ≡ []
 flat_map_none f [] none = refl
 flat_map_none f (x ∷ s) none =
     ap (λ ys. ys ++ flat_map f s) (none x (in_head x s)) ∙ flat_map_none f s (λ y listed. none y (in_tail x s y listed))
 
 module _ (q : Request) (s : System) (c : WindowKind) where
-  abbrev own : Function → List Item
+  abbrev own : Function → List PlacingItem
   own f = map (own_item c) (filter (λ r. is_own q s c r && not (nothing r)) (function_parts q s f))
 
   abbrev opens : Function → Bool
   opens f = is_bridge f && has_of q s c f && not (nothing (window_part c f))
 
-  abbrev window : Function → Extent → Item
+  abbrev window : Function → Extent → PlacingItem
   window f e = record { region = window_part c f; class = c; extent = e }
 
   -- the extents of windows count for bridges alone
@@ -52,7 +52,7 @@ module _ (q : Request) (s : System) (c : WindowKind) where
         ap (λ b. own f ++ cond b (window f (d f) ∷ []) []) off ∙ sym (ap (λ b. own f ++ cond b (window f (e f) ∷ []) []) off)
   ]
 
-  abbrev pub on_bus : (Function → Extent) → ℕ → Function → List Item
+  abbrev pub on_bus : (Function → Extent) → ℕ → Function → List PlacingItem
   on_bus e bus f = cond (are_siblings q.roots bus f.slot.bus) (items_of q s c nothing e f) []
 
   same_on : (d e : Function → Extent) (bus : ℕ) → ((f : Function) → Contains s f → are_siblings q.roots bus f.slot.bus ≡ true → is_bridge f ≡ true → d f ≡ e f)

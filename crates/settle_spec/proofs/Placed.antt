@@ -7,7 +7,7 @@ use Rattle.pci_spec.specs.Decoded.{Range}
 use Rattle.pci_spec.proofs.Members.{in_nil, in_head, in_tail, in_cons_cases, pairs_nil, pairs_cons}
 use Rattle.plan_spec.specs.Place.{range_from}
 use Rattle.settle_spec.specs.FirstPlace.{Extent, ranges_are_apart, is_free_from, is_spot, ends_by, is_place, first_place}
-use Rattle.settle_spec.specs.Items.{Item, Placed, Placing, AllPlaced, Lacks, and_placed, place_next, place_all, taken_by}
+use Rattle.settle_spec.specs.Items.{PlacingItem, Placed, Placing, AllPlaced, Lacks, and_placed, place_next, place_all, taken_by}
 use Rattle.settle_spec.specs.PlacingLaws.{PlacesAreApart, ArePlaced}
 use Rattle.settle_spec.proofs.FirstPlace.{first_is, some_place}
 
@@ -46,10 +46,10 @@ apart_first r t taken e a place =
 
 -- ---- all items
 
-abbrev Made : (Item → List Range) → List Range → List Item → Type 0
+abbrev Made : (PlacingItem → List Range) → List Range → List PlacingItem → Type 0
 Made ranges taken items = (placed : List Placed) → place_all ranges taken items ≡ AllPlaced placed → ArePlaced ranges taken items placed
 
-first_of_all : (ranges : Item → List Range) (taken : List Range) (i : Item) (items : List Item) (a : ℕ) → 0 < i.extent.alignment → first_place (ranges i) taken i.extent ≡ Some a
+first_of_all : (ranges : PlacingItem → List Range) (taken : List Range) (i : PlacingItem) (items : List PlacingItem) (a : ℕ) → 0 < i.extent.alignment → first_place (ranges i) taken i.extent ≡ Some a
     → (rest : List Placed) → ArePlaced ranges (taken_by i a ∷ taken) items rest → ArePlaced ranges taken (i ∷ items) (record { item = i; at = a } ∷ rest)
 first_of_all ranges taken i items a pos found rest are =
     let first : Placed = record { item = i; at = a } in
@@ -65,22 +65,22 @@ first_of_all ranges taken i items a pos found rest are =
           are.apart;
     }
 
-by_rest : (ranges : Item → List Range) (taken : List Range) (i : Item) (items : List Item) (a : ℕ) → 0 < i.extent.alignment → first_place (ranges i) taken i.extent ≡ Some a
+by_rest : (ranges : PlacingItem → List Range) (taken : List Range) (i : PlacingItem) (items : List PlacingItem) (a : ℕ) → 0 < i.extent.alignment → first_place (ranges i) taken i.extent ≡ Some a
     → (p : Placing) → place_all ranges (taken_by i a ∷ taken) items ≡ p → Made ranges (taken_by i a ∷ taken) items
     → (placed : List Placed) → and_placed i a p ≡ AllPlaced placed → ArePlaced ranges taken (i ∷ items) placed
 by_rest ranges taken i items a pos found (AllPlaced rest) is made placed done =
     subst (ArePlaced ranges taken (i ∷ items)) (ap placed_of done) (first_of_all ranges taken i items a pos found rest (made rest is))
 by_rest ranges taken i items a pos found (Lacks j) is made placed done = absurd (false≢true (ap is_done done))
 
-by_first : (ranges : Item → List Range) (taken : List Range) (i : Item) (items : List Item) → 0 < i.extent.alignment
+by_first : (ranges : PlacingItem → List Range) (taken : List Range) (i : PlacingItem) (items : List PlacingItem) → 0 < i.extent.alignment
     → (o : Option ℕ) → first_place (ranges i) taken i.extent ≡ o → ((a : ℕ) → Made ranges (taken_by i a ∷ taken) items)
     → (placed : List Placed) → place_next i o (λ a. place_all ranges (taken_by i a ∷ taken) items) ≡ AllPlaced placed → ArePlaced ranges taken (i ∷ items) placed
 by_first ranges taken i items pos None is made placed done = absurd (false≢true (ap is_done done))
 by_first ranges taken i items pos (Some a) is made placed done =
     by_rest ranges taken i items a pos is (place_all ranges (taken_by i a ∷ taken) items) refl (made a) placed done
 
-pub are_placed : (ranges : Item → List Range) (taken : List Range) (items : List Item) (placed : List Placed)
-    → ((i : Item) → Contains items i → 0 < i.extent.alignment) → place_all ranges taken items ≡ AllPlaced placed → ArePlaced ranges taken items placed
+pub are_placed : (ranges : PlacingItem → List Range) (taken : List Range) (items : List PlacingItem) (placed : List Placed)
+    → ((i : PlacingItem) → Contains items i → 0 < i.extent.alignment) → place_all ranges taken items ≡ AllPlaced placed → ArePlaced ranges taken items placed
 are_placed ranges taken [] placed pos done =
     subst (ArePlaced ranges taken []) (ap placed_of done) (record { all = refl; each = λ p listed. absurd (in_nil p listed); apart = pairs_nil PlacesAreApart })
 are_placed ranges taken (i ∷ items) placed pos done =

@@ -11,7 +11,7 @@ use Rattle.plan_spec.proofs.Planning.Placement.{IsMultiple, mod_of_multiple, mul
 use Rattle.plan_spec.proofs.Planning.Room.{raised}
 use Rattle.settle_spec.specs.FirstPlace.{Extent, is_spot, ends_by, first_spot, first_place, else_at}
 use Rattle.settle_spec.specs.Spares.{with_spare}
-use Rattle.settle_spec.specs.Items.{Item, Placing, AllPlaced, Lacks, and_placed, place_next, place_all, are_placed, taken_by, laid_out, end_of}
+use Rattle.settle_spec.specs.Items.{PlacingItem, Placing, AllPlaced, Lacks, and_placed, place_next, place_all, are_placed, taken_by, laid_out, end_of}
 use Rattle.settle_spec.specs.WindowLaws.{CanBeIn}
 use Rattle.settle_spec.proofs.FirstSpot.{IsApart, spot_gives, spot_from, least_spot, only_least}
 use Rattle.settle_spec.proofs.LaidOut.{laid_keeps, laid_before, end_behind, end_more}
@@ -75,7 +75,7 @@ module _ (a : ℕ) (taken : List Range) (e : Extent) (even : a % e.alignment ≡
 
 -- ---- so each item has its place
 
-placed_too : (i : Item) (a : ℕ) (p : Placing) → are_placed (and_placed i a p) ≡ are_placed p
+placed_too : (i : PlacingItem) (a : ℕ) (p : Placing) → are_placed (and_placed i a p) ≡ are_placed p
 placed_too i a (AllPlaced placed) = refl
 placed_too i a (Lacks j) = refl
 
@@ -83,7 +83,7 @@ same_range : (a f size : ℕ) → ◌≡◌ {A = Range} (further a (range_from f
 same_range a f size = ap (λ n. record { first = a + f; last = n }) (let is : a + (f + (size - 1)) ≡ a + f + (size - 1) = omega arith in is)
 
 module _ (a size : ℕ) where
-  abbrev inside : Item → List Range
+  abbrev inside : PlacingItem → List Range
   inside i = range_from a size ∷ []
 
   ends : (e : Extent) (f : ℕ) → f + (e.size - 1) + 1 ≤ size → a + (size - 1) ≤ e.highest → ends_by (range_from a size) e (a + f) ≡ true
@@ -92,7 +92,7 @@ module _ (a size : ℕ) where
       (le-leb (a + f + (e.size - 1)) (a + (size - 1)) (omega (arith, within)))
       (le-leb (a + f + (e.size - 1)) e.highest (omega (arith, within, below)))
 
-  pub have_room : (taken : List Range) (items : List Item) → end_of (laid_out taken (map (λ (i : Item). i.extent) items)) ≤ size → ((i : Item) → Contains items i → CanBeIn a size i)
+  pub have_room : (taken : List Range) (items : List PlacingItem) → end_of (laid_out taken (map (λ (i : PlacingItem). i.extent) items)) ≤ size → ((i : PlacingItem) → Contains items i → CanBeIn a size i)
       → are_placed (place_all inside (map (further a) taken) items) ≡ true
   have_room taken [] within can = refl
   have_room taken (i ∷ items) within can =
@@ -101,7 +101,7 @@ module _ (a size : ℕ) where
       let here : Range = range_from f e.size in
       let is = can i (in_head i items) in
       let spot = spot_further a taken e is.multiple is.alignment in
-      let end = end_behind (laid_out (here ∷ taken) (map (λ (i : Item). i.extent) items)) here (laid_keeps (here ∷ taken) (map (λ (i : Item). i.extent) items) here (in_head here taken)) in
+      let end = end_behind (laid_out (here ∷ taken) (map (λ (i : PlacingItem). i.extent) items)) here (laid_keeps (here ∷ taken) (map (λ (i : PlacingItem). i.extent) items) here (in_head here taken)) in
       let ends_here = ends e f (omega (arith, end, within)) is.below in
       let place : first_place (inside i) (map (further a) taken) e ≡ Some (a + f) =
       ap (λ n. else_at (cond (ends_by (range_from a size) e n) (Some n) None) None) spot
@@ -111,10 +111,10 @@ module _ (a size : ℕ) where
       ∙ ap (λ (t : Range). are_placed (place_all inside (t ∷ map (further a) taken) items)) (sym (same_range a f e.size))
       ∙ have_room (here ∷ taken) items within (λ j listed. can j (in_tail i items j listed))
 
-pub window_has_room : (page : ℕ) (spare : Option Extent) (items : List Item) (a size : ℕ) → 0 < page → size ≡ raised_to page (end_of (laid_out [] (with_spare spare (map (λ (i : Item). i.extent) items))))
-    → ((i : Item) → Contains items i → CanBeIn a size i) → are_placed (place_all (λ i. range_from a size ∷ []) [] items) ≡ true
+pub window_has_room : (page : ℕ) (spare : Option Extent) (items : List PlacingItem) (a size : ℕ) → 0 < page → size ≡ raised_to page (end_of (laid_out [] (with_spare spare (map (λ (i : PlacingItem). i.extent) items))))
+    → ((i : PlacingItem) → Contains items i → CanBeIn a size i) → are_placed (place_all (λ i. range_from a size ∷ []) [] items) ≡ true
 window_has_room page spare items a size pos is can =
-    let extents = map (λ (i : Item). i.extent) items in
+    let extents = map (λ (i : PlacingItem). i.extent) items in
     let from = (raised page (end_of (laid_out [] (with_spare spare extents))) pos).from in
     let end = end_more (laid_out [] extents) (laid_out [] (with_spare spare extents)) (laid_before [] extents spare) in
     have_room a size [] items (omega (arith, is, from, end)) can

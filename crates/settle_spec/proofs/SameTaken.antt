@@ -5,7 +5,7 @@ use Rattle.std.specs.List.{Contains}
 use Rattle.pci_spec.specs.Decoded.{Range}
 use Rattle.pci_spec.proofs.Members.{in_head, in_tail, in_cons_cases}
 use Rattle.settle_spec.specs.FirstPlace.{Extent, is_spot, ends_by, first_spot, first_place_in, first_place, else_at}
-use Rattle.settle_spec.specs.Items.{Item, Placing, and_placed, place_next, place_all, taken_by}
+use Rattle.settle_spec.specs.Items.{PlacingItem, Placing, and_placed, place_next, place_all, taken_by}
 use Rattle.settle_spec.proofs.FirstSpot.{spot_gives, spot_from, least_spot, only_least}
 
 -- the same ranges are in both lists
@@ -44,12 +44,12 @@ same_first_place (r ∷ ranges) xs ys e pos same =
     ap (λ o. else_at o (first_place ranges xs e)) (ap (in_range r e) (same_first_spot r.first xs ys e pos same))
     ∙ ap (else_at (first_place_in r ys e)) (same_first_place ranges xs ys e pos same)
 
-next_by : (i : Item) (o : Option ℕ) (f g : ℕ → Placing) → ((a : ℕ) → f a ≡ g a) → place_next i o f ≡ place_next i o g
+next_by : (i : PlacingItem) (o : Option ℕ) (f g : ℕ → Placing) → ((a : ℕ) → f a ≡ g a) → place_next i o f ≡ place_next i o g
 next_by i None f g same = refl
 next_by i (Some a) f g same = ap (and_placed i a) (same a)
 
-pub same_places : (ranges : Item → List Range) (items : List Item) (xs ys : List Range)
-    → ((i : Item) → Contains items i → 0 < i.extent.alignment) → HaveSame xs ys → place_all ranges xs items ≡ place_all ranges ys items
+pub same_places : (ranges : PlacingItem → List Range) (items : List PlacingItem) (xs ys : List Range)
+    → ((i : PlacingItem) → Contains items i → 0 < i.extent.alignment) → HaveSame xs ys → place_all ranges xs items ≡ place_all ranges ys items
 same_places ranges [] xs ys pos same = refl
 same_places ranges (i ∷ items) xs ys pos same =
     ap (λ o. place_next i o (λ a. place_all ranges (taken_by i a ∷ xs) items)) (same_first_place (ranges i) xs ys i.extent (pos i (in_head i items)) same)

@@ -14,7 +14,7 @@ use Rattle.settle_spec.specs.Lists.{Request, are_bad_lists}
 use Rattle.settle_spec.specs.Parts.{FunctionPart}
 use Rattle.settle_spec.specs.Lines.{is_held_line, is_marked_command, is_marked_always}
 use Rattle.settle_spec.specs.Stands.{stands, range_stands_within}
-use Rattle.settle_spec.specs.Items.{Item}
+use Rattle.settle_spec.specs.Items.{PlacingItem}
 use Rattle.settle_spec.specs.Writes.{Settling, BadLists, Fixed, NoRoom, Settled, NotKept, fixed_without, fixed_write, or_fixed, or_lack, or_write}
 use Rattle.settle_spec.specs.Kept.{Kept, as_it_stands, growing}
 use Rattle.settle_spec.specs.Keeping.Places.{lacking}
@@ -86,7 +86,7 @@ module _ (q : Request) where
   fixed_first None other rest = rest
   fixed_first (Some r) other rest = fixed_one _ _
 
-  lack_first : (o : Option Item) (other : Settling) → NamesTold other → NamesTold (or_lack o other)
+  lack_first : (o : Option PlacingItem) (other : Settling) → NamesTold other → NamesTold (or_lack o other)
   lack_first None other rest slot register h = rest slot register h
   lack_first (Some i) other rest slot register h = absurd (let no : ⊥ = cc in no)
 

@@ -75,8 +75,8 @@ part_comes_to q s there f (Window c) =
 part_comes_to q s there f p = None
 
 -- a part stands at lower addresses of the same space on the same bus
-abbrev pub is_before : Request → FunctionPart → FunctionPart → Bool
-is_before q t r = are_beside q t r && nat_lt (addresses t).first (addresses r).first
+abbrev pub is_lower_beside : Request → FunctionPart → FunctionPart → Bool
+is_lower_beside q t r = are_beside q t r && nat_lt (addresses t).first (addresses r).first
 
 abbrev pub is_off : Range → Option Range → Bool
 is_off r None = true
@@ -86,7 +86,7 @@ is_off r (Some t) = ranges_are_apart r t
 abbrev pub is_clear : Request → System → (FunctionPart → Option Range) → FunctionPart → Option Range → Bool
 is_clear q s there r None = false
 is_clear q s there r (Some grown) =
-    list_all (λ t. not (is_before q t r) || is_off grown (there t)) (system_parts q s)
+    list_all (λ t. not (is_lower_beside q t r) || is_off grown (there t)) (system_parts q s)
 
 -- what grows is there with what it comes to, and else what holds as it stands: `before` says it of those before it
 abbrev pub there_if : Request → System → (FunctionPart → Option Range) → (FunctionPart → Option Range) → FunctionPart → Option Range
@@ -117,12 +117,12 @@ abbrev pub comes_to : Request → System → FunctionPart → Option Range
 comes_to q s r = part_comes_to q s (there q s) r.function r.part
 
 -- whether a window is there with what it comes to
-abbrev pub takes : Request → System → FunctionPart → Bool
-takes q s r = is_clear q s (there q s) r (comes_to q s r)
+abbrev pub takes_growth : Request → System → FunctionPart → Bool
+takes_growth q s r = is_clear q s (there q s) r (comes_to q s r)
 
 -- whether it grows: so does each window of its class above it
 abbrev pub has_grown : Request → System → FunctionPart → Bool
 has_grown q s r =
-    takes q s r
-    && list_all (λ b. takes q s (window_part (class_in q s r.function r.part) b))
+    takes_growth q s r
+    && list_all (λ b. takes_growth q s (window_part (class_in q s r.function r.part) b))
     (bridges_above s r.function.slot.bus)

@@ -17,7 +17,7 @@ use Rattle.settle_spec.specs.Parts.{FunctionPart, system_parts, function_parts, 
 use Rattle.settle_spec.specs.Stands.{rank, window_part, part_space, stands, range_class, range_stands}
 
 -- what is to be placed
-pub record Item : Type 0 where
+pub record PlacingItem : Type 0 where
   pub region : FunctionPart
   pub class : WindowKind
   pub extent : Extent
@@ -25,57 +25,57 @@ pub record Item : Type 0 where
 -- ---- in turn
 
 -- falling alignments come first, then falling sizes, then lower slots and registers
-abbrev pub item_precedes : Item → Item → Bool
+abbrev pub item_precedes : PlacingItem → PlacingItem → Bool
 item_precedes i j =
     nat_lt j.extent.alignment i.extent.alignment || (i.extent.alignment == j.extent.alignment
     && (nat_lt j.extent.size i.extent.size || (i.extent.size == j.extent.size
     && nat_lt (rank i.region) (rank j.region))))
 
-abbrev pub put_in : Item → List Item → List Item
+abbrev pub put_in : PlacingItem → List PlacingItem → List PlacingItem
 put_in i [] = i ∷ []
 put_in i (j ∷ items) = if item_precedes i j then i ∷ (j ∷ items) else j ∷ put_in i items
 
 -- items in the order in which they are placed
-abbrev pub in_turn : List Item → List Item
+abbrev pub in_turn : List PlacingItem → List PlacingItem
 in_turn [] = []
 in_turn (i ∷ items) = put_in i (in_turn items)
 
 -- an item at its place
 pub record Placed : Type 0 where
-  pub item : Item
+  pub item : PlacingItem
   pub at : ℕ
 
-abbrev pub taken_by : Item → ℕ → Range
+abbrev pub taken_by : PlacingItem → ℕ → Range
 taken_by i a = range_from a i.extent.size
 
 -- all of them, or those before the first that has no place
 pub data Placing : Type 0 where
   AllPlaced : (placed : List Placed) → Placing
-  Lacks : (item : Item) → Placing
+  Lacks : (item : PlacingItem) → Placing
 
-abbrev pub and_placed : Item → ℕ → Placing → Placing
+abbrev pub and_placed : PlacingItem → ℕ → Placing → Placing
 and_placed i a (AllPlaced placed) = AllPlaced (record { item = i; at = a } ∷ placed)
 and_placed i a (Lacks j) = Lacks j
 
 -- each item gets its first place, those before it being taken
-abbrev pub place_next : Item → Option ℕ → (ℕ → Placing) → Placing
+abbrev pub place_next : PlacingItem → Option ℕ → (ℕ → Placing) → Placing
 place_next i None rest = Lacks i
 place_next i (Some a) rest = and_placed i a (rest a)
 
-abbrev pub place_all : (Item → List Range) → List Range → List Item → Placing
+abbrev pub place_all : (PlacingItem → List Range) → List Range → List PlacingItem → Placing
 place_all ranges taken [] = AllPlaced []
 place_all ranges taken (i ∷ items) =
     place_next i (first_place (ranges i) taken i.extent)
     (λ a. place_all ranges (taken_by i a ∷ taken) items)
 
 -- each item gets the place that is found for it beside what is taken
-abbrev pub place_each : (Item → List Range → Option ℕ) → List Range → List Item → Placing
+abbrev pub place_each : (PlacingItem → List Range → Option ℕ) → List Range → List PlacingItem → Placing
 place_each find taken [] = AllPlaced []
 place_each find taken (i ∷ items) =
     place_next i (find i taken) (λ a. place_each find (taken_by i a ∷ taken) items)
 
 -- the first place of an item in a range
-abbrev pub place_in : Range → Item → List Range → Option ℕ
+abbrev pub place_in : Range → PlacingItem → List Range → Option ℕ
 place_in r i taken = first_place (r ∷ []) taken i.extent
 
 -- ---- of a bus
@@ -99,7 +99,7 @@ own_extent r = record {
   highest = highest_of r.function r.part;
 }
 
-abbrev pub own_item : WindowKind → FunctionPart → Item
+abbrev pub own_item : WindowKind → FunctionPart → PlacingItem
 own_item c r = record { region = r; class = c; extent = own_extent r }
 
 -- a BAR or ROM of a class
@@ -113,14 +113,14 @@ has_of q s c b =
     list_any (λ f. is_behind b f.slot.bus && list_any (is_own q s c) (function_parts q s f)) s
 
 -- the items of a function in a class: `keeps` says what keeps its place, `extent` how large a new window is
-abbrev pub items_of : Request → System → WindowKind → (FunctionPart → Bool) → (Function → Extent) → Function → List Item
+abbrev pub items_of : Request → System → WindowKind → (FunctionPart → Bool) → (Function → Extent) → Function → List PlacingItem
 items_of q s c keeps extent f =
     map (own_item c) (filter (λ r. is_own q s c r && not (keeps r)) (function_parts q s f))
     ++ (if is_bridge f && has_of q s c f && not (keeps (window_part c f))
     then record { region = window_part c f; class = c; extent = extent f } ∷ [] else [])
 
 -- those of a bus, in turn: all roots are one bus
-abbrev pub bus_items : Request → System → WindowKind → (FunctionPart → Bool) → (Function → Extent) → ℕ → List Item
+abbrev pub bus_items : Request → System → WindowKind → (FunctionPart → Bool) → (Function → Extent) → ℕ → List PlacingItem
 bus_items q s c keeps extent bus =
     in_turn (flat_map (λ f. if are_siblings q.roots bus f.slot.bus then items_of q s c keeps extent f else []) s)
 
@@ -157,10 +157,10 @@ abbrev pub spare_of : Request → WindowKind → Function → Option Extent
 spare_of q c b = spare_below q c b (highest_in c b.probe)
 
 -- a new window of a bridge around items: over a slot it has the spare behind them
-abbrev pub window_around : Request → WindowKind → Function → List Item → Extent
+abbrev pub window_around : Request → WindowKind → Function → List PlacingItem → Extent
 window_around q c b items =
     extent_around (page_size c) (highest_in c b.probe)
-    (with_spare (spare_of q c b) (map (λ (i : Item). i.extent) items))
+    (with_spare (spare_of q c b) (map (λ (i : PlacingItem). i.extent) items))
 
 abbrev pub nothing : FunctionPart → Bool
 nothing r = false

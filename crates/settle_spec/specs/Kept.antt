@@ -7,7 +7,7 @@ use Rattle.plan_spec.specs.Plan.{bridges_above}
 use Rattle.settle_spec.specs.Lists.{Request}
 use Rattle.settle_spec.specs.Parts.{FunctionPart, addresses, class_in}
 use Rattle.settle_spec.specs.Stands.{window_part}
-use Rattle.settle_spec.specs.Items.{Item, Placed, has_room_behind, stays, place_in}
+use Rattle.settle_spec.specs.Items.{PlacingItem, Placed, has_room_behind, stays, place_in}
 use Rattle.settle_spec.specs.Places.{placed_of, place_among}
 use Rattle.settle_spec.specs.Growth.{taken_around, there, comes_to, has_grown}
 
@@ -16,7 +16,7 @@ pub record Kept : Type 0 where
   -- the addresses of a part that stays
   pub range : FunctionPart → Range
   -- the place in the window of a bridge that stays for an item on its secondary bus, beside what is taken there
-  pub place : Function → Item → List Range → Option ℕ
+  pub place : Function → PlacingItem → List Range → Option ℕ
   -- the addresses of a window in which room is kept free, where these aren't those of its place
   pub wished : FunctionPart → Option Range
 
@@ -58,15 +58,15 @@ abbrev pub range_growing : Request → System → FunctionPart → Range
 range_growing q s r =
     if has_grown q s r then range_or (comes_to q s r) (addresses r) else addresses r
 
-abbrev pub place_of : Option Placed → Option ℕ
-place_of None = None
-place_of (Some p) = Some p.at
+abbrev pub address_of_placed : Option Placed → Option ℕ
+address_of_placed None = None
+address_of_placed (Some p) = Some p.at
 
 -- in a window that grows an item has the place for which that grows
-abbrev pub place_growing : Request → System → Function → Item → List Range → Option ℕ
+abbrev pub place_growing : Request → System → Function → PlacingItem → List Range → Option ℕ
 place_growing q s b i taken =
     if has_grown q s (window_part i.class b)
-    then place_of (place_among i.region (placed_of (taken_around q s (there q s) i.class b)))
+    then address_of_placed (place_among i.region (placed_of (taken_around q s (there q s) i.class b)))
     else place_in (addresses (window_part i.class b)) i taken
 
 abbrev pub growing : Request → System → Kept

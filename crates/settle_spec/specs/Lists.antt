@@ -37,6 +37,10 @@ wanted_in spares IoWindow = spares.io
 wanted_in spares MemoryWindow = spares.memory
 wanted_in spares PrefetchWindow = spares.prefetch
 
+-- nothing is wanted behind any slot
+abbrev pub no_spares : Spares
+no_spares = record { io = 0; memory = 0; prefetch = 0 }
+
 pub record Request : Type 0 where
   -- the root buses
   pub roots : List ℕ

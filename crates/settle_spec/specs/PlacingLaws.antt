@@ -5,7 +5,7 @@ use Rattle.std.specs.List.Sorted.{IsPermutation}
 use Rattle.pci_spec.specs.Decoded.{Range}
 use Rattle.settle_spec.specs.FirstPlace.{Extent, ranges_are_apart, is_place, first_spot, first_place, IsLeastSpot, HasNoPlace, IsFirstPlaceIn, IsFirstPlace}
 use Rattle.settle_spec.specs.Stands.{rank}
-use Rattle.settle_spec.specs.Items.{Item, Placed, AllPlaced, item_precedes, in_turn, place_all, taken_by}
+use Rattle.settle_spec.specs.Items.{PlacingItem, Placed, AllPlaced, item_precedes, in_turn, place_all, taken_by}
 
 -- There is always a least free multiple of an alignment from an address on.
 abbrev pub SpotIsLeast : Type 0
@@ -63,7 +63,7 @@ abbrev pub PlacesAreApart : Placed → Placed → Type 0
 PlacesAreApart p q = IsTrue (ranges_are_apart (taken_by p.item p.at) (taken_by q.item q.at))
 
 -- Items at their places: each of them lies in a range, off what was taken, and no two share an address.
-pub record ArePlaced (ranges : Item → List Range) (taken : List Range) (items : List Item)
+pub record ArePlaced (ranges : PlacingItem → List Range) (taken : List Range) (items : List PlacingItem)
     (placed : List Placed) : Type 0 where
   pub all : map (λ (p : Placed). p.item) placed ≡ items
   pub each : (p : Placed) → Contains placed p
@@ -73,38 +73,38 @@ pub record ArePlaced (ranges : Item → List Range) (taken : List Range) (items 
 
 abbrev pub PlacedAreApart : Type 0
 PlacedAreApart =
-    (ranges : Item → List Range) (taken : List Range) (items : List Item) (placed : List Placed)
-    → ((i : Item) → Contains items i → 0 < i.extent.alignment)
+    (ranges : PlacingItem → List Range) (taken : List Range) (items : List PlacingItem) (placed : List Placed)
+    → ((i : PlacingItem) → Contains items i → 0 < i.extent.alignment)
     → place_all ranges taken items ≡ AllPlaced placed
     → ArePlaced ranges taken items placed
 
 -- ---- in turn
 
 -- an item is of a lower slot, or of a lower register of the same slot
-abbrev pub HasLowerRank : Item → Item → Type 0
+abbrev pub HasLowerRank : PlacingItem → PlacingItem → Type 0
 HasLowerRank i j = rank i.region < rank j.region
 
 -- it is of another slot, or of another register
-abbrev pub HasOtherRank : Item → Item → Type 0
+abbrev pub HasOtherRank : PlacingItem → PlacingItem → Type 0
 HasOtherRank i j = rank i.region ≡ rank j.region → ⊥
 
-abbrev pub ComesBefore : Item → Item → Type 0
+abbrev pub ComesBefore : PlacingItem → PlacingItem → Type 0
 ComesBefore i j = IsTrue (item_precedes i j)
 
 -- Items in turn are the same items, each before all that follow it,
 abbrev pub TurnIsOrdered : Type 0
 TurnIsOrdered =
-    (items : List Item) → AllPairs HasOtherRank items
+    (items : List PlacingItem) → AllPairs HasOtherRank items
     → IsPermutation items (in_turn items) × AllPairs ComesBefore (in_turn items)
 
 -- and there is no other list of them in that order.
 abbrev pub TurnIsOnly : Type 0
 TurnIsOnly =
-    (items turn : List Item) → AllPairs HasOtherRank items → IsPermutation items turn
+    (items turn : List PlacingItem) → AllPairs HasOtherRank items → IsPermutation items turn
     → AllPairs ComesBefore turn → in_turn items ≡ turn
 
 -- So it doesn't matter in which order the items are listed.
 abbrev pub TurnIsFree : Type 0
 TurnIsFree =
-    (items others : List Item) → AllPairs HasOtherRank items → AllPairs HasOtherRank others
+    (items others : List PlacingItem) → AllPairs HasOtherRank items → AllPairs HasOtherRank others
     → IsPermutation items others → in_turn items ≡ in_turn others

@@ -69,10 +69,10 @@ whole_pages page r =
 -- ---- the reach
 
 -- the ranges in which a window on a root can stand: those of its class, then those of other memory
-abbrev pub ranges_for : Request → WindowKind → ℕ → List Range
-ranges_for q IoWindow bus = class_ranges q IoWindow bus
-ranges_for q MemoryWindow bus = class_ranges q MemoryWindow bus ++ class_ranges q PrefetchWindow bus
-ranges_for q PrefetchWindow bus = class_ranges q PrefetchWindow bus ++ class_ranges q MemoryWindow bus
+abbrev pub root_window_ranges : Request → WindowKind → ℕ → List Range
+root_window_ranges q IoWindow bus = class_ranges q IoWindow bus
+root_window_ranges q MemoryWindow bus = class_ranges q MemoryWindow bus ++ class_ranges q PrefetchWindow bus
+root_window_ranges q PrefetchWindow bus = class_ranges q PrefetchWindow bus ++ class_ranges q MemoryWindow bus
 
 abbrev pub range_over : (Function → Range) → Option Function → Option Range
 range_over reach None = None
@@ -82,7 +82,7 @@ range_over reach (Some b) = Some (reach b)
 abbrev pub room_around : Request → System → WindowKind → (Function → Range) → Function → Option Range
 room_around q s c reach b =
     if is_root q.roots b.slot.bus
-    then find (lies_within (addresses (window_part c b))) (ranges_for q c b.slot.bus)
+    then find (lies_within (addresses (window_part c b))) (root_window_ranges q c b.slot.bus)
     else range_over reach (bridge_over s b.slot.bus)
 
 -- what a range has before a window

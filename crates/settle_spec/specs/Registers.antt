@@ -1,10 +1,9 @@
 -- What registers show a place, and which parts can change (PCI 3.0, 6.2.2 and 6.2.5; Bridge 1.2, 3.2.5).
-use Rattle.std.specs.Prelude.{ℕ, zero, suc, ◌+◌, ◌-◌, ◌/◌, ◌%◌, Bool, ◌&&◌, ◌||◌, not, if◌then◌else◌, List, map, set}
+use Rattle.std.specs.Prelude.{ℕ, suc, ◌+◌, ◌-◌, Bool, ◌&&◌, ◌||◌, not, if◌then◌else◌, List, map}
 use Rattle.std.specs.List.{list_any, filter}
-use Rattle.pci_spec.specs.Registers.{IO_BASE, IO_LIMIT, IO_BASE_UPPER, IO_LIMIT_UPPER, MEMORY_BASE, MEMORY_LIMIT, PREFETCHABLE_BASE, PREFETCHABLE_LIMIT, PREFETCHABLE_BASE_UPPER, PREFETCHABLE_LIMIT_UPPER}
 use Rattle.pci_spec.specs.Header.{layout, bar_register, rom_register}
 use Rattle.pci_spec.specs.Bar.{bar_at, is_wide}
-use Rattle.pci_spec.specs.Window.{WindowKind, IoWindow, MemoryWindow, PrefetchWindow, Bounds, bounds_for, closed_bounds}
+use Rattle.pci_spec.specs.Window.{bounds_for, closed_bounds}
 use Rattle.pci_spec.specs.System.{System, Function, Space, Part, Bar, Rom, Window, is_window, is_implemented}
 use Rattle.plan_spec.specs.Plan.{is_open}
 use Rattle.plan_spec.specs.Place.{nibble_of}
@@ -16,24 +15,7 @@ use Rattle.settle_spec.specs.Lists.{Request}
 use Rattle.settle_spec.specs.Parts.{FunctionPart, function_parts, header_parts, is_part, are_same_space}
 use Rattle.settle_spec.specs.Stands.{part_space, range_stands}
 use Rattle.settle_spec.specs.Items.{Placed}
-
--- `width` bytes of a number from an offset on
-abbrev pub with_number : ℕ → ℕ → ℕ → List ℕ → List ℕ
-with_number zero offset value image = image
-with_number (suc width) offset value image =
-    with_number width (offset + 1) (value / 256) (set image offset (value % 256))
-
--- the registers of a window
-abbrev pub with_bounds : WindowKind → Bounds → List ℕ → List ℕ
-with_bounds IoWindow b image =
-    with_number 2 IO_LIMIT_UPPER b.limit_upper (with_number 2 IO_BASE_UPPER b.base_upper
-    (with_number 1 IO_LIMIT b.limit (with_number 1 IO_BASE b.base image)))
-with_bounds MemoryWindow b image =
-    with_number 2 MEMORY_LIMIT b.limit (with_number 2 MEMORY_BASE b.base image)
-with_bounds PrefetchWindow b image =
-    with_number 4 PREFETCHABLE_LIMIT_UPPER b.limit_upper
-    (with_number 4 PREFETCHABLE_BASE_UPPER b.base_upper
-    (with_number 2 PREFETCHABLE_LIMIT b.limit (with_number 2 PREFETCHABLE_BASE b.base image)))
+use Rattle.judge_spec.specs.Windows.{with_bounds, with_number}
 
 -- an image with a part of the function at its place
 abbrev pub with_place : Function → Part → Placed → List ℕ → List ℕ

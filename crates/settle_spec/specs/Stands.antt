@@ -123,8 +123,8 @@ leads_to_one_on q s r = list_any (λ x. is_line_on q s x && leads_to_range q s r
 -- ---- what comes before what
 
 -- of two parts one that leads to a told range that is on comes first
-abbrev pub precedes : Request → System → FunctionPart → FunctionPart → Bool
-precedes q s r t =
+abbrev pub told_part_precedes : Request → System → FunctionPart → FunctionPart → Bool
+told_part_precedes q s r t =
     first_by (leads_to_one_on q s r) (leads_to_one_on q s t) (part_precedes q r t)
 
 -- of two told ranges one that is on comes first, and then the earlier line
@@ -153,7 +153,7 @@ is_kept_off q s r = list_any (is_kept_off_by q s r) (told_regions q.told)
 -- whether a part takes an address of another one that comes after it
 abbrev pub takes_from : Request → System → FunctionPart → FunctionPart → Bool
 takes_from q s t r =
-    are_beside q t r && precedes q s t r
+    are_beside q t r && told_part_precedes q s t r
     && not (ranges_are_apart (addresses t) (addresses r))
 
 -- Whether a part stands, where `stands` says which of those on lower buses and of those before it do. Where all is placed

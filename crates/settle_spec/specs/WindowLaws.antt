@@ -10,7 +10,7 @@ use Rattle.pci_spec.specs.Decoded.{Range}
 use Rattle.settle_spec.specs.FirstPlace.{Extent, is_place}
 use Rattle.settle_spec.specs.Lists.{Request}
 use Rattle.settle_spec.specs.Spares.{with_spare}
-use Rattle.settle_spec.specs.Items.{Item, place_all, are_placed, has_of, bus_items, nothing, extent_around, window_around, new_window}
+use Rattle.settle_spec.specs.Items.{PlacingItem, place_all, are_placed, has_of, bus_items, nothing, extent_around, window_around, new_window}
 
 -- A new window is that around the items of the bus behind its bridge, whose windows are new ones in turn.
 abbrev pub WindowIsAround : Type 0
@@ -30,7 +30,7 @@ ItemsAreBehind =
 -- ---- room
 
 -- an item can be placed in a window from a on: a is one of its multiples, and the window ends by its highest address
-pub record CanBeIn (a size : ℕ) (i : Item) : Type 0 where
+pub record CanBeIn (a size : ℕ) (i : PlacingItem) : Type 0 where
   pub alignment : 0 < i.extent.alignment
   pub multiple : a % i.extent.alignment ≡ 0
   pub below : a + (size - 1) ≤ i.extent.highest
@@ -38,9 +38,9 @@ pub record CanBeIn (a size : ℕ) (i : Item) : Type 0 where
 -- Wherever a new window is placed, all that it was made around has a place in it, with a spare or without.
 abbrev pub NewWindowHasRoom : Type 0
 NewWindowHasRoom =
-    (page highest : ℕ) (spare : Option Extent) (items : List Item) (a size : ℕ) → 0 < page
-    → size ≡ (extent_around page highest (with_spare spare (map (λ (i : Item). i.extent) items))).size
-    → ((i : Item) → Contains items i → CanBeIn a size i)
+    (page highest : ℕ) (spare : Option Extent) (items : List PlacingItem) (a size : ℕ) → 0 < page
+    → size ≡ (extent_around page highest (with_spare spare (map (λ (i : PlacingItem). i.extent) items))).size
+    → ((i : PlacingItem) → Contains items i → CanBeIn a size i)
     → IsTrue (are_placed (place_all (λ i. range_from a size ∷ []) [] items))
 
 -- ---- all of memory

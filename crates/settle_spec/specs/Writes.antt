@@ -14,7 +14,7 @@ use Rattle.plan_spec.specs.Planning.PlanWrites.{Change}
 use Rattle.settle_spec.specs.Lists.{Request}
 use Rattle.settle_spec.specs.Parts.{FunctionPart, system_parts}
 use Rattle.settle_spec.specs.Stands.{is_fixed_part}
-use Rattle.settle_spec.specs.Items.{Item}
+use Rattle.settle_spec.specs.Items.{PlacingItem}
 use Rattle.settle_spec.specs.Registers.{has_own}
 
 -- ---- what changes
@@ -99,7 +99,7 @@ abbrev pub or_fixed : Option FunctionPart → Settling → Settling
 or_fixed None other = other
 or_fixed (Some r) other = Fixed r.function.slot (register_of r.function r.part)
 
-abbrev pub or_lack : Option Item → Settling → Settling
+abbrev pub or_lack : Option PlacingItem → Settling → Settling
 or_lack None other = other
 or_lack (Some i) other =
     NoRoom i.class i.region.function.slot (register_of i.region.function i.region.part) i.extent.size

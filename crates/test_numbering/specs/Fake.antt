@@ -13,6 +13,6 @@ abbrev pub boards_of : List (List ℕ) → List Board
 boards_of images = map board_of (reverse images)
 
 -- the write that is kept
-abbrev pub write_of : Option NotTaken → Option Write
-write_of None = None
-write_of (Some told) = Some (number_write told.slot told.offset told.number)
+abbrev pub write_not_taken : Option NotTaken → Option Write
+write_not_taken None = None
+write_not_taken (Some told) = Some (number_write told.slot told.offset told.number)

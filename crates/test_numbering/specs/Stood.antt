@@ -4,11 +4,11 @@ use Rattle.pci_spec.specs.Machine.{Write}
 use Rattle.pci_number.specs.Board.{Board}
 use Rattle.pci_number.specs.Stops.{number_write}
 use Rattle.test_numbering.specs.declared.tree.Stood.{Stood}
-use Rattle.test_numbering.specs.Tree.{board_of}
+use Rattle.test_numbering.specs.Tree.{board_of_roots}
 
 -- the boards that stood, the last one first
-abbrev pub boards_stood : List Stood → List Board
-boards_stood items = map (λ s. board_of s.roots) (reverse items)
+abbrev pub boards_recorded : List Stood → List Board
+boards_recorded items = map (λ s. board_of_roots s.roots) (reverse items)
 
 -- the first write of a list
 abbrev pub first_write : List Stood → Option Write

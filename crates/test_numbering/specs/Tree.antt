@@ -17,10 +17,10 @@ nodes_of (Holds' function p behind q others) =
     Node function.device function.function function.image (nodes_of behind)
     (nodes_of others)
 
-abbrev pub board_of : Roots → Board
-board_of NoRoots = []
-board_of (First' number bus p rest) =
-    record { number = number; nodes = nodes_of bus } ∷ board_of rest
+abbrev pub board_of_roots : Roots → Board
+board_of_roots NoRoots = []
+board_of_roots (First' number bus p rest) =
+    record { number = number; nodes = nodes_of bus } ∷ board_of_roots rest
 
 -- whether all roots have numbers above this one
 abbrev pub all_above : ℕ → Board → Bool

@@ -59,7 +59,7 @@ fn is_bridge(access: Slot) -> bool
 
 impl BoardPort for OneBridge {
     ghost use Rattle.std.specs.Prelude.{length};
-    ghost use Rattle.test_numbering.specs.Fake.{board_of, boards_of, write_of};
+    ghost use Rattle.test_numbering.specs.Fake.{board_of, boards_of, write_not_taken};
 
     ghost board = { λ s. board_of s.image };
 
@@ -67,7 +67,7 @@ impl BoardPort for OneBridge {
 
     ghost failures = { λ s. s.failed.count };
 
-    ghost last_write = { λ s. write_of s.last };
+    ghost last_write = { λ s. write_not_taken s.last };
 
     ghost writes = { λ s. length s.stood.items };
 

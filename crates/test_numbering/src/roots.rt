@@ -1,7 +1,7 @@
 //! The root buses of a board in memory.
 ghost use Rattle.std.specs.Prelude.{◌≡◌, ◌&&◌, nat_le, IfOk, IsTrue};
 ghost use Rattle.pci_number.specs.Board.{answers};
-ghost use Rattle.test_numbering.specs.Tree.{board_of, all_above, roots_rise, first_byte_of, IsPutFirstOf};
+ghost use Rattle.test_numbering.specs.Tree.{board_of_roots, all_above, roots_rise, first_byte_of, IsPutFirstOf};
 
 use crate::bus::Bus;
 use pci_base::slot::Slot;
@@ -16,7 +16,7 @@ pub enum Roots {
 
 /// Whether an access to a bus goes to the first of these roots.
 fn is_nearest(number: u8, rest: &Roots, bus: u8) -> bool
-    ensures { result ≡ (nat_le number bus && all_above bus (board_of rest.now)) }
+    ensures { result ≡ (nat_le number bus && all_above bus (board_of_roots rest.now)) }
 {
     number <= bus && rest.are_above(bus)
 }
@@ -24,7 +24,7 @@ fn is_nearest(number: u8, rest: &Roots, bus: u8) -> bool
 impl Roots {
     /// Whether all have numbers above this one.
     fn are_above(&self, number: u8) -> bool
-        ensures { result ≡ all_above number (board_of self.now) }
+        ensures { result ≡ all_above number (board_of_roots self.now) }
     {
         match self {
             Roots::NoRoots => true,
@@ -34,7 +34,7 @@ impl Roots {
 
     /// Whether their numbers rise.
     pub fn rise(&self) -> bool
-        ensures { result ≡ roots_rise (board_of self.now) }
+        ensures { result ≡ roots_rise (board_of_roots self.now) }
     {
         match self {
             Roots::NoRoots => true,
@@ -44,9 +44,9 @@ impl Roots {
 
     /// The byte at an offset of the first node that answers an access.
     pub fn byte(&self, access: Slot, offset: u8) -> Option<u8>
-        requires { IsTrue (roots_rise (board_of self.now)) }
+        requires { IsTrue (roots_rise (board_of_roots self.now)) }
         ensures { result
-            ≡ first_byte_of (board_of self.now) (answers (board_of self.now) access) offset }
+            ≡ first_byte_of (board_of_roots self.now) (answers (board_of_roots self.now) access) offset }
     {
         match self {
             Roots::NoRoots => None,
@@ -66,10 +66,10 @@ impl Roots {
 
     /// Writes a byte of the first node that answers an access.
     pub fn put(&mut self, access: Slot, offset: u8, value: u8)
-        requires { IsTrue (roots_rise (board_of self.old)) }
-        ensures put { IsPutFirstOf (board_of self.old) (answers (board_of self.old) access) offset
-            (board_of self.new) }
-        ensures rise { IsTrue (roots_rise (board_of self.new)) }
+        requires { IsTrue (roots_rise (board_of_roots self.old)) }
+        ensures put { IsPutFirstOf (board_of_roots self.old) (answers (board_of_roots self.old) access) offset
+            (board_of_roots self.new) }
+        ensures rise { IsTrue (roots_rise (board_of_roots self.new)) }
     {
         match self {
             Roots::NoRoots => {}
@@ -89,7 +89,7 @@ impl Roots {
 
     /// The same board once more.
     pub fn copy(&self, alloc: Global) -> Result<Roots, AllocError>
-        ensures { IfOk result (λ roots. board_of roots ≡ board_of self.now) }
+        ensures { IfOk result (λ roots. board_of_roots roots ≡ board_of_roots self.now) }
     {
         match self {
             Roots::NoRoots => Ok(Roots::NoRoots),

@@ -1,7 +1,7 @@
 //! A port to a board in memory: a tree of nodes behind each root.
 ghost use Rattle.std.specs.Prelude.{◌≡◌, IsTrue, IfOk};
 ghost use Rattle.pci_number.specs.Board.{answers};
-ghost use Rattle.test_numbering.specs.Tree.{board_of, roots_rise, IsPutFirstOf};
+ghost use Rattle.test_numbering.specs.Tree.{board_of_roots, roots_rise, IsPutFirstOf};
 
 use crate::roots::Roots;
 use pci_base::failures::Failures;
@@ -26,7 +26,7 @@ pub struct Tree {
     failed: Failures,
     /// How many accesses were made.
     accesses: Failures,
-    ghost rise: { IsTrue (roots_rise (board_of roots)) },
+    ghost rise: { IsTrue (roots_rise (board_of_roots roots)) },
 }
 
 impl Tree {
@@ -47,12 +47,12 @@ impl Tree {
 
     /// What a write leaves, if there is memory for it: to be kept, and to go on with.
     fn after(&self, access: Slot, offset: u8, value: u8) -> Result<(Stood, Roots), AccessFailed>
-        ensures put { IfOk result (λ p. IsPutFirstOf (board_of self.now.roots)
-            (answers (board_of self.now.roots) access) offset (board_of p.1)) }
-        ensures kept { IfOk result (λ p. board_of p.0.roots ≡ board_of p.1) }
+        ensures put { IfOk result (λ p. IsPutFirstOf (board_of_roots self.now.roots)
+            (answers (board_of_roots self.now.roots) access) offset (board_of_roots p.1)) }
+        ensures kept { IfOk result (λ p. board_of_roots p.0.roots ≡ board_of_roots p.1) }
         ensures written { IfOk result (λ p. p.0.written
             ≡ record { slot = access; offset = offset; number = value }) }
-        ensures rise { IfOk result (λ p. IsTrue (roots_rise (board_of p.1))) }
+        ensures rise { IfOk result (λ p. IsTrue (roots_rise (board_of_roots p.1))) }
     {
         let mut roots = match self.roots.copy(self.alloc) {
             Ok(roots) => roots,
@@ -81,11 +81,11 @@ impl Tree {
 
 impl BoardPort for Tree {
     ghost use Rattle.std.specs.Prelude.{length};
-    ghost use Rattle.test_numbering.specs.Stood.{boards_stood, last_write_of};
+    ghost use Rattle.test_numbering.specs.Stood.{boards_recorded, last_write_of};
 
-    ghost board = { λ t. board_of t.roots };
+    ghost board = { λ t. board_of_roots t.roots };
 
-    ghost history = { λ t. boards_stood t.stood.items };
+    ghost history = { λ t. boards_recorded t.stood.items };
 
     ghost failures = { λ t. t.failed.count };
 

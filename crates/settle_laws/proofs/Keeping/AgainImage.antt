@@ -16,7 +16,7 @@ use Rattle.settle_spec.specs.Lists.{Request}
 use Rattle.settle_spec.specs.Parts.{FunctionPart}
 use Rattle.settle_spec.specs.Items.{Placed}
 use Rattle.settle_spec.specs.Keeping.Places.{new_place}
-use Rattle.settle_spec.specs.Registers.{with_number}
+use Rattle.judge_spec.specs.Windows.{with_number}
 use Rattle.settle_spec.specs.Keeping.Registers.{with_kept, shown, settled, settled_function}
 use Rattle.settle_laws.specs.Keeping.PlacesLaws.{CanSettle}
 use Rattle.settle_laws.proofs.AlikePlaces.{IsAlikePlaced}

@@ -22,7 +22,7 @@ use Rattle.settle_spec.specs.Lists.{Request}
 use Rattle.settle_spec.specs.Spares.{with_spare}
 use Rattle.settle_spec.specs.Parts.{FunctionPart, bridge_over, class_in, header_parts}
 use Rattle.settle_spec.specs.Stands.{window_part}
-use Rattle.settle_spec.specs.Items.{Item, Placed, Placing, AllPlaced, Lacks, are_placed, place_all, taken_by, has_of, bus_items, nothing, highest_in, spare_of, window_around, new_window, place_each}
+use Rattle.settle_spec.specs.Items.{PlacingItem, Placed, Placing, AllPlaced, Lacks, are_placed, place_all, taken_by, has_of, bus_items, nothing, highest_in, spare_of, window_around, new_window, place_each}
 use Rattle.settle_spec.specs.Places.{placed_of, place_among, placed_range, root_ranges, first_lack}
 use Rattle.settle_spec.specs.PlacingLaws.{ArePlaced, PlacesAreApart}
 use Rattle.settle_spec.specs.WindowLaws.{CanBeIn}
@@ -36,7 +36,7 @@ use Rattle.settle_spec.proofs.Nested.{on_it}
 use Rattle.settle_spec.proofs.NewWindows.{window_is_around}
 use Rattle.settle_spec.proofs.Room.{window_has_room}
 use Rattle.settle_laws.proofs.Holding.{items_same_on}
-use Rattle.settle_laws.specs.KeptLaws.{IsAside, IsAlikeIn, AreOffBehind, HavePlaces}
+use Rattle.settle_laws.specs.KeptLaws.{IsRangeApart, IsAlikeIn, AreOffBehind, HavePlaces}
 use Rattle.settle_laws.specs.Keeping.PlacesLaws.{CanSettle}
 use Rattle.settle_laws.proofs.BusPlaced.{one_left, nothing_long, page_some, memory_no_prefetch}
 use Rattle.settle_spec.proofs.Buses.{each_same}
@@ -57,17 +57,17 @@ use Rattle.settle_laws.proofs.Keeping.PlacedBus.{window_ranges, ranges_of_item, 
 use Rattle.settle_laws.proofs.Keeping.PlacedLists.{each_append, placed_append, placed_by}
 
 module _ (q : Request) (s : System) (k : Kept) (can : CanSettle q s k) where
-  abbrev pub found_in : Space → Item → List Range → Option ℕ
+  abbrev pub found_in : Space → PlacingItem → List Range → Option ℕ
   found_in space = place_of_item q s k (places q s k can space)
 
-  abbrev pub ranges_in : Space → Item → List Range
+  abbrev pub ranges_in : Space → PlacingItem → List Range
   ranges_in space = ranges_of_item q s k (places q s k can space)
 
   -- beside what lines hold behind it, too
-  abbrev pub found_off : Space → Item → List Range → Option ℕ
+  abbrev pub found_off : Space → PlacingItem → List Range → Option ℕ
   found_off space i xs = found_in space i (taken_for q i.region xs)
 
-  abbrev behind : Item → List Range
+  abbrev behind : PlacingItem → List Range
   behind i = lines_behind q i.region
 
   -- ---- the bus behind a bridge whose own bus is placed
@@ -76,13 +76,13 @@ module _ (q : Request) (s : System) (k : Kept) (can : CanSettle q s k) where
     abbrev bus : ℕ
     bus = secondary b
 
-    abbrev ranges : Item → List Range
+    abbrev ranges : PlacingItem → List Range
     ranges = ranges_in space
 
-    abbrev find : Item → List Range → Option ℕ
+    abbrev find : PlacingItem → List Range → Option ℕ
     find = found_in space
 
-    abbrev find_off : Item → List Range → Option ℕ
+    abbrev find_off : PlacingItem → List Range → Option ℕ
     find_off = found_off space
 
     abbrev taken : List Range
@@ -102,11 +102,11 @@ module _ (q : Request) (s : System) (k : Kept) (can : CanSettle q s k) where
       pub have : (xs : List Range) → IsAlikeIn range xs taken → IsAlikeIn range taken xs → HavePlaces q range find xs (items q s k can c bus)
 
     -- the place of an item of the class is found in the window over it
-    find_behind : (c : WindowKind) (i : Item) (xs : List Range) → Contains (items q s k can c bus) i → find i xs ≡ place_behind k (places q s k can space) (record { region = i.region; class = c; extent = i.extent }) xs (Some b)
+    find_behind : (c : WindowKind) (i : PlacingItem) (xs : List Range) → Contains (items q s k can c bus) i → find i xs ≡ place_behind k (places q s k can space) (record { region = i.region; class = c; extent = i.extent }) xs (Some b)
     find_behind c i xs has =
         let is = items_are q s (new_window q s) c k.stays bus i has in
-        let class : i.class ≡ c = ap (λ (j : Item). j.class) (sym is.is) in
-        let at = sym (on_bus i.region.function.slot.bus (ap (λ (j : Item). are_siblings q.roots bus j.region.function.slot.bus) (sym is.is) ∙ is.beside)) in
+        let class : i.class ≡ c = ap (λ (j : PlacingItem). j.class) (sym is.is) in
+        let at = sym (on_bus i.region.function.slot.bus (ap (λ (j : PlacingItem). are_siblings q.roots bus j.region.function.slot.bus) (sym is.is) ∙ is.beside)) in
         let on = i.region.function.slot.bus in
         let D = places q s k can space in
         ap (λ t. cond t (first_place (root_ranges q i) xs i.extent) (place_behind k D i xs (bridge_over s on))) (ap (is_root q.roots) at ∙ off_roots q s can.system can.nested b listed bridge)
@@ -117,10 +117,10 @@ module _ (q : Request) (s : System) (k : Kept) (can : CanSettle q s k) where
     -- ---- a window that stays
 
     module _ (c : WindowKind) (of : window_space c ≡ space) (keeps : k.stays (window_part c b) ≡ true) where
-      kept_found : (i : Item) (xs : List Range) → Contains (items q s k can c bus) i → find i xs ≡ k.place b i xs
+      kept_found : (i : PlacingItem) (xs : List Range) → Contains (items q s k can c bus) i → find i xs ≡ k.place b i xs
       kept_found i xs has =
           let is = items_are q s (new_window q s) c k.stays bus i has in
-          let class : i.class ≡ c = ap (λ (j : Item). j.class) (sym is.is) in
+          let class : i.class ≡ c = ap (λ (j : PlacingItem). j.class) (sym is.is) in
           find_behind c i xs has
           ∙ ap (λ t. cond t (k.place b (record { region = i.region; class = c; extent = i.extent }) xs) (first_place (placed_range (place_among (window_part c b) (places q s k can space b.slot.bus))) xs i.extent)) keeps
           ∙ ap (λ d. k.place b (record { region = i.region; class = d; extent = i.extent }) xs) (sym class)
@@ -186,7 +186,7 @@ module _ (q : Request) (s : System) (k : Kept) (can : CanSettle q s k) where
             let x = window_place.at in
             let own = over.are.each x window_place.listed in
             let e = x.item.extent in
-            let same : e ≡ new_window q s c b = ap (λ (i : Item). i.extent) window_place.item in
+            let same : e ≡ new_window q s c b = ap (λ (i : PlacingItem). i.extent) window_place.item in
             let parts = and_parts (is_spot own.0.first (taken_at q s k space b.slot.bus) e x.at) (ends_by own.0 e x.at) own.2 in
             let free = spot_gives own.0.first (taken_at q s k space b.slot.bus) e x.at parts.0 in
             let end = and_parts (nat_le (x.at + (e.size - 1)) own.0.last) (nat_le (x.at + (e.size - 1)) e.highest) parts.1 in
@@ -199,12 +199,12 @@ module _ (q : Request) (s : System) (k : Kept) (can : CanSettle q s k) where
         around = window_is_around q s c can.system can.nested b listed bridge ∙ ap (window_around q c b) (sym items_all)
 
         -- each item behind can be in the window
-        can_be : (i : Item) → Contains (items q s k can c bus) i → CanBeIn window_place.at.at (new_window q s c b).size i
+        can_be : (i : PlacingItem) → Contains (items q s k can c bus) i → CanBeIn window_place.at.at (new_window q s c b).size i
         can_be i has_i =
             let law = lawful_place in
-            let own = map (λ (j : Item). j.extent) (items q s k can c bus) in
+            let own = map (λ (j : PlacingItem). j.extent) (items q s k can c bus) in
             let extents = with_spare (spare_of q c b) own in
-            let in_e : Contains extents i.extent = in_with_spare (spare_of q c b) own i.extent (in_map_from (λ (j : Item). j.extent) (items q s k can c bus) i has_i) in
+            let in_e : Contains extents i.extent = in_with_spare (spare_of q c b) own i.extent (in_map_from (λ (j : PlacingItem). j.extent) (items q s k can c bus) i has_i) in
             let less : i.extent.alignment ≤ greatest (map (λ (e : Extent). e.alignment) extents) = below_greatest (map (λ (e : Extent). e.alignment) extents) i.extent.alignment (in_map_from (λ (e : Extent). e.alignment) extents i.extent in_e) in
             let whole : (new_window q s c b).alignment ≡ max (page_size c) (greatest (map (λ (e : Extent). e.alignment) extents)) = ap (λ (e : Extent). e.alignment) around in
             let power = item_power q s (new_window q s) c bus i (new_window_power q s c) (items_are q s (new_window q s) c k.stays bus i has_i) in
@@ -219,20 +219,20 @@ module _ (q : Request) (s : System) (k : Kept) (can : CanSettle q s k) where
 
         new_room : are_placed (place_all (λ i. new_range ∷ []) [] (items q s k can c bus)) ≡ true
         new_room =
-            ap (λ n. are_placed (place_all (λ i. range_from window_place.at.at n ∷ []) [] (items q s k can c bus))) (ap (λ (i : Item). i.extent.size) window_place.item)
+            ap (λ n. are_placed (place_all (λ i. range_from window_place.at.at n ∷ []) [] (items q s k can c bus))) (ap (λ (i : PlacingItem). i.extent.size) window_place.item)
             ∙ window_has_room (page_size c) (spare_of q c b) (items q s k can c bus) window_place.at.at (new_window q s c b).size (page_some c) (ap (λ (e : Extent). e.size) around) can_be
 
         new_ends : EndsIn q s k can over.placed (window_part c b) new_range
-        new_ends = Gets moves window_place.at window_place.found_there window_place.listed (ap (λ (i : Item). i.region) window_place.item) refl
+        new_ends = Gets moves window_place.at window_place.found_there window_place.listed (ap (λ (i : PlacingItem). i.region) window_place.item) refl
 
         -- what stays behind is in the other window
-        other_stays : (t : Range) → IsKeptThere q s k space bus t → IsAside new_range t
+        other_stays : (t : Range) → IsKeptThere q s k space bus t → IsRangeApart new_range t
         other_stays t is =
             let r = is.of in
             let d = class_in q s r.function r.part in
             let within = kept_over q s k can b listed bridge r is.listed is.kept (on_bus r.function.slot.bus is.beside) in
             let of_d : window_space d ≡ space = space_of_class q s r.function r.part ∙ is.at in
-            subst (IsAside new_range) is.is
+            subst (IsRangeApart new_range) is.is
             (outside_within new_range (k.range (window_part d b)) (k.range r)
             (end_apart q s k can space b.slot.bus over (window_part c b) (window_part d b) new_range (k.range (window_part d b)) (window_beside c of) (window_beside d of_d)
             (λ e. both_ways (k.stays (window_part c b)) moves (ap (λ k2. k.stays (window_part k2 b)) (window_ranks q s can.system can.nested b listed bridge c d e) ∙ within.1)) new_ends (Keeps within.1 refl)) within.0)
@@ -243,7 +243,7 @@ module _ (q : Request) (s : System) (k : Kept) (can : CanSettle q s k) where
             ∙ ap (λ p. placed_range (place_among (window_part c b) (placed_of p))) over.is
             ∙ ap placed_range window_place.found_there
 
-        new_found : (i : Item) (xs : List Range) → Contains (items q s k can c bus) i → find i xs ≡ first_place (new_range ∷ []) xs i.extent
+        new_found : (i : PlacingItem) (xs : List Range) → Contains (items q s k can c bus) i → find i xs ≡ first_place (new_range ∷ []) xs i.extent
         new_found i xs has_i =
             find_behind c i xs has_i
             ∙ ap (λ t. cond t (k.place b (record { region = i.region; class = c; extent = i.extent }) xs) (first_place (placed_range (place_among (window_part c b) (places q s k can space b.slot.bus))) xs i.extent)) moves
@@ -251,29 +251,29 @@ module _ (q : Request) (s : System) (k : Kept) (can : CanSettle q s k) where
             ∙ ap (λ o. first_place (placed_range o) xs i.extent) window_place.found_there
 
         -- lines behind are off the window's place
-        lines_aside : (t : Range) → Contains (lines_behind q (window_part c b)) t → IsAside new_range t
-        lines_aside t has = swap (over.off window_place.at t window_place.listed (subst (λ r. Contains (lines_behind q r) t) (sym (ap (λ (i : Item). i.region) window_place.item)) has))
+        lines_aside : (t : Range) → Contains (lines_behind q (window_part c b)) t → IsRangeApart new_range t
+        lines_aside t has = swap (over.off window_place.at t window_place.listed (subst (λ r. Contains (lines_behind q r) t) (sym (ap (λ (i : PlacingItem). i.region) window_place.item)) has))
           where
-            swap : LieApart new_range t → IsAside new_range t
+            swap : LieApart new_range t → IsRangeApart new_range t
             swap (inl under) = inr under
             swap (inr over) = inl over
 
-        on_aside : (t : Range) → Contains (lines_on q space bus) t → IsAside new_range t
+        on_aside : (t : Range) → Contains (lines_on q space bus) t → IsRangeApart new_range t
         on_aside t has = lines_aside t (on_is_behind q s can.system can.nested b listed bridge c t (subst (λ sp. Contains (lines_on q sp bus) t) (sym of) has))
 
-        behind_aside : (i : Item) (t : Range) → Contains (items q s k can c bus) i → Contains (behind i) t → IsAside new_range t
+        behind_aside : (i : PlacingItem) (t : Range) → Contains (items q s k can c bus) i → Contains (behind i) t → IsRangeApart new_range t
         behind_aside i t has_i has =
             let is = items_are q s (new_window q s) c k.stays bus i has_i in
             let space_at : space_of is.f is.p ≡ window_space c = sym (space_of_class q s is.f is.p) ∙ ap window_space is.class in
             lines_aside t (inner_is_behind q s can.system can.nested b listed bridge c c is.f is.p is.listed (on_bus is.f.slot.bus is.beside) space_at is.can t
-            (subst (λ (j : Item). Contains (lines_behind q j.region) t) (sym is.is) has))
+            (subst (λ (j : PlacingItem). Contains (lines_behind q j.region) t) (sym is.is) has))
 
         new_have : (xs : List Range) → IsAlikeIn new_range xs taken → HavePlaces q new_range find xs (items q s k can c bus)
         new_have xs to =
-            let here : Item → List Range = λ i. new_range ∷ [] in
+            let here : PlacingItem → List Range = λ i. new_range ∷ [] in
             let is = items q s k can c bus in
             let pos = items_aligned q s k c k.stays bus in
-            let place : Item → List Range → Option ℕ = λ i xs. first_place (new_range ∷ []) (taken_for q i.region xs) i.extent in
+            let place : PlacingItem → List Range → Option ℕ = λ i xs. first_place (new_range ∷ []) (taken_for q i.region xs) i.extent in
             let out : IsAlikeIn new_range xs [] = λ t has_t. elim (to t has_t) [
               | inl there ↦ inr (elim (kept_there q s k space bus t there) [ inl line ↦ on_aside t line | inr kept ↦ other_stays t kept ])
               | inr aside ↦ inr aside
@@ -303,7 +303,7 @@ module _ (q : Request) (s : System) (k : Kept) (can : CanSettle q s k) where
     ]
 
     -- an item of the class has the window's addresses
-    pub range_of_item : (c : WindowKind) (h : HasRange c) (i : Item) → i.class ≡ c → i.region.function.slot.bus ≡ bus → ranges i ≡ h.range ∷ []
+    pub range_of_item : (c : WindowKind) (h : HasRange c) (i : PlacingItem) → i.class ≡ c → i.region.function.slot.bus ≡ bus → ranges i ≡ h.range ∷ []
     range_of_item c h i class at =
         let on = i.region.function.slot.bus in
         let D = places q s k can space in
@@ -313,13 +313,13 @@ module _ (q : Request) (s : System) (k : Kept) (can : CanSettle q s k) where
         ∙ ap (window_ranges q s k D c) (over_is q.roots s can.system can.nested bus b (listed, bridge, refl))
         ∙ h.shown
 
-    item_ranges : (c : WindowKind) (h : HasRange c) (i : Item) → Contains (items q s k can c bus) i → ranges i ≡ h.range ∷ []
+    item_ranges : (c : WindowKind) (h : HasRange c) (i : PlacingItem) → Contains (items q s k can c bus) i → ranges i ≡ h.range ∷ []
     item_ranges c h i has_i =
         let is = items_are q s (new_window q s) c k.stays bus i has_i in
-        range_of_item c h i (ap (λ (j : Item). j.class) (sym is.is)) (sym (on_bus i.region.function.slot.bus (ap (λ (j : Item). are_siblings q.roots bus j.region.function.slot.bus) (sym is.is) ∙ is.beside)))
+        range_of_item c h i (ap (λ (j : PlacingItem). j.class) (sym is.is)) (sym (on_bus i.region.function.slot.bus (ap (λ (j : PlacingItem). are_siblings q.roots bus j.region.function.slot.bus) (sym is.is) ∙ is.beside)))
 
     -- items with the places that are found for them
-    record AreFound (xs : List Range) (is : List Item) : Type 0 where
+    record AreFound (xs : List Range) (is : List PlacingItem) : Type 0 where
       placed : List Placed
       found : place_each find_off xs is ≡ AllPlaced placed
       are : ArePlaced ranges xs is placed
@@ -345,21 +345,21 @@ module _ (q : Request) (s : System) (k : Kept) (can : CanSettle q s k) where
         (λ e. differ (window_ranks q s can.system can.nested b listed bridge c d e)) h.ends j.ends
 
     -- what is placed in a window is outside what is outside of it
-    lies_outside : (r u : Range) (xs : List Range) (e : Extent) (a : ℕ) → is_place u xs e a ≡ true → LieApart r u → IsAside r (range_from a e.size)
+    lies_outside : (r u : Range) (xs : List Range) (e : Extent) (a : ℕ) → is_place u xs e a ≡ true → LieApart r u → IsRangeApart r (range_from a e.size)
     lies_outside r u xs e a place out =
         let at = place_gives u xs e a place in
         let from = at.from in
         let end = at.last in
         elim out [ inl under ↦ inr (omega (arith, under, from)) | inr above ↦ inl (omega (arith, above, end)) ]
 
-    pub no_item : {P : Type 0} (xs : List Item) (i : Item) → Contains xs i → xs ≡ [] → P
+    pub no_item : {P : Type 0} (xs : List PlacingItem) (i : PlacingItem) → Contains xs i → xs ≡ [] → P
     no_item xs i has none = absurd (in_nil i (subst (λ ys. Contains ys i) none has))
 
     module _ (m : window_space MemoryWindow ≡ space) (p : window_space PrefetchWindow ≡ space) where
       memory : AreFound taken (items q s k can MemoryWindow bus)
       memory = class_placed MemoryWindow (range_or_none MemoryWindow m) taken (λ h t has. inl has) (λ h t has. inl has)
 
-      memory_out : (h : HasRange PrefetchWindow) (x : Placed) → Contains memory.placed x → IsAside h.range (taken_by x.item x.at)
+      memory_out : (h : HasRange PrefetchWindow) (x : Placed) → Contains memory.placed x → IsRangeApart h.range (taken_by x.item x.at)
       memory_out h x listed_x =
           let item : Contains (items q s k can MemoryWindow bus) x.item = subst (λ xs. Contains xs x.item) memory.are.all (in_map_from (λ (y : Placed). y.item) memory.placed x listed_x) in
           elim (range_or_none MemoryWindow m) [
@@ -373,7 +373,7 @@ module _ (q : Request) (s : System) (k : Kept) (can : CanSettle q s k) where
       prefetch_to : (h : HasRange PrefetchWindow) → IsAlikeIn h.range (with_taken memory.placed taken) taken
       prefetch_to h t has = elim (with_taken_is memory.placed taken t has) [
         | inl there ↦ inl there
-        | inr (x, listed_x, same) ↦ inr (subst (IsAside h.range) same (memory_out h x listed_x))
+        | inr (x, listed_x, same) ↦ inr (subst (IsRangeApart h.range) same (memory_out h x listed_x))
       ]
 
       prefetch : AreFound (with_taken memory.placed taken) (items q s k can PrefetchWindow bus)
@@ -405,7 +405,7 @@ module _ (q : Request) (s : System) (k : Kept) (can : CanSettle q s k) where
 
   -- ---- the roots
 
-  first_none : (p : Placing) (o : Option Item) → first_lack p o ≡ None → (are_placed p ≡ true) × (o ≡ None)
+  first_none : (p : Placing) (o : Option PlacingItem) → first_lack p o ≡ None → (are_placed p ≡ true) × (o ≡ None)
   first_none (AllPlaced placed) o none = (refl, none)
   first_none (Lacks i) o none = cc
 
@@ -423,20 +423,20 @@ module _ (q : Request) (s : System) (k : Kept) (can : CanSettle q s k) where
   root_bus : (space : Space) (root : ℕ) → root < 256 → is_root q.roots root ≡ true → IsPlacedBus q s k can space root
   root_bus space root low is =
       let list = placed_list (placing_on q s k space root) (root_placed q.roots refl can.room space root is) in
-      let first : Item → List Range → Option ℕ = λ i xs. first_place (ranges_in space i) (taken_for q i.region xs) i.extent in
+      let first : PlacingItem → List Range → Option ℕ = λ i xs. first_place (ranges_in space i) (taken_for q i.region xs) i.extent in
       let items = space_items q s k space root in
       let xs = taken_at q s k space root in
       let same = each_same (found_off space) first xs items (λ i ys has. on_root i (taken_for q i.region ys) (root_of i has)) in
       let off = placed_off (ranges_in space) behind xs items (item_positive q s k space root) list.0 (sym same ∙ sym (placing_by_bus q s k can.system can.nested space root low) ∙ list.1) in
       record { placed = list.0; is = list.1; are = off.are; off = off.off }
     where
-      root_of : (i : Item) → Contains (space_items q s k space root) i → is_root q.roots i.region.function.slot.bus ≡ true
+      root_of : (i : PlacingItem) → Contains (space_items q s k space root) i → is_root q.roots i.region.function.slot.bus ≡ true
       root_of i has = elim (or_cases (root == i.region.function.slot.bus) (is_root q.roots root && is_root q.roots i.region.function.slot.bus) (of_space q s k space root i has).beside) [
         | inl same ↦ subst (λ n. is_root q.roots n ≡ true) (eqb-true root i.region.function.slot.bus same) is
         | inr both ↦ (and_parts (is_root q.roots root) (is_root q.roots i.region.function.slot.bus) both).1
       ]
 
-      on_root : (i : Item) (ys : List Range) → is_root q.roots i.region.function.slot.bus ≡ true → found_in space i ys ≡ first_place (ranges_in space i) ys i.extent
+      on_root : (i : PlacingItem) (ys : List Range) → is_root q.roots i.region.function.slot.bus ≡ true → found_in space i ys ≡ first_place (ranges_in space i) ys i.extent
       on_root i ys here =
           ap (λ t. cond t (first_place (root_ranges q i) ys i.extent) (place_behind k (places q s k can space) i ys (bridge_over s i.region.function.slot.bus))) here
           ∙ sym (ap (λ t. first_place (cond t (root_ranges q i) (window_ranges q s k (places q s k can space) i.class (bridge_over s i.region.function.slot.bus))) ys i.extent) here)

@@ -15,7 +15,7 @@ use Rattle.settle_spec.specs.Lines.{line_bus, line_range, taken_for}
 use Rattle.settle_spec.specs.Lists.{Request}
 use Rattle.settle_spec.specs.Parts.{FunctionPart, system_parts, bridge_over, are_same_space}
 use Rattle.settle_spec.specs.Stands.{window_part, part_space}
-use Rattle.settle_spec.specs.Items.{Item, Placed, in_turn, items_of, bus_items, new_window, place_each}
+use Rattle.settle_spec.specs.Items.{PlacingItem, Placed, in_turn, items_of, bus_items, new_window, place_each}
 use Rattle.settle_spec.specs.Places.{root_ranges, placed_of, place_among, placed_range}
 use Rattle.settle_spec.specs.Kept.{Kept}
 use Rattle.settle_spec.specs.Keeping.Places.{space_items, taken_at, place_behind, place_of_item, placing_within, placing_on}
@@ -27,10 +27,10 @@ use Rattle.settle_laws.proofs.Untold.{plain_finds}
 module _ (q : Request) (s : System) (k : Kept) where
   -- ---- the items of a bus are of its functions
 
-  of_class : (c : WindowKind) (bus : ℕ) (i : Item) → Contains (bus_items q s c k.stays (new_window q s c) bus) i → IsBeside q s bus i.region.function
+  of_class : (c : WindowKind) (bus : ℕ) (i : PlacingItem) → Contains (bus_items q s c k.stays (new_window q s c) bus) i → IsBeside q s bus i.region.function
   of_class c bus = each_on q s c k.stays (new_window q s c) bus (λ i. IsBeside q s bus i.region.function) (λ f on p is. on) (λ f on is. on)
 
-  pub of_space : (space : Space) (bus : ℕ) (i : Item) → Contains (space_items q s k space bus) i → IsBeside q s bus i.region.function
+  pub of_space : (space : Space) (bus : ℕ) (i : PlacingItem) → Contains (space_items q s k space bus) i → IsBeside q s bus i.region.function
   of_space Io bus i has = of_class IoWindow bus i has
   of_space Memory bus i has =
       elim (Contains-append_cases (bus_items q s MemoryWindow k.stays (new_window q s MemoryWindow) bus) (bus_items q s PrefetchWindow k.stays (new_window q s PrefetchWindow) bus) i has) [
@@ -53,7 +53,7 @@ module _ (q : Request) (s : System) (k : Kept) where
       ∙ plain_finds q untold (place_of_item q s k (λ over. placed_of (placing_within q s k space depth over))) (taken_at q s k space bus) (space_items q s k space bus)
 
   module _ (system : IsSystem s) (nested : IsNested q.roots s) where
-    behind_by : (d e : ℕ → List Placed) (bus : ℕ) → ((over : ℕ) → over < bus → d over ≡ e over) → (i : Item) (xs : List Range) (o : Option Function) → bridge_over s bus ≡ o
+    behind_by : (d e : ℕ → List Placed) (bus : ℕ) → ((over : ℕ) → over < bus → d over ≡ e over) → (i : PlacingItem) (xs : List Range) (o : Option Function) → bridge_over s bus ≡ o
         → place_behind k d i xs o ≡ place_behind k e i xs o
     behind_by d e bus same i xs None over = refl
     behind_by d e bus same i xs (Some b) over =
@@ -63,7 +63,7 @@ module _ (q : Request) (s : System) (k : Kept) where
         ap (λ placed. cond (k.stays (window_part i.class b)) (k.place b i xs) (first_place (placed_range (place_among (window_part i.class b) placed)) xs i.extent)) (same b.slot.bus (omega (arith, up, to)))
 
     -- an item's place is told by what is on lower buses
-    place_by : (d e : ℕ → List Placed) (bus : ℕ) → ((over : ℕ) → over < bus → d over ≡ e over) → (i : Item) (xs : List Range) → IsBeside q s bus i.region.function → place_of_item q s k d i xs ≡ place_of_item q s k e i xs
+    place_by : (d e : ℕ → List Placed) (bus : ℕ) → ((over : ℕ) → over < bus → d over ≡ e over) → (i : PlacingItem) (xs : List Range) → IsBeside q s bus i.region.function → place_of_item q s k d i xs ≡ place_of_item q s k e i xs
     place_by d e bus same i xs of =
         let on = i.region.function.slot.bus in
         elim (cases_Bool (is_root q.roots on)) [
@@ -77,7 +77,7 @@ module _ (q : Request) (s : System) (k : Kept) where
               ∙ sym (ap (λ b. cond b (first_place (root_ranges q i) xs i.extent) (place_behind k e i xs (bridge_over s on))) off)
         ]
 
-    abbrev on_lower : Space → ℕ → Item → List Range → Option ℕ
+    abbrev on_lower : Space → ℕ → PlacingItem → List Range → Option ℕ
     on_lower space depth i xs = place_of_item q s k (λ over. placed_of (placing_within q s k space depth over)) i (taken_for q i.region xs)
 
     enough : (space : Space) (d e bus : ℕ) → bus < d → bus < e → placing_within q s k space d bus ≡ placing_within q s k space e bus
@@ -106,10 +106,10 @@ module _ (q : Request) (s : System) (k : Kept) where
 
   -- ---- all roots are one bus
 
-  abbrev items_by : WindowKind → (ℕ → Bool) → List Item
+  abbrev items_by : WindowKind → (ℕ → Bool) → List PlacingItem
   items_by c beside = in_turn (flat_map (λ (f : Function). cond (beside f.slot.bus) (items_of q s c k.stays (new_window q s c) f) []) s)
 
-  abbrev items_in : Space → (ℕ → Bool) → List Item
+  abbrev items_in : Space → (ℕ → Bool) → List PlacingItem
   items_in Io beside = items_by IoWindow beside
   items_in Memory beside = items_by MemoryWindow beside ++ items_by PrefetchWindow beside
 
@@ -123,7 +123,7 @@ module _ (q : Request) (s : System) (k : Kept) where
   pub roots_are_one : (space : Space) (root other : ℕ) → is_root q.roots root ≡ true → is_root q.roots other ≡ true → placing_on q s k space root ≡ placing_on q s k space other
   roots_are_one space root other is_one is_other =
       let same : are_siblings q.roots root ≡ are_siblings q.roots other = fun_ext (λ bus. one_bus q.roots root other bus is_one is_other) in
-      let lower : Item → List Range → Option ℕ = λ i xs. place_of_item q s k (λ over. placed_of (placing_within q s k space 255 over)) i (taken_for q i.region xs) in
+      let lower : PlacingItem → List Range → Option ℕ = λ i xs. place_of_item q s k (λ over. placed_of (placing_within q s k space 255 over)) i (taken_for q i.region xs) in
       placing_step space 255 root
       ∙ ap (λ items. place_each lower (taken_at q s k space root) items) (items_are space root ∙ ap (items_in space) same ∙ sym (items_are space other))
       ∙ ap (λ taken. place_each lower taken (space_items q s k space other)) (ap (taken_in space) same)

@@ -26,7 +26,8 @@ use Rattle.settle_spec.specs.Parts.{FunctionPart, addresses, header_parts}
 use Rattle.settle_spec.specs.Stands.{window_part}
 use Rattle.settle_spec.specs.Items.{Placed}
 use Rattle.settle_spec.specs.Keeping.Places.{new_place}
-use Rattle.settle_spec.specs.Registers.{with_number, with_bounds, closed_if_open, changing}
+use Rattle.settle_spec.specs.Registers.{closed_if_open, changing}
+use Rattle.judge_spec.specs.Windows.{with_number, with_bounds}
 use Rattle.settle_spec.specs.Keeping.Registers.{is_same_range, with_kept, shown, with_wish, settled_image, settled_function, settled_command}
 use Rattle.settle_spec.specs.Writes.{part_registers, differs_at, shut_bounds}
 use Rattle.settle_spec.specs.Keeping.Writes.{changes_window, is_left_on, closing_command, is_replaced, without_window, closed_image, closed_function}
@@ -36,9 +37,8 @@ use Rattle.settle_laws.proofs.HeaderParts.{part_cases}
 use Rattle.settle_laws.proofs.Images.{same_number}
 use Rattle.settle_laws.proofs.Numbers.{with_elsewhere, with_image, command_with}
 use Rattle.settle_laws.proofs.NumbersPut.{reads_four}
-use Rattle.settle_laws.proofs.Shown.{IsOff, fold_keeps, bounds_image}
+use Rattle.settle_laws.proofs.Shown.{IsOff, fold_keeps, bounds_image, either}
 use Rattle.settle_laws.proofs.Keeping.Shown.{IsChanging, can_change, changing_is, window_there, can_bar, upper_there, step, step_off}
-use Rattle.settle_laws.proofs.Shown.{either}
 use Rattle.settle_laws.proofs.WindowBytes.{IsOf, one_window, window_bytes, bounds_elsewhere, bounds_by_bytes, bounds_shown, number_elsewhere}
 use Rattle.settle_spec.specs.Kept.{Kept}
 use Rattle.settle_laws.proofs.ClosedImages.{are_low, no_kind, register_bytes, upper_kept}

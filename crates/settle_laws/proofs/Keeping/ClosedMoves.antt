@@ -20,14 +20,13 @@ use Rattle.plan_spec.proofs.Planning.CommandFits.{command_fits}
 use Rattle.plan_spec.proofs.Planning.Registers.{register_bit, number_below}
 use Rattle.plan_spec.proofs.Planning.WindowFits.{few_nibbles, lawful_nibbles}
 use Rattle.settle_spec.specs.Lists.{Request}
-use Rattle.settle_spec.specs.Registers.{with_bounds}
+use Rattle.judge_spec.specs.Windows.{with_bounds}
 use Rattle.settle_spec.specs.Keeping.Registers.{settled_image, settled_function, settled_command}
 use Rattle.settle_spec.specs.Writes.{shut_bounds, closing_registers}
 use Rattle.settle_spec.specs.Keeping.Writes.{is_left_on, closing_command, is_replaced, without_window, closed_image, closed_function, changes_at}
 use Rattle.settle_laws.proofs.Keeping.ClosedImages.{unreplaced_rests, closed_elsewhere, closed_device, closed_is, closed_command, closed_base_upper, closed_bounds_are, shut_fits}
 use Rattle.settle_laws.proofs.Numbers.{with_elsewhere, with_image}
-use Rattle.settle_laws.proofs.PlacesFit.{HasBits}
-use Rattle.settle_laws.proofs.PlacesFit.{bounds_fit}
+use Rattle.settle_laws.proofs.PlacesFit.{HasBits, bounds_fit}
 use Rattle.settle_laws.proofs.Keeping.Shown.{settled_image_is, settled_off}
 use Rattle.settle_laws.proofs.Stages.{IsKeptWindow, IsShutWindow, ShowsSame}
 use Rattle.settle_laws.proofs.WindowBytes.{IsOf}

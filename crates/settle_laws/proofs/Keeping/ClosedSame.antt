@@ -8,7 +8,7 @@ use Rattle.pci_spec.specs.System.{System, Function, Space, Io, Memory, is_space_
 use Rattle.plan_spec.specs.Place.{nibble_of}
 use Rattle.plan_spec.proofs.Planning.CommandFits.{command_by}
 use Rattle.settle_spec.specs.Lists.{Request}
-use Rattle.settle_spec.specs.Registers.{with_bounds, with_number}
+use Rattle.judge_spec.specs.Windows.{with_number, with_bounds}
 use Rattle.settle_spec.specs.Writes.{shut_bounds}
 use Rattle.settle_spec.specs.Keeping.Writes.{is_left_on, closing_command, is_replaced, without_window, closed_image, closed_function}
 use Rattle.settle_laws.proofs.Commands.{as_it_is}

@@ -12,7 +12,7 @@ use Rattle.pci_spec.specs.Registers.{COMMAND}
 use Rattle.settle_spec.specs.Lists.{Request}
 use Rattle.settle_spec.specs.Keeping.Registers.{settled_function}
 use Rattle.settle_spec.specs.Writes.{closing_registers, setting_registers}
-use Rattle.settle_spec.specs.Keeping.Writes.{closed_function, closing_of, setting_of, closing_from, setting_from, opening_from, closings, settle_writes}
+use Rattle.settle_spec.specs.Keeping.Writes.{closed_function, change_to_closed, setting_of, closing_from, setting_from, opening_from, closings, settle_writes}
 use Rattle.settle_laws.specs.WriteLaws.{most_settle_writes}
 use Rattle.settle_laws.proofs.Keeping.ClosedSame.{closed_layout}
 use Rattle.settle_laws.proofs.Pieces.{system_rises}
@@ -49,10 +49,10 @@ module _ (q : Request) (s : System) (k : Kept) (system : IsSystem s) where
       let all = count_both f.slot (closings q s k s) (settings ++ flat_map (opening_from q s k) s) in
       let later = count_both f.slot settings (flat_map (opening_from q s k) s) in
       let first = closings_as_flat f.slot s in
-      let a = count_flat (closing_from q s k) (λ g w has. own_writes (closing_of q s k g) (closing_registers g) w has) s rise f listed in
+      let a = count_flat (closing_from q s k) (λ g w has. own_writes (change_to_closed q s k g) (closing_registers g) w has) s rise f listed in
       let b = count_flat (setting_from q s k) (λ g w has. own_writes (setting_of q s k g) (setting_registers (setting_of q s k g)) w has) s rise f listed in
       let c = count_flat (opening_from q s k) (λ g w has. own_write (setting_of q s k g) (COMMAND, 2) w has) s rise f listed in
-      let few_closed = few_writes (closing_of q s k f) (closing_registers f) in
+      let few_closed = few_writes (change_to_closed q s k f) (closing_registers f) in
       let few_set = few_writes (setting_of q s k f) (setting_registers (setting_of q s k f)) in
       let few_opened = one (number_at (settled_function q s k f).image 4 2 == number_at (closed_function q s k f).image 4 2) record { slot = f.slot; offset = 4; width = 2; value = number_at (settled_function q s k f).image 4 2 } in
       let of_closing = closing_count (is_bridge f) in

@@ -23,7 +23,7 @@ use Rattle.settle_spec.specs.Lists.{RootRange, Request, end_above}
 use Rattle.settle_spec.specs.Spares.{with_spare}
 use Rattle.settle_spec.specs.Parts.{is_empty, is_left, is_part, class_in}
 use Rattle.settle_spec.specs.Stands.{window_part}
-use Rattle.settle_spec.specs.Items.{Item, Placed, highest_of_bar, has_of, bus_items, laid_out, end_of, nothing, spare_of, window_around, new_window}
+use Rattle.settle_spec.specs.Items.{PlacingItem, Placed, highest_of_bar, has_of, bus_items, laid_out, end_of, nothing, spare_of, window_around, new_window}
 use Rattle.settle_spec.specs.Keeping.Places.{new_place}
 use Rattle.settle_spec.proofs.ItemsBehind.{items_are_behind}
 use Rattle.settle_spec.proofs.LaidOut.{laid_keeps, laid_before, end_behind, end_more}
@@ -84,11 +84,11 @@ module _ (q : Request) (s : System) (k : Kept) (can : CanSettle q s k) where
   -- ---- new windows
 
   module _ (c : WindowKind) (b : Function) (listed : Contains s b) (bridge : is_bridge b ≡ true) where
-    abbrev behind : List Item
+    abbrev behind : List PlacingItem
     behind = bus_items q s c nothing (new_window q s c) (secondary b)
 
     abbrev extents : List Extent
-    extents = with_spare (spare_of q c b) (map (λ (i : Item). i.extent) behind)
+    extents = with_spare (spare_of q c b) (map (λ (i : PlacingItem). i.extent) behind)
 
     around : new_window q s c b ≡ window_around q c b behind
     around = window_is_around q s c can.system can.nested b listed bridge
@@ -100,11 +100,11 @@ module _ (q : Request) (s : System) (k : Kept) (can : CanSettle q s k) where
     page_below : page_size c ≤ (new_window q s c b).alignment
     page_below = let e : (new_window q s c b).alignment ≡ max (page_size c) (greatest (map (λ (e : Extent). e.alignment) extents)) = ap (λ (e : Extent). e.alignment) around in omega (arith, e)
 
-    some_end : (items : List Item) → 0 < length items → 0 < end_of (laid_out [] (map (λ (i : Item). i.extent) items))
+    some_end : (items : List PlacingItem) → 0 < length items → 0 < end_of (laid_out [] (map (λ (i : PlacingItem). i.extent) items))
     some_end [] less = absurd (let no : ⊥ = omega (arith, less) in no)
     some_end (i ∷ items) less =
         let e = i.extent in
-        let more = map (λ (i : Item). i.extent) items in
+        let more = map (λ (i : PlacingItem). i.extent) items in
         let here = range_from (first_spot 0 [] e) e.size in
         let end = end_behind (laid_out [] (e ∷ more)) here (laid_keeps (here ∷ []) more here (in_head here [])) in
         omega (arith, end)
@@ -112,7 +112,7 @@ module _ (q : Request) (s : System) (k : Kept) (can : CanSettle q s k) where
     some_size : has_of q s c b ≡ true → 0 < (new_window q s c b).size
     some_size has =
         let long = ltb-true 0 (length behind) (sym (items_are_behind q s c (new_window q s c) can.system can.nested b listed bridge) ∙ has) in
-        let own = map (λ (i : Item). i.extent) behind in
+        let own = map (λ (i : PlacingItem). i.extent) behind in
         let end = some_end behind long in
         let more = end_more (laid_out [] own) (laid_out [] extents) (laid_before [] own (spare_of q c b)) in
         let from = (raised (page_size c) (end_of (laid_out [] extents)) (page_some c)).from in
@@ -122,7 +122,7 @@ module _ (q : Request) (s : System) (k : Kept) (can : CanSettle q s k) where
   -- ---- what a new place has to be
 
   pub size_of_place : (f : Function) (p : Part) → Contains s f → has_part f p ≡ true → (x : Placed) → new_place q s k record { function = f; part = p } ≡ Some x → x.item.extent ≡ extent_by (new_window q s) f p
-  size_of_place f p listed there x shown = ap (λ (i : Item). i.extent) (new_place_is q s k can f p listed there x shown).item
+  size_of_place f p listed there x shown = ap (λ (i : PlacingItem). i.extent) (new_place_is q s k can f p listed there x shown).item
 
   pub bar_room : (f : Function) (n : ℕ) → Contains s f → n < bar_count (layout f.image) → has_bar f.probe n ≡ true → (x : Placed) → new_place q s k record { function = f; part = Bar n } ≡ Some x
       → (x.at % bar_size f.probe n ≡ 0) × (x.at + bar_size f.probe n ≤ highest_of_bar (bar_at f.probe n) + 1)

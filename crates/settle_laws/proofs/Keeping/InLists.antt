@@ -14,7 +14,7 @@ use Rattle.settle_spec.specs.FirstPlace.{is_high}
 use Rattle.settle_spec.specs.Lists.{Request, class_ranges}
 use Rattle.settle_spec.specs.Parts.{FunctionPart, lies_within, bridge_over}
 use Rattle.settle_spec.specs.Stands.{is_in_lists}
-use Rattle.settle_spec.specs.Items.{Item, taken_by}
+use Rattle.settle_spec.specs.Items.{PlacingItem, taken_by}
 use Rattle.settle_spec.specs.Places.{placed_of, root_ranges, wide_ranges}
 use Rattle.settle_spec.specs.Keeping.Places.{new_place, taken_at}
 use Rattle.settle_spec.specs.Wishes.{place_then}
@@ -31,7 +31,7 @@ use Rattle.settle_laws.proofs.Keeping.Kept.{stays_listed}
 use Rattle.settle_laws.proofs.InLists.{listed_in, within_from}
 
 module _ (q : Request) (s : System) (k : Kept) (can : CanSettle q s k) where
-  in_range_list : (i : Item) (u r : Range) → Contains (root_ranges q i) u → IsInside r u → is_in_lists q i.region.function.slot.bus r (window_space i.class) ≡ true
+  in_range_list : (i : PlacingItem) (u r : Range) → Contains (root_ranges q i) u → IsInside r u → is_in_lists q i.region.function.slot.bus r (window_space i.class) ≡ true
   in_range_list i u r has inside =
       let bus = i.region.function.slot.bus in
       let by = λ (c : WindowKind) (listed : Contains (class_ranges q c bus) u). listed_in q bus r c (any_from (lies_within r) (class_ranges q c bus) u listed (within_from r u inside)) in
@@ -63,8 +63,8 @@ module _ (q : Request) (s : System) (k : Kept) (can : CanSettle q s k) where
         let is = new_place_is q s k can f p listed there x.0 x.1 in
         let here = placed_bus q s k can (space_of f p) f listed in
         let own = here.are.each x.0 (subst (λ xs. Contains xs x.0) (ap placed_of here.is) is.listed) in
-        let bus : x.0.item.region.function.slot.bus ≡ f.slot.bus = ap (λ (i : Item). i.region.function.slot.bus) is.item in
-        let class : window_space x.0.item.class ≡ space_of f p = ap (λ (i : Item). window_space i.class) is.item ∙ space_of_class q s f p in
+        let bus : x.0.item.region.function.slot.bus ≡ f.slot.bus = ap (λ (i : PlacingItem). i.region.function.slot.bus) is.item in
+        let class : window_space x.0.item.class ≡ space_of f p = ap (λ (i : PlacingItem). window_space i.class) is.item ∙ space_of_class q s f p in
         let in_list : Contains (root_ranges q x.0.item) own.0 = subst (λ rs. Contains rs own.0) (ap (λ b. cond b (root_ranges q x.0.item) (window_ranges q s k (places q s k can (space_of f p)) x.0.item.class (bridge_over s x.0.item.region.function.slot.bus))) (ap (is_root q.roots) bus ∙ root)) own.1 in
         let in_it = in_range_list x.0.item own.0 (taken_by x.0.item x.0.at) in_list (place_inside own.0 (taken_at q s k (space_of f p) f.slot.bus) x.0 own.2) in
         subst (λ w. is_in_lists q f.slot.bus w (space_of f p) ≡ true) x.2

@@ -16,7 +16,7 @@ use Rattle.plan_spec.proofs.Planning.Reached.{slot_itself}
 use Rattle.settle_spec.specs.Lists.{Request}
 use Rattle.settle_spec.specs.Parts.{FunctionPart, class_in}
 use Rattle.settle_spec.specs.Stands.{rank, window_part}
-use Rattle.settle_spec.specs.Items.{Item, Placed, taken_by}
+use Rattle.settle_spec.specs.Items.{PlacingItem, Placed, taken_by}
 use Rattle.settle_spec.specs.Places.{placed_of, place_among}
 use Rattle.settle_spec.specs.Keeping.Places.{new_place, taken_at}
 use Rattle.settle_laws.proofs.Keeping.Buses.{roots_are_one}
@@ -69,7 +69,7 @@ module _ (q : Request) (s : System) (k : Kept) (can : CanSettle q s k) where
         let x = place_of_range q s k (new_place q s k r) t (sym (placed_range q s k r moves) ∙ e) in
         let b = bus_of f p listed in
         let is = new_place_is q s k can f p listed there x.0 x.1 in
-        Gets moves x.0 (sym (ap (λ y. place_among r (placed_of y)) b.is) ∙ x.1) (subst (λ xs. Contains xs x.0) (ap placed_of b.is) is.listed) (ap (λ (i : Item). i.region) is.item) x.2
+        Gets moves x.0 (sym (ap (λ y. place_among r (placed_of y)) b.is) ∙ x.1) (subst (λ xs. Contains xs x.0) (ap placed_of b.is) is.listed) (ap (λ (i : PlacingItem). i.region) is.item) x.2
   ]
     where
       r : FunctionPart
@@ -118,11 +118,11 @@ module _ (q : Request) (s : System) (k : Kept) (can : CanSettle q s k) where
         let over = placed_bus q s k can space b leads.0 in
         let own = here.are.each x (subst (λ xs. Contains xs x) (ap placed_of here.is) is.listed) in
         let of : window_space c ≡ space = space_of_class q s f p in
-        let at : x.item.region.function.slot.bus ≡ secondary b = ap (λ (i : Item). i.region.function.slot.bus) is.item ∙ sym leads.2 in
+        let at : x.item.region.function.slot.bus ≡ secondary b = ap (λ (i : PlacingItem). i.region.function.slot.bus) is.item ∙ sym leads.2 in
         elim (range_or_none q s k can space b leads.0 leads.1 over c of) [
           | inl none ↦ no_item q s k can space b leads.0 leads.1 over _ x.item (subst (λ n. Contains (items q s k can c n) x.item) (sym leads.2) is.in_class) none
           | inr h ↦
-              let in_it : h.range ≡ own.0 = one_left h.range own.0 (subst (λ rs. Contains rs own.0) (range_of_item q s k can space b leads.0 leads.1 over c h x.item (ap (λ (i : Item). i.class) is.item) at) own.1) in
+              let in_it : h.range ≡ own.0 = one_left h.range own.0 (subst (λ rs. Contains rs own.0) (range_of_item q s k can space b leads.0 leads.1 over c h x.item (ap (λ (i : PlacingItem). i.class) is.item) at) own.1) in
               record {
                 w = h.range;
                 ends = range_there space b (Window c) over of h.range h.ends;

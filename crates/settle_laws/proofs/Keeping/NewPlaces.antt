@@ -4,7 +4,7 @@ use Rattle.std.specs.List.{Contains}
 use Rattle.std.proofs.lemmas.Bool.{both_ways, cases_Bool}
 use Rattle.pci_spec.specs.System.{System, Function, Part, has_part, is_window, space_of}
 use Rattle.settle_spec.specs.Lists.{Request}
-use Rattle.settle_spec.specs.Items.{Item, Placed, new_window}
+use Rattle.settle_spec.specs.Items.{PlacingItem, Placed, new_window}
 use Rattle.settle_spec.specs.Places.{placed_of}
 use Rattle.settle_spec.specs.Kept.{Kept}
 use Rattle.settle_spec.specs.Keeping.Places.{taken_at, new_place}
@@ -37,8 +37,8 @@ module _ (q : Request) (s : System) (k : Kept) (can : CanSettle q s k) (f : Func
       let own = here.are.each p (subst (λ xs. Contains xs p) (ap placed_of here.is) is.listed) in
       let at = place_gives own.0 (taken_at q s k (space_of f part) f.slot.bus) p.item.extent p.at own.2 in
       record {
-        own = λ plain. own_by_part (new_window q s) f part plain ∙ ap (λ (i : Item). i.extent) (sym is.item);
-        new = λ c window. ap (extent_by (new_window q s) f) window ∙ ap (λ (i : Item). i.extent) (sym is.item);
+        own = λ plain. own_by_part (new_window q s) f part plain ∙ ap (λ (i : PlacingItem). i.extent) (sym is.item);
+        new = λ c window. ap (extent_by (new_window q s) f) window ∙ ap (λ (i : PlacingItem). i.extent) (sym is.item);
         multiple = at.multiple;
         low = at.highest;
       }

@@ -9,7 +9,7 @@ use Rattle.pci_spec.proofs.Members.{in_map_from}
 use Rattle.settle_spec.specs.Lists.{Request}
 use Rattle.settle_spec.specs.Parts.{FunctionPart, is_part, header_parts, class_in}
 use Rattle.settle_spec.specs.Stands.{rank, window_part}
-use Rattle.settle_spec.specs.Items.{Item, Placed, has_of, new_window}
+use Rattle.settle_spec.specs.Items.{PlacingItem, Placed, has_of, new_window}
 use Rattle.settle_spec.specs.Places.{placed_of, place_among}
 use Rattle.settle_spec.specs.Keeping.Places.{space_items, new_place}
 use Rattle.settle_laws.specs.Keeping.PlacesLaws.{CanSettle}
@@ -24,7 +24,7 @@ use Rattle.settle_spec.specs.Kept.{Kept}
 module _ (q : Request) (s : System) (k : Kept) (can : CanSettle q s k) where
   -- ---- which parts have a place
 
-  in_own_space : (f : Function) (p : Part) (i : Item) → Contains (items q s k can (class_in q s f p) f.slot.bus) i → Contains (space_items q s k (space_of f p) f.slot.bus) i
+  in_own_space : (f : Function) (p : Part) (i : PlacingItem) → Contains (items q s k can (class_in q s f p) f.slot.bus) i → Contains (space_items q s k (space_of f p) f.slot.bus) i
   in_own_space f p i has = subst (λ sp. Contains (space_items q s k sp f.slot.bus) i) (space_of_class q s f p) (in_space q s k can (class_in q s f p) f.slot.bus i has)
 
   placed_there : (f : Function) (p : Part) → Contains s f → has_part f p ≡ true → Contains (items q s k can (class_in q s f p) f.slot.bus) (item_by (new_window q s) (class_in q s f p) f p)
@@ -69,16 +69,16 @@ module _ (q : Request) (s : System) (k : Kept) (can : CanSettle q s k) where
       let at = found (λ (y : Placed). rank y.item.region == rank r) (places q s k can space f.slot.bus) x shown in
       let is = item_of space f listed x at.0 in
       let item : x.item ≡ item_by (new_window q s) (class_in q s f p) f p = same_rank q s k can.system space f.slot.bus x.item is f p listed there (eqb-true (rank x.item.region) (rank r) at.1) in
-      let region : record { function = is.of.f; part = is.of.p } ≡ r = ap (λ (i : Item). i.region) (is.of.is ∙ item) in
+      let region : record { function = is.of.f; part = is.of.p } ≡ r = ap (λ (i : PlacingItem). i.region) (is.of.is ∙ item) in
       let function : is.of.f ≡ f = ap (λ (z : FunctionPart). z.function) region in
       let part : is.of.p ≡ p = ap (λ (z : FunctionPart). z.part) region in
-      let class : is.c ≡ class_in q s f p = ap (λ (i : Item). i.class) (is.of.is ∙ item) in
+      let class : is.c ≡ class_in q s f p = ap (λ (i : PlacingItem). i.class) (is.of.is ∙ item) in
       record {
         listed = at.0;
         item = item;
         in_class = subst (λ c. Contains (items q s k can c f.slot.bus) x.item) class is.has;
         placeable = subst (λ o. IsPlaceable q s (class_in q s f p) f o) part (subst (λ g. IsPlaceable q s (class_in q s f p) g is.of.p) function (subst (λ c. IsPlaceable q s c is.of.f is.of.p) class is.of.can));
-        moves = ap (λ (i : Item). k.stays i.region) (sym item) ∙ item_moves q s (new_window q s) is.c k.stays f.slot.bus x.item is.has;
+        moves = ap (λ (i : PlacingItem). k.stays i.region) (sym item) ∙ item_moves q s (new_window q s) is.c k.stays f.slot.bus x.item is.has;
       }
 
   -- so what stays has none

@@ -16,7 +16,7 @@ use Rattle.settle_spec.specs.FirstPlace.{Extent, is_spot, ends_by}
 use Rattle.settle_spec.specs.Lists.{Request}
 use Rattle.settle_spec.specs.Parts.{FunctionPart, bridge_over, class_in, header_parts}
 use Rattle.settle_spec.specs.Stands.{rank, part_space, window_part}
-use Rattle.settle_spec.specs.Items.{Item, Placed, AllPlaced, taken_by, bus_items, new_window}
+use Rattle.settle_spec.specs.Items.{PlacingItem, Placed, AllPlaced, taken_by, bus_items, new_window}
 use Rattle.settle_spec.specs.Places.{placed_of, place_among, placed_range, root_ranges}
 use Rattle.settle_spec.specs.Kept.{Kept}
 use Rattle.settle_spec.specs.Keeping.Places.{space_items, taken_at, placing_on}
@@ -38,7 +38,7 @@ module _ (q : Request) (s : System) (k : Kept) where
   window_ranges placed c None = []
   window_ranges placed c (Some b) = if k.stays (window_part c b) then k.range (window_part c b) ∷ [] else placed_range (place_among (window_part c b) (placed b.slot.bus))
 
-  abbrev pub ranges_of_item : (ℕ → List Placed) → Item → List Range
+  abbrev pub ranges_of_item : (ℕ → List Placed) → PlacingItem → List Range
   ranges_of_item placed i =
       if is_root q.roots i.region.function.slot.bus then root_ranges q i else window_ranges placed i.class (bridge_over s i.region.function.slot.bus)
 
@@ -50,7 +50,7 @@ module _ (q : Request) (s : System) (k : Kept) (can : CanSettle q s k) where
   abbrev pub places : Space → ℕ → List Placed
   places space over = placed_of (placing_on q s k space over)
 
-  abbrev pub items : WindowKind → ℕ → List Item
+  abbrev pub items : WindowKind → ℕ → List PlacingItem
   items c bus = bus_items q s c k.stays (new_window q s c) bus
 
   pub low_bus : (f : Function) → Contains s f → f.slot.bus < 256
@@ -59,7 +59,7 @@ module _ (q : Request) (s : System) (k : Kept) (can : CanSettle q s k) where
   pub beside_itself : (bus : ℕ) → are_siblings q.roots bus bus ≡ true
   beside_itself bus = or_left (bus == bus) (is_root q.roots bus && is_root q.roots bus) (eq-eqb bus bus refl)
 
-  pub in_space : (c : WindowKind) (bus : ℕ) (i : Item) → Contains (items c bus) i → Contains (space_items q s k (window_space c) bus) i
+  pub in_space : (c : WindowKind) (bus : ℕ) (i : PlacingItem) → Contains (items c bus) i → Contains (space_items q s k (window_space c) bus) i
   in_space IoWindow bus i has = has
   in_space MemoryWindow bus i has = Contains-append_left (items MemoryWindow bus) (items PrefetchWindow bus) i has
   in_space PrefetchWindow bus i has = Contains-append_right (items MemoryWindow bus) (items PrefetchWindow bus) i has
@@ -86,7 +86,7 @@ module _ (q : Request) (s : System) (k : Kept) (can : CanSettle q s k) where
       let test = λ (x : Placed). rank x.item.region == rank r in
       let i = item_by (new_window q s) (class_in q s f p) f p in
       let made : IsMade (λ (x : Placed). x.item) b.placed i = in_map_to (λ (x : Placed). x.item) b.placed i (subst (λ xs. Contains xs i) (sym b.are.all) has) in
-      let same : rank made.from.item.region ≡ rank r = ap (λ (j : Item). rank j.region) made.is in
+      let same : rank made.from.item.region ≡ rank r = ap (λ (j : PlacingItem). rank j.region) made.is in
       let one = is_found test b.placed (any_from test b.placed made.from made.has (eq-eqb (rank made.from.item.region) (rank r) same)) in
       let is = found test b.placed one.0 one.1 in
       let own : Contains (space_items q s k space bus) one.0.item = subst (λ xs. Contains xs one.0.item) b.are.all (in_map_from (λ (x : Placed). x.item) b.placed one.0 is.0) in

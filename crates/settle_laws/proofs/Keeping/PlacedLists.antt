@@ -8,7 +8,7 @@ use Rattle.pci_spec.specs.Decoded.{Range}
 use Rattle.pci_spec.proofs.Members.{in_nil, in_head, in_cons_cases, in_map_from, pairs_append}
 use Rattle.plan_spec.specs.Place.{range_from}
 use Rattle.settle_spec.specs.FirstPlace.{Extent, ranges_are_apart, is_place}
-use Rattle.settle_spec.specs.Items.{Item, Placed, Placing, AllPlaced, Lacks, and_placed, place_next, taken_by, place_each}
+use Rattle.settle_spec.specs.Items.{PlacingItem, Placed, Placing, AllPlaced, Lacks, and_placed, place_next, taken_by, place_each}
 use Rattle.settle_spec.specs.Places.{placed_of}
 use Rattle.settle_spec.specs.PlacingLaws.{ArePlaced, PlacesAreApart}
 use Rattle.settle_spec.proofs.FirstSpot.{IsApart}
@@ -16,7 +16,7 @@ use Rattle.settle_spec.proofs.LastSpot.{place_gives, place_from}
 use Rattle.settle_laws.proofs.Outside.{with_taken, with_taken_keeps}
 use Rattle.settle_laws.proofs.Keeping.PlacedBus.{items}
 
-pub each_append : (find : Item → List Range → Option ℕ) (taken : List Range) (xs ys : List Item) (first second : List Placed) → place_each find taken xs ≡ AllPlaced first
+pub each_append : (find : PlacingItem → List Range → Option ℕ) (taken : List Range) (xs ys : List PlacingItem) (first second : List Placed) → place_each find taken xs ≡ AllPlaced first
     → place_each find (with_taken first taken) ys ≡ AllPlaced second → place_each find taken (xs ++ ys) ≡ AllPlaced (first ++ second)
 each_append find taken [] ys first second done more =
     let none : [] ≡ first = ap placed_of done in
@@ -24,7 +24,7 @@ each_append find taken [] ys first second done more =
 each_append find taken (i ∷ xs) ys first second done more =
     by (find i taken) refl done (λ a rest is last. each_append find (taken_by i a ∷ taken) xs ys rest second is last)
   where
-    rest_of : List Item → ℕ → Placing
+    rest_of : List PlacingItem → ℕ → Placing
     rest_of zs a = place_each find (taken_by i a ∷ taken) zs
 
     by_rest : (a : ℕ) → (p : Placing) → rest_of xs a ≡ p → and_placed i a p ≡ AllPlaced first
@@ -63,7 +63,7 @@ pub apart_back : (size a : ℕ) (t : Range) → IsApart size a t → ranges_are_
 apart_back size a t (inl under) = or_right (nat_lt t.last a) (nat_lt (a + (size - 1)) t.first) (lt-ltb (a + (size - 1)) t.first under)
 apart_back size a t (inr over) = or_left (nat_lt t.last a) (nat_lt (a + (size - 1)) t.first) (lt-ltb t.last a over)
 
-pub placed_append : (ranges : Item → List Range) (taken : List Range) (xs ys : List Item) (first second : List Placed) → ArePlaced ranges taken xs first → ArePlaced ranges (with_taken first taken) ys second
+pub placed_append : (ranges : PlacingItem → List Range) (taken : List Range) (xs ys : List PlacingItem) (first second : List Placed) → ArePlaced ranges taken xs first → ArePlaced ranges (with_taken first taken) ys second
     → ArePlaced ranges taken (xs ++ ys) (first ++ second)
 placed_append ranges taken xs ys first second one two = record {
   all = map_append first second ∙ ap (λ is. is ++ map (λ (p : Placed). p.item) second) one.all ∙ ap (λ is. xs ++ is) two.all;
@@ -77,7 +77,7 @@ placed_append ranges taken xs ys first second one two = record {
       apart_back r.item.extent.size r.at (taken_by p.item p.at) ((place_gives own.0 (with_taken first taken) r.item.extent r.at own.2).free (taken_by p.item p.at) (with_taken_has first taken p in_p)));
 }
 
-pub placed_by : (ranges others : Item → List Range) (taken : List Range) (items : List Item) (placed : List Placed) → ((i : Item) → Contains items i → others i ≡ ranges i) → ArePlaced ranges taken items placed → ArePlaced others taken items placed
+pub placed_by : (ranges others : PlacingItem → List Range) (taken : List Range) (items : List PlacingItem) (placed : List Placed) → ((i : PlacingItem) → Contains items i → others i ≡ ranges i) → ArePlaced ranges taken items placed → ArePlaced others taken items placed
 placed_by ranges others taken items placed same are = record {
   all = are.all;
   each = λ p has.

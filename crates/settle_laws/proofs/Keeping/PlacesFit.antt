@@ -27,9 +27,10 @@ use Rattle.settle_spec.specs.FirstPlace.{Extent}
 use Rattle.settle_spec.specs.Lists.{Request}
 use Rattle.settle_spec.specs.Spares.{with_spare}
 use Rattle.settle_spec.specs.Parts.{FunctionPart, addresses, header_parts}
-use Rattle.settle_spec.specs.Items.{Item, Placed, highest_of_bar, highest_in, bus_items, nothing, spare_of, new_window, window_within, taken_by}
+use Rattle.settle_spec.specs.Items.{PlacingItem, Placed, highest_of_bar, highest_in, bus_items, nothing, spare_of, new_window, window_within, taken_by}
 use Rattle.settle_spec.specs.Keeping.Places.{new_place}
-use Rattle.settle_spec.specs.Registers.{with_number, with_bounds, closed_if_open, changing}
+use Rattle.settle_spec.specs.Registers.{closed_if_open, changing}
+use Rattle.judge_spec.specs.Windows.{with_number, with_bounds}
 use Rattle.settle_spec.specs.Keeping.Registers.{is_same_range, with_kept, shown, with_wish, settled_image}
 use Rattle.settle_spec.proofs.FirstSpot.{least_in}
 use Rattle.settle_laws.proofs.BarReach.{lower_fits, upper_fits}
@@ -42,8 +43,7 @@ use Rattle.settle_laws.proofs.Keeping.Shown.{IsChanging, can_change, changing_is
 use Rattle.settle_spec.specs.Kept.{Kept}
 use Rattle.settle_laws.specs.Keeping.PlacesLaws.{CanSettle}
 use Rattle.settle_laws.proofs.Keeping.Kept.{kept_forward}
-use Rattle.settle_laws.proofs.PlacesFit.{HasBits, encoding_width, no_bar, one_bar}
-use Rattle.settle_laws.proofs.PlacesFit.{bounds_fit, bounds_kept, with_fit}
+use Rattle.settle_laws.proofs.PlacesFit.{HasBits, encoding_width, no_bar, one_bar, bounds_fit, bounds_kept, with_fit}
 
 module _ (q : Request) (s : System) (k : Kept) (can : CanSettle q s k) (f : Function) (listed : Contains s f) (is : IsFunction f) (decodable : IsDecodable f) where
   abbrev region : Part → FunctionPart
@@ -135,7 +135,7 @@ module _ (q : Request) (s : System) (k : Kept) (can : CanSettle q s k) (f : Func
   no_higher : (c : WindowKind) → (new_window q s c f).highest ≤ highest_in c f.probe
   unfolding window_within
   no_higher c =
-      let extents = with_spare (spare_of q c f) (map (λ (i : Item). i.extent) (bus_items q s c nothing (window_within q s c 255) (secondary f))) in
+      let extents = with_spare (spare_of q c f) (map (λ (i : PlacingItem). i.extent) (bus_items q s c nothing (window_within q s c 255) (secondary f))) in
       least_in (highest_in c f.probe ∷ map (λ (e : Extent). e.highest) extents) (highest_in c f.probe) (in_head (highest_in c f.probe) (map (λ (e : Extent). e.highest) extents))
 
   pub window_low : (c : WindowKind) (p : Placed) → HasPlace q s (space_of f (Window c)) f (Window c) p → (taken_by p.item p.at).last ≤ highest_in c f.probe

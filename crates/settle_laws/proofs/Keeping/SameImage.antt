@@ -14,7 +14,8 @@ use Rattle.settle_spec.specs.Lists.{Request}
 use Rattle.settle_spec.specs.Parts.{FunctionPart, header_parts}
 use Rattle.settle_spec.specs.Items.{Placed, taken_by}
 use Rattle.settle_spec.specs.Kept.{Kept, as_it_stands}
-use Rattle.settle_spec.specs.Registers.{with_bounds, closed_if_open, changing}
+use Rattle.settle_spec.specs.Registers.{closed_if_open, changing}
+use Rattle.judge_spec.specs.Windows.{with_bounds}
 use Rattle.settle_spec.specs.Keeping.Places.{new_place}
 use Rattle.settle_spec.specs.Keeping.Registers.{with_kept, with_wish, shown, settled, settled_image, settled_function}
 use Rattle.settle_spec.specs.Wishes.{range_then}

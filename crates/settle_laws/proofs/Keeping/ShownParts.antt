@@ -29,7 +29,8 @@ use Rattle.settle_spec.specs.Lists.{Request}
 use Rattle.settle_spec.specs.Parts.{FunctionPart, addresses, is_part, header_parts, class_in}
 use Rattle.settle_spec.specs.Items.{Placed, highest_of_bar, taken_by}
 use Rattle.settle_spec.specs.Keeping.Places.{new_place}
-use Rattle.settle_spec.specs.Registers.{with_number, with_bounds, closed_if_open, changing}
+use Rattle.settle_spec.specs.Registers.{closed_if_open, changing}
+use Rattle.judge_spec.specs.Windows.{with_number, with_bounds}
 use Rattle.settle_spec.specs.Keeping.Registers.{is_same_range, with_kept, shown, with_wish, settled_image, settled_function, settled_command}
 use Rattle.settle_laws.specs.KeptLaws.{IsWishedWindow}
 use Rattle.settle_laws.specs.Keeping.PlacesLaws.{CanSettle}

@@ -14,7 +14,8 @@ use Rattle.settle_spec.specs.Parts.{FunctionPart, system_parts, header_parts, ad
 use Rattle.settle_spec.specs.Stands.{part_space, stands}
 use Rattle.settle_spec.specs.Items.{AllPlaced, bus_items, new_window, place_each}
 use Rattle.settle_spec.specs.Places.{placed_of, place_among, first_lack}
-use Rattle.settle_spec.specs.Registers.{with_bounds, closed_if_open, changing}
+use Rattle.settle_spec.specs.Registers.{closed_if_open, changing}
+use Rattle.judge_spec.specs.Windows.{with_bounds}
 use Rattle.settle_spec.specs.Kept.{Kept}
 use Rattle.settle_spec.specs.Keeping.Places.{space_items, placing_within, placing_on, new_place, lacking_on, lacking}
 use Rattle.settle_spec.specs.Keeping.Registers.{is_same_range, with_range, with_kept, shown, settled_image, got_place}

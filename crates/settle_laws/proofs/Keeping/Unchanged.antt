@@ -23,7 +23,7 @@ use Rattle.settle_spec.specs.Registers.{has_own}
 use Rattle.settle_spec.specs.Keeping.Registers.{settled, settled_function, got_place, is_enabled_in}
 use Rattle.settle_spec.specs.LiveLaws.{is_live, has_live_behind}
 use Rattle.settle_spec.specs.Writes.{differs_at, part_registers, is_cut_off_in, closing_registers, setting_registers}
-use Rattle.settle_spec.specs.Keeping.Writes.{changes_at, changes_window, changes_above, moves, has_moving, is_shut_itself, is_shut, is_left_on, is_replaced, closed_function, closing_of, setting_of, closing_from, setting_from, opening_from, closings, settle_writes}
+use Rattle.settle_spec.specs.Keeping.Writes.{changes_at, changes_window, changes_above, moves, has_moving, is_shut_itself, is_shut, is_left_on, is_replaced, closed_function, change_to_closed, setting_of, closing_from, setting_from, opening_from, closings, settle_writes}
 use Rattle.settle_spec.proofs.Live.{live_by_bus}
 use Rattle.settle_spec.proofs.Nested.{at_secondary}
 use Rattle.settle_laws.proofs.ClosedSame.{none_flat, no_difference}
@@ -139,7 +139,7 @@ module _ (q : Request) (s : System) (k : Kept) (system : IsSystem s) (nested : I
   no_closing [] in_s = refl
   no_closing (f ∷ t) in_s =
       ap (λ ws. ws ++ closing_from q s k f) (no_closing t (λ g has. in_s g (in_tail f t g has)))
-      ∙ none_flat (register_write (closing_of q s k f)) (closing_registers f) (λ r has. nothing_differs (closing_of q s k f) (closed_is f (in_s f (in_head f t))) r)
+      ∙ none_flat (register_write (change_to_closed q s k f)) (closing_registers f) (λ r has. nothing_differs (change_to_closed q s k f) (closed_is f (in_s f (in_head f t))) r)
 
   unset : (f : Function) → Contains s f → settled_function q s k f ≡ closed_function q s k f
   unset f listed = same f listed ∙ sym (closed_is f listed)

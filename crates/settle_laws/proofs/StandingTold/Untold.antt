@@ -11,7 +11,7 @@ use Rattle.settle_spec.specs.FirstPlace.{ranges_are_apart}
 use Rattle.settle_spec.specs.Lists.{Request}
 use Rattle.settle_spec.specs.Parts.{FunctionPart, system_parts, addresses, is_part}
 use Rattle.settle_spec.specs.Lines.{line_bus, is_held_line}
-use Rattle.settle_spec.specs.Stands.{rank, are_beside, first_by, part_precedes, leads_by, leads_to_range, leads_to_told, leads_to_one_on, is_line_on, precedes, is_kept_off_by, is_kept_off, is_in_place, takes_from, stands_if, stands, precedes_off}
+use Rattle.settle_spec.specs.Stands.{rank, are_beside, first_by, part_precedes, leads_by, leads_to_range, leads_to_told, leads_to_one_on, is_line_on, told_part_precedes, is_kept_off_by, is_kept_off, is_in_place, takes_from, stands_if, stands, precedes_off}
 use Rattle.settle_spec.proofs.Nested.{is_no_root}
 use Rattle.settle_laws.specs.StandingTold.Untold.{without_told, PartsAreOffLines, AreToldOnRoots, AllStandUntold}
 use Rattle.settle_laws.proofs.Apart.{apart_where_beside}
@@ -68,7 +68,7 @@ module _ (q : Request) (s : System) (system : IsSystem s) (nested : IsNested q.r
         (λ x is_told. false_from_ne_true (is_line_on q s x && leads_to_range q s r x) (λ both.
         both_ways (leads_to_range q s r x) (leads_to_none r listed x is_told) (and_parts (is_line_on q s x) (leads_to_range q s r x) both).1))
 
-    same_order : (t r : FunctionPart) → Contains (system_parts q s) t → Contains (system_parts q s) r → precedes q s t r ≡ precedes plain s t r
+    same_order : (t r : FunctionPart) → Contains (system_parts q s) t → Contains (system_parts q s) r → told_part_precedes q s t r ≡ told_part_precedes plain s t r
     same_order t r in_t in_r = (let a = none_on t in_t in let b = none_on r in_r in λ i. first_by (a i) (b i) (part_precedes q t r))
 
     same_if : (test : FunctionPart → Bool) (r : FunctionPart) → Contains (system_parts q s) r → stands_if q s test r ≡ stands_if plain s test r
@@ -91,15 +91,15 @@ module _ (q : Request) (s : System) (system : IsSystem s) (nested : IsNested q.r
     -- nothing takes an address
     none_takes : (t r : FunctionPart) → Contains (system_parts q s) t → Contains (system_parts q s) r → takes_from q s t r ≡ false
     none_takes t r in_t in_r = false_from_ne_true (takes_from q s t r) (λ takes.
-        let two = and_parts (are_beside q t r && precedes q s t r) (not (ranges_are_apart (addresses t) (addresses r))) takes in
-        let one = and_parts (are_beside q t r) (precedes q s t r) two.0 in
+        let two = and_parts (are_beside q t r && told_part_precedes q s t r) (not (ranges_are_apart (addresses t) (addresses r))) takes in
+        let one = and_parts (are_beside q t r) (told_part_precedes q s t r) two.0 in
         both_ways (ranges_are_apart (addresses t) (addresses r)) (not-true (ranges_are_apart (addresses t) (addresses r)) two.1)
         (apart_where_beside plain s t r nested in_t in_r (all t in_t) (all r in_r) one.0 (differ t r in_t in_r one.1)))
       where
-        differ : (t r : FunctionPart) → Contains (system_parts q s) t → Contains (system_parts q s) r → precedes q s t r ≡ true → rank t ≢ rank r
+        differ : (t r : FunctionPart) → Contains (system_parts q s) t → Contains (system_parts q s) r → told_part_precedes q s t r ≡ true → rank t ≢ rank r
         differ t r in_t in_r before same =
             let one : t ≡ r = one_of_rank q s system t r in_t in_r same in
-            both_ways (precedes q s t r) (ap (λ u. precedes q s t u) (sym one) ∙ precedes_itself q s t) before
+            both_ways (told_part_precedes q s t r) (ap (λ u. told_part_precedes q s t u) (sym one) ∙ precedes_itself q s t) before
 
     -- what a part that stands there has beside that
     record Sides (r : FunctionPart) : Type 0 where

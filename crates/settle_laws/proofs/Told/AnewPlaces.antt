@@ -6,7 +6,7 @@ use Rattle.pci_spec.specs.Decoded.{Range}
 use Rattle.pci_spec.specs.System.{System, Function, Space}
 use Rattle.pci_spec.specs.Bus.{is_root, are_siblings}
 use Rattle.settle_spec.specs.FirstPlace.{first_place}
-use Rattle.settle_spec.specs.Items.{Item, Placed, place_each}
+use Rattle.settle_spec.specs.Items.{PlacingItem, Placed, place_each}
 use Rattle.settle_spec.specs.Kept.{Kept}
 use Rattle.settle_spec.specs.Lines.{lines_on, taken_for}
 use Rattle.settle_spec.specs.Lists.{Request}
@@ -29,11 +29,11 @@ module _ (q : Request) (s : System) (k : Kept) (none : (r : FunctionPart) → k.
       (λ r. and_right (are_siblings q.roots bus r.function.slot.bus && are_same_space space (part_space r)) (k.stays r) (none r)))
       ∙ append_none (lines_on q space bus)
 
-  behind_anew : (placed : ℕ → List Placed) (i : Item) (xs : List Range) (o : Option Function) → place_behind k placed i xs o ≡ first_place (new_ranges placed i.class o) xs i.extent
+  behind_anew : (placed : ℕ → List Placed) (i : PlacingItem) (xs : List Range) (o : Option Function) → place_behind k placed i xs o ≡ first_place (new_ranges placed i.class o) xs i.extent
   behind_anew placed i xs None = refl
   behind_anew placed i xs (Some b) = ap (λ kept. if kept then k.place b i xs else first_place (placed_range (place_among (window_part i.class b) (placed b.slot.bus))) xs i.extent) (none (window_part i.class b))
 
-  place_anew : (placed : ℕ → List Placed) (i : Item) (xs : List Range) → place_of_item q s k placed i xs ≡ first_place (ranges_anew q s placed i) xs i.extent
+  place_anew : (placed : ℕ → List Placed) (i : PlacingItem) (xs : List Range) → place_of_item q s k placed i xs ≡ first_place (ranges_anew q s placed i) xs i.extent
   place_anew placed i xs = by (is_root q.roots i.region.function.slot.bus)
     where
       by : (root : Bool) → (if root then first_place (root_ranges q i) xs i.extent else place_behind k placed i xs (bridge_over s i.region.function.slot.bus))
@@ -42,7 +42,7 @@ module _ (q : Request) (s : System) (k : Kept) (none : (r : FunctionPart) → k.
       by false = behind_anew placed i xs (bridge_over s i.region.function.slot.bus)
 
   -- the first place of an item, off lines behind it, too
-  abbrev pub find_anew : (ℕ → List Placed) → Item → List Range → Option ℕ
+  abbrev pub find_anew : (ℕ → List Placed) → PlacingItem → List Range → Option ℕ
   find_anew placed i xs = first_place (ranges_anew q s placed i) (taken_for q i.region xs) i.extent
 
   pub placing_off : (space : Space) (depth bus : ℕ)

@@ -17,7 +17,7 @@ use Rattle.settle_spec.specs.Kept.{Kept}
 use Rattle.settle_spec.specs.Lines.{line_bus, line_range, is_held_line, is_always_line}
 use Rattle.settle_spec.specs.Lists.{Request}
 use Rattle.settle_spec.specs.Parts.{FunctionPart, system_parts, addresses, is_part, lies_within, bridge_over}
-use Rattle.settle_spec.specs.Stands.{rank, part_space, are_beside, precedes, is_in_lists, is_in_window, is_in_place, window_part, range_class, leads_by, leads_to_range, leads_to_told, is_kept_off, takes_from, are_bridges_on, is_range_in_place, range_stands, stands}
+use Rattle.settle_spec.specs.Stands.{rank, part_space, are_beside, told_part_precedes, is_in_lists, is_in_window, is_in_place, window_part, range_class, leads_by, leads_to_range, leads_to_told, is_kept_off, takes_from, are_bridges_on, is_range_in_place, range_stands, stands}
 use Rattle.settle_spec.specs.ToldLaws.{IsInStandingWindow}
 use Rattle.settle_spec.specs.Keeping.Registers.{settled, settled_function}
 use Rattle.settle_spec.proofs.BridgeOver.{over_leads}
@@ -68,10 +68,10 @@ module _ (q : Request) (s : System) (k : Kept) (can : CanSettle q s k) (keeps : 
   -- so none takes an address of another
   none_takes : (u r : FunctionPart) → Contains (system_parts q t) u → Contains (system_parts q t) r → takes_from q t u r ≡ false
   none_takes u r in_u in_r = false_from_ne_true (takes_from q t u r) (λ takes.
-      let two = and_parts (are_beside q u r && precedes q t u r) (not (ranges_are_apart (addresses u) (addresses r))) takes in
-      let one = and_parts (are_beside q u r) (precedes q t u r) two.0 in
+      let two = and_parts (are_beside q u r && told_part_precedes q t u r) (not (ranges_are_apart (addresses u) (addresses r))) takes in
+      let one = and_parts (are_beside q u r) (told_part_precedes q t u r) two.0 in
       let differ : rank u ≢ rank r = λ same.
-      both_ways (precedes q t u u) (precedes_itself q t u) (subst (λ v. precedes q t u v ≡ true) (sym (one_of_rank q t system_t u r in_u in_r same)) one.1) in
+      both_ways (told_part_precedes q t u u) (precedes_itself q t u) (subst (λ v. told_part_precedes q t u v ≡ true) (sym (one_of_rank q t system_t u r in_u in_r same)) one.1) in
       both_ways (ranges_are_apart (addresses u) (addresses r)) (not-true (ranges_are_apart (addresses u) (addresses r)) two.1)
       (apart_where_beside kq t u r nested_t in_u in_r (stand u in_u) (stand r in_r) one.0 differ))
 

@@ -10,7 +10,7 @@ use Rattle.plan_spec.specs.Plan.{bridges_above}
 use Rattle.plan_spec.proofs.Planning.Behind.{any_from}
 use Rattle.judge_spec.specs.ToldClaims.{is_enabled_at}
 use Rattle.judge_spec.specs.ToldRegion.{ToldRegion, told_regions}
-use Rattle.settle_spec.specs.Items.{Item, range_stays}
+use Rattle.settle_spec.specs.Items.{PlacingItem, range_stays}
 use Rattle.settle_spec.specs.Kept.{Kept}
 use Rattle.settle_spec.specs.Lines.{line_bus, is_held_line, is_command_line, is_always_line}
 use Rattle.settle_spec.specs.Lists.{Request, are_bad_lists}
@@ -22,10 +22,10 @@ use Rattle.settle_spec.specs.Keeping.Registers.{settled}
 use Rattle.settle_spec.specs.Keeping.Writes.{is_shut, settle_writes, settle_keeping, is_not_reached, does_not_stay, would_be_on, would_be_off, would_be_switched, earliest, or_told}
 use Rattle.settle_laws.specs.KeptLaws.{IsSoundKept}
 use Rattle.settle_laws.specs.Keeping.PlacesLaws.{CanSettle}
-use Rattle.settle_laws.specs.ToldSoundLaws.{KeepsTold, IsAdmitted}
+use Rattle.settle_laws.specs.ToldSoundLaws.{KeepsTold, IsAdmittedSystem}
 
 -- lists are good, told ranges and what is fixed stand and stay, nothing lacks room, and nothing fixed is written or told switched
-pub record IsToldEnd (bad : Bool) (off : Option ToldRegion) (a : Option FunctionPart) (goes : Option ToldRegion) (b : Option FunctionPart) (lack : Option Item) (w : Option Write) (switched : Option ToldRegion) (own writes : List Write) : Type 0 where
+pub record IsToldEnd (bad : Bool) (off : Option ToldRegion) (a : Option FunctionPart) (goes : Option ToldRegion) (b : Option FunctionPart) (lack : Option PlacingItem) (w : Option Write) (switched : Option ToldRegion) (own writes : List Write) : Type 0 where
   pub good : bad ≡ false
   pub reached : off ≡ None
   pub stand : a ≡ None
@@ -44,12 +44,12 @@ abbrev writes_of : Settling → List Write → List Write
 writes_of (Settled writes) other = writes
 writes_of refused other = other
 
-abbrev ending : Bool → Option ToldRegion → Option FunctionPart → Option ToldRegion → Option FunctionPart → Option Item → Option Write → Option ToldRegion → List Write → Settling
+abbrev ending : Bool → Option ToldRegion → Option FunctionPart → Option ToldRegion → Option FunctionPart → Option PlacingItem → Option Write → Option ToldRegion → List Write → Settling
 ending bad off a goes b lack w switched own =
     if bad then BadLists
     else or_told off (or_fixed a (or_told goes (or_fixed b (or_lack lack (or_write w (or_told switched (Settled own)))))))
 
-told_ends : (bad : Bool) (off : Option ToldRegion) (a : Option FunctionPart) (goes : Option ToldRegion) (b : Option FunctionPart) (lack : Option Item) (w : Option Write) (switched : Option ToldRegion) (own writes : List Write)
+told_ends : (bad : Bool) (off : Option ToldRegion) (a : Option FunctionPart) (goes : Option ToldRegion) (b : Option FunctionPart) (lack : Option PlacingItem) (w : Option Write) (switched : Option ToldRegion) (own writes : List Write)
     → ending bad off a goes b lack w switched own ≡ Settled writes → IsToldEnd bad off a goes b lack w switched own writes
 told_ends true off a goes b lack w switched own writes e = absurd (false≢true (ap is_settled e))
 told_ends false (Some x) a goes b lack w switched own writes e = absurd (false≢true (ap is_settled e))
@@ -124,7 +124,7 @@ module _ (q : Request) (s : System) (k : Kept) where
       unswitched x is_told = not_found (would_be_switched q s k) (told_regions q.told) end.unswitched x is_told
 
   -- What is kept soundly can be settled so.
-  pub can_settle : (writes : List Write) → settle_keeping q s k ≡ Settled writes → IsAdmitted q s → IsSoundKept q s k → CanSettle q s k
+  pub can_settle : (writes : List Write) → settle_keeping q s k ≡ Settled writes → IsAdmittedSystem q s → IsSoundKept q s k → CanSettle q s k
   can_settle writes e admitted sound =
       let end : ToldEnd writes = told_end writes e in
       record {

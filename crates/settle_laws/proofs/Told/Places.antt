@@ -8,13 +8,13 @@ use Rattle.pci_spec.specs.Decoded.{Range}
 use Rattle.pci_spec.proofs.Members.{in_nil, in_head, in_tail, in_cons_cases, in_map_from}
 use Rattle.plan_spec.specs.Planning.Layout.{LieApart}
 use Rattle.settle_spec.specs.FirstPlace.{Extent, is_place, first_place}
-use Rattle.settle_spec.specs.Items.{Item, Placed, Placing, AllPlaced, Lacks, and_placed, place_next, are_placed, place_all, place_each, taken_by}
+use Rattle.settle_spec.specs.Items.{PlacingItem, Placed, Placing, AllPlaced, Lacks, and_placed, place_next, are_placed, place_all, place_each, taken_by}
 use Rattle.settle_spec.specs.Places.{placed_of}
 use Rattle.settle_spec.specs.PlacingLaws.{ArePlaced}
 use Rattle.settle_spec.proofs.Buses.{next_same}
 use Rattle.settle_spec.proofs.FirstPlace.{first_is, some_place}
 use Rattle.settle_spec.proofs.LastSpot.{place_gives, place_from}
-use Rattle.settle_laws.specs.KeptLaws.{IsAside, IsAlikeIn}
+use Rattle.settle_laws.specs.KeptLaws.{IsRangeApart, IsAlikeIn}
 use Rattle.settle_laws.proofs.EachPlaced.{IsFreeAt, AreFree, each_free}
 use Rattle.settle_laws.proofs.Outside.{alike_cons, same_first}
 
@@ -28,7 +28,7 @@ alike_behind r more xs ys alike t has = elim (Contains-append_cases more xs t ha
 ]
 
 -- what is more is aside
-pub alike_without : (r : Range) (more xs ys : List Range) → ((t : Range) → Contains more t → IsAside r t) → IsAlikeIn r xs ys → IsAlikeIn r (more ++ xs) ys
+pub alike_without : (r : Range) (more xs ys : List Range) → ((t : Range) → Contains more t → IsRangeApart r t) → IsAlikeIn r xs ys → IsAlikeIn r (more ++ xs) ys
 alike_without r more xs ys aside alike t has = elim (Contains-append_cases more xs t has) [
   | inl there ↦ inr (aside t there)
   | inr own ↦ alike t own
@@ -37,12 +37,12 @@ alike_without r more xs ys aside alike t has = elim (Contains-append_cases more 
 pub alike_more : (r : Range) (more xs ys : List Range) → IsAlikeIn r xs ys → IsAlikeIn r xs (more ++ ys)
 alike_more r more xs ys alike t has = elim (alike t has) [ inl there ↦ inl (Contains-append_right more ys t there) | inr out ↦ inr out ]
 
-module _ (r : Range) (more : Item → List Range) where
-  abbrev find : Item → List Range → Option ℕ
+module _ (r : Range) (more : PlacingItem → List Range) where
+  abbrev find : PlacingItem → List Range → Option ℕ
   find i xs = first_place (r ∷ []) (more i ++ xs) i.extent
 
   -- places in a range don't hang on what is taken outside it
-  pub same_with : (items : List Item) (xs ys : List Range) → IsAlikeIn r xs ys → IsAlikeIn r ys xs → ((i : Item) → Contains items i → 0 < i.extent.alignment)
+  pub same_with : (items : List PlacingItem) (xs ys : List Range) → IsAlikeIn r xs ys → IsAlikeIn r ys xs → ((i : PlacingItem) → Contains items i → 0 < i.extent.alignment)
       → place_each find xs items ≡ place_each find ys items
   same_with [] xs ys to back pos = refl
   same_with (i ∷ items) xs ys to back pos =
@@ -52,7 +52,7 @@ module _ (r : Range) (more : Item → List Range) where
       (λ a. same_with items (taken_by i a ∷ xs) (taken_by i a ∷ ys) (alike_cons r (taken_by i a) xs ys to) (alike_cons r (taken_by i a) ys xs back) (λ j has. pos j (in_tail i items j has)))
 
   -- nor on what more is taken for an item, if that is outside it
-  pub same_without : (items : List Item) (xs : List Range) → ((i : Item) (t : Range) → Contains items i → Contains (more i) t → IsAside r t) → ((i : Item) → Contains items i → 0 < i.extent.alignment)
+  pub same_without : (items : List PlacingItem) (xs : List Range) → ((i : PlacingItem) (t : Range) → Contains items i → Contains (more i) t → IsRangeApart r t) → ((i : PlacingItem) → Contains items i → 0 < i.extent.alignment)
       → place_each find xs items ≡ place_all (λ i. r ∷ []) xs items
   same_without [] xs aside pos = refl
   same_without (i ∷ items) xs aside pos =
@@ -64,12 +64,12 @@ module _ (r : Range) (more : Item → List Range) where
 -- ---- what is found for each
 
 -- one of what is placed has its place by a search beside what is taken, and perhaps more
-pub record IsFoundAt (find : Item → List Range → Option ℕ) (taken : List Range) (p : Placed) : Type 0 where
+pub record IsFoundAt (find : PlacingItem → List Range → Option ℕ) (taken : List Range) (p : Placed) : Type 0 where
   pub beside : List Range
   pub more : (t : Range) → Contains taken t → Contains beside t
   pub is : find p.item beside ≡ Some p.at
 
-pub found_each : (find : Item → List Range → Option ℕ) (taken : List Range) (items : List Item) (placed : List Placed) → place_each find taken items ≡ AllPlaced placed
+pub found_each : (find : PlacingItem → List Range → Option ℕ) (taken : List Range) (items : List PlacingItem) (placed : List Placed) → place_each find taken items ≡ AllPlaced placed
     → (p : Placed) → Contains placed p → IsFoundAt find taken p
 found_each find taken [] placed done p has = absurd (in_nil p (subst (λ xs. Contains xs p) (sym (ap placed_of done)) has))
 found_each find taken (i ∷ items) placed done p has =
@@ -100,20 +100,20 @@ less_taken r xs ys e a sub place =
     let at = place_gives r xs e a place in
     place_from r ys e a record { multiple = at.multiple; from = at.from; free = λ t has. at.free t (sub t has); last = at.last; highest = at.highest }
 
-module _ (ranges more : Item → List Range) where
-  abbrev first_in : Item → List Range → Option ℕ
+module _ (ranges more : PlacingItem → List Range) where
+  abbrev first_in : PlacingItem → List Range → Option ℕ
   first_in i xs = first_place (ranges i) (more i ++ xs) i.extent
 
   -- items are placed off what is taken, each other, and what more is taken for each
-  pub record ArePlacedOff (taken : List Range) (items : List Item) (placed : List Placed) : Type 0 where
+  pub record ArePlacedOff (taken : List Range) (items : List PlacingItem) (placed : List Placed) : Type 0 where
     pub are : ArePlaced ranges taken items placed
     pub off : (p : Placed) (t : Range) → Contains placed p → Contains (more p.item) t → LieApart (taken_by p.item p.at) t
 
-  module _ (taken : List Range) (items : List Item) (pos : (i : Item) → Contains items i → 0 < i.extent.alignment) where
-    place_at : (i : Item) (xs : List Range) (a : ℕ) → 0 < i.extent.alignment → first_in i xs ≡ Some a → (r : Range) × Contains (ranges i) r × IsTrue (is_place r (more i ++ xs) i.extent a)
+  module _ (taken : List Range) (items : List PlacingItem) (pos : (i : PlacingItem) → Contains items i → 0 < i.extent.alignment) where
+    place_at : (i : PlacingItem) (xs : List Range) (a : ℕ) → 0 < i.extent.alignment → first_in i xs ≡ Some a → (r : Range) × Contains (ranges i) r × IsTrue (is_place r (more i ++ xs) i.extent a)
     place_at i xs a aligned is = some_place (ranges i) (more i ++ xs) i.extent a ((first_is (ranges i) (more i ++ xs) i.extent a aligned).0 is)
 
-    free_at : (i : Item) (xs : List Range) (a : ℕ) → Contains items i → first_in i xs ≡ Some a → IsFreeAt i.extent xs a
+    free_at : (i : PlacingItem) (xs : List Range) (a : ℕ) → Contains items i → first_in i xs ≡ Some a → IsFreeAt i.extent xs a
     free_at i xs a has is =
         let place = place_at i xs a (pos i has) is in
         let at = place_gives place.0 (more i ++ xs) i.extent a place.2 in

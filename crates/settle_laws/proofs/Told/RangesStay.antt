@@ -19,7 +19,7 @@ use Rattle.settle_laws.proofs.StandingTold.Beside.{range_sides, ranges_apart, ra
 use Rattle.settle_laws.proofs.StandingTold.Order.{range_not_itself}
 use Rattle.settle_laws.proofs.StandingTold.Passes.{one_line}
 use Rattle.settle_laws.proofs.StandingTold.Standing.{RangeTakes, range_stands_is, range_taking}
-use Rattle.settle_laws.specs.Told.Ranges.{IsReached, share_lines, IsFirstThere}
+use Rattle.settle_laws.specs.Told.Ranges.{IsReached, share_lines, IsFirstLineThere}
 use Rattle.settle_laws.specs.StandingTold.Kept.{LinesAreForward}
 use Rattle.settle_laws.specs.Keeping.PlacesLaws.{CanSettle}
 use Rattle.settle_laws.specs.ToldSoundLaws.{KeepsTold}
@@ -59,7 +59,7 @@ module _ (q : Request) (s : System) (k : Kept) (can : CanSettle q s k) (keeps : 
     }
 
     -- another told range that stands takes no address from it
-    none_takes : IsTrue (is_line_on q t x) ⊎ IsFirstThere q x → (y : ToldRegion) → Contains (told_regions q.told) y → not (range_takes_from q t y x && range_stands q t y) ≡ true
+    none_takes : IsTrue (is_line_on q t x) ⊎ IsFirstLineThere q x → (y : ToldRegion) → Contains (told_regions q.told) y → not (range_takes_from q t y x && range_stands q t y) ≡ true
     none_takes either y in_y =
         not_from_false (range_takes_from q t y x && range_stands q t y)
         (false_from_ne_true (range_takes_from q t y x && range_stands q t y) (λ both.
@@ -83,7 +83,7 @@ module _ (q : Request) (s : System) (k : Kept) (can : CanSettle q s k) (keeps : 
               ])
         ]))
 
-    pub range_stays : IsTrue (is_line_on q t x) ⊎ IsFirstThere q x → range_stands q t x ≡ true
+    pub range_stays : IsTrue (is_line_on q t x) ⊎ IsFirstLineThere q x → range_stands q t x ≡ true
     range_stays either =
         let told_one = not (is_held_line x) in
         let place = is_range_in_place q t (stands q t) x in

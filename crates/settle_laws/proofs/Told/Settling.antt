@@ -18,7 +18,7 @@ use Rattle.settle_spec.specs.Wishes.{granted}
 use Rattle.settle_laws.specs.KeptLaws.{IsSoundKept}
 use Rattle.settle_laws.specs.GrowingLaws.{closings_by}
 use Rattle.settle_laws.specs.Keeping.PlacesLaws.{CanSettle}
-use Rattle.settle_laws.specs.ToldSoundLaws.{IsSoundAsTold, IsToldOf, IsAdmitted, CanSettleTold, CanAskTold, SettledCanSettle, SettledStandingIsSound, SettledGrowingIsSound, SettledSparingIsSound, SettlingStandingCanStop, SettlingGrowingCanStop, SettlingSparingCanStop, FixedIsNotWritten, SettlingMoves}
+use Rattle.settle_laws.specs.ToldSoundLaws.{IsSoundAsTold, IsToldOf, IsAdmittedSystem, CanSettleTold, CanAskTold, SettledCanSettle, SettledStandingIsSound, ToldGrowingIsSound, ToldSparingIsSound, SettlingStandingCanStop, ToldGrowingCanStop, ToldSparingCanStop, FixedIsNotWritten, SettlingMoves}
 use Rattle.settle_laws.proofs.SoundKept.{standing_is_sound, growing_is_sound}
 use Rattle.settle_laws.proofs.Keeping.Moves.{all_move}
 use Rattle.settle_laws.proofs.Keeping.Stopping.{writes_settle}
@@ -62,7 +62,7 @@ settled_can_settle q s k writes may sound ended = (settled_can q s k writes ende
 
 -- ---- as it stands, and where windows grow
 
-module _ (q : Request) (s : System) (may : IsAdmitted q s) where
+module _ (q : Request) (s : System) (may : IsAdmittedSystem q s) where
   plain : IsSoundKept q s (as_it_stands q s)
   plain = standing_is_sound q s may.system may.nested may.profile
 
@@ -84,13 +84,13 @@ module _ (q : Request) (s : System) (may : CanAskTold q s) (writes : List Write)
   growing_ends (NoRoom class slot register size alignment) is e = inr e
   growing_ends (NotKept slot register) is e = inr e
 
-pub settled_growing_is_sound : SettledGrowingIsSound
+pub settled_growing_is_sound : ToldGrowingIsSound
 settled_growing_is_sound q s writes may ended = elim (growing_ends q s may writes (settle_keeping q s (growing q s)) refl ended) [
   | inl is ↦ kept_sound q s (growing q s) writes is may (grown q s may.admitted)
   | inr is ↦ kept_sound q s (as_it_stands q s) writes is may (plain q s may.admitted)
 ]
 
-pub settling_growing_can_stop : SettlingGrowingCanStop
+pub settling_growing_can_stop : ToldGrowingCanStop
 settling_growing_can_stop q s writes n may ended from = by (settle_keeping q s (growing q s)) refl ended from
   where
     by : (o : Settling) → settle_keeping q s (growing q s) ≡ o → or_else o (settle_keeping q s (as_it_stands q s)) ≡ Settled writes
@@ -104,7 +104,7 @@ settling_growing_can_stop q s writes n may ended from = by (settle_keeping q s (
 -- ---- with room behind slots
 
 -- what is kept in the end can be settled without wishes, where it is settled beside them
-module _ (q asked : Request) (s : System) (may : IsAdmitted q s) where
+module _ (q asked : Request) (s : System) (may : IsAdmittedSystem q s) where
   abbrev kept : Kept
   kept = finally_kept q s
 
@@ -160,8 +160,8 @@ module _ (q : Request) (s : System) where
   told_same : (t : System) → IsSoundAsTold q t → IsSoundAsTold p t
   told_same t = cond_both (have_spares q s) q (without_slots q) (λ r. IsSoundAsTold q t → IsSoundAsTold r t) (λ spares sound. sound) (λ none sound. sound)
 
-  pub placing_admitted : IsAdmitted q s → IsAdmitted p s
-  placing_admitted may = cond_both (have_spares q s) q (without_slots q) (λ r. IsAdmitted r s) (λ spares. may)
+  pub placing_admitted : IsAdmittedSystem q s → IsAdmittedSystem p s
+  placing_admitted may = cond_both (have_spares q s) q (without_slots q) (λ r. IsAdmittedSystem r s) (λ spares. may)
       (λ none. record { high = may.high; system = may.system; nested = may.nested; profile = may.profile; chains = may.chains })
 
   placing_told : IsToldOf q s → IsToldOf p s
@@ -169,7 +169,7 @@ module _ (q : Request) (s : System) where
       (λ none. record { lawful = told.lawful; awake = told.awake; listed = told.listed; led_to = told.led_to })
 
   -- what is settled with room behind slots can be settled so, and could be without
-  module _ (may : IsAdmitted q s) (writes : List Write) (ended : settle_sparing q s ≡ Settled writes) where
+  module _ (may : IsAdmittedSystem q s) (writes : List Write) (ended : settle_sparing q s ≡ Settled writes) where
     pub beside_wishes : settle_keeping p s j ≡ Settled writes
     beside_wishes = (sparing_gives q s writes ended).0
 
@@ -192,10 +192,10 @@ module _ (q : Request) (s : System) where
     sparing_stop : (n : ℕ) → (length (closings p s j s) ≤ n) ⊎ IsSoundAsTold q s → IsSoundAsTold q (system_after s (take n writes))
     sparing_stop n from = same_told (system_after s (take n writes)) (kept_stop p s j writes beside asked wished_sound n (elim from [ inl past ↦ inl past | inr sound ↦ inr (told_same s sound) ]))
 
-pub settled_sparing_is_sound : SettledSparingIsSound
+pub settled_sparing_is_sound : ToldSparingIsSound
 settled_sparing_is_sound q s writes may ended = sparing_sound q s may writes ended
 
-pub settling_sparing_can_stop : SettlingSparingCanStop
+pub settling_sparing_can_stop : ToldSparingCanStop
 settling_sparing_can_stop q s writes n may ended from = sparing_stop q s may writes ended n from
 
 pub settling_moves : SettlingMoves

@@ -18,7 +18,8 @@ use Rattle.settle_spec.specs.Lists.{Request}
 use Rattle.settle_spec.specs.Parts.{has_left, are_same_space}
 use Rattle.settle_spec.specs.LiveLaws.{is_live, has_live_behind}
 use Rattle.settle_spec.specs.Kept.{Kept}
-use Rattle.settle_spec.specs.Registers.{with_number, has_own}
+use Rattle.settle_spec.specs.Registers.{has_own}
+use Rattle.judge_spec.specs.Windows.{with_number}
 use Rattle.settle_spec.specs.Keeping.Registers.{got_place, is_enabled_in, settled, settled_image, settled_command, settled_function}
 use Rattle.settle_spec.specs.Writes.{is_cut_off_in}
 use Rattle.settle_spec.proofs.Live.{live_by_bus}

@@ -15,15 +15,14 @@ use Rattle.settle_spec.specs.Parts.{FunctionPart, system_parts}
 use Rattle.settle_spec.specs.Stands.{is_line_on, is_range_in_place, range_stands}
 use Rattle.settle_spec.specs.Writes.{Settled}
 use Rattle.settle_spec.specs.Keeping.Registers.{settled}
-use Rattle.settle_spec.specs.Keeping.Writes.{settle_writes}
+use Rattle.settle_spec.specs.Keeping.Writes.{settle_writes, settle_keeping}
 use Rattle.settle_spec.specs.Sparing.{without_slots, have_spares, placing_request, grants, settle_sparing}
 use Rattle.settle_laws.specs.StandingTold.Standing.{shares_with_line}
-use Rattle.settle_laws.specs.Told.Ranges.{IsReached, IsFirstThere}
+use Rattle.settle_laws.specs.Told.Ranges.{IsReached, IsFirstLineThere}
 use Rattle.settle_laws.specs.Told.Starts.{IsQuiet}
 use Rattle.settle_laws.specs.Told.Whole.{IsSettledBy, StoodThere}
 use Rattle.settle_laws.specs.StandingTold.Kept.{LinesAreForward}
 use Rattle.settle_laws.specs.Keeping.PlacesLaws.{CanSettle}
-use Rattle.settle_spec.specs.Keeping.Writes.{settle_keeping, settle_writes}
 use Rattle.settle_laws.specs.ToldSoundLaws.{KeepsTold}
 use Rattle.settle_laws.proofs.Keeping.Stopping.{writes_settle}
 use Rattle.settle_laws.proofs.Told.Ended.{keeps_told, told_end}
@@ -124,14 +123,14 @@ module _ (q : Request) (s : System) (writes : List Write) (by : IsSettledBy q s 
         (λ is_told stand. subst (λ v. IsReached p v x) result_is (reached p s j can keeps forward x is_told stand))
 
     abbrev Keeps : Request → Type 0
-    Keeps r = Contains (told_regions r.told) x → range_stands r s x ≡ true → IsTrue (is_line_on r t x) ⊎ IsFirstThere r x → range_stands r t x ≡ true
+    Keeps r = Contains (told_regions r.told) x → range_stands r s x ≡ true → IsTrue (is_line_on r t x) ⊎ IsFirstLineThere r x → range_stands r t x ≡ true
 
     pub result_keeps : Keeps q
     result_keeps = of_request Keeps
         (λ all is_told stand either. sym (range_alike q [] t x) ∙ all is_told (range_alike q [] s x ∙ stand) either)
         (λ is_told stand either.
         subst (λ v. range_stands p v x ≡ true) result_is
-        (range_stays p s j can keeps forward x is_told stand (subst (λ v. IsTrue (is_line_on p v x) ⊎ IsFirstThere p x) (sym result_is) either)))
+        (range_stays p s j can keeps forward x is_told stand (subst (λ v. IsTrue (is_line_on p v x) ⊎ IsFirstLineThere p x) (sym result_is) either)))
 
     -- ---- stops
 

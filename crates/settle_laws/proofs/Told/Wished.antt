@@ -15,7 +15,7 @@ use Rattle.settle_spec.specs.Lines.{line_bus, is_command_line, is_always_line}
 use Rattle.settle_spec.specs.Lists.{Request, are_bad_lists}
 use Rattle.settle_spec.specs.Parts.{FunctionPart}
 use Rattle.settle_spec.specs.Stands.{stands, range_stands}
-use Rattle.settle_spec.specs.Items.{Item, spare_of, range_stays}
+use Rattle.settle_spec.specs.Items.{PlacingItem, spare_of, range_stays}
 use Rattle.settle_spec.specs.Writes.{Settling, BadLists, Fixed, NoRoom, Settled, NotKept, fixed_without, fixed_write, or_fixed, or_lack, or_write}
 use Rattle.settle_spec.specs.Kept.{Kept, no_wish, unwished, as_it_stands, growing}
 use Rattle.settle_spec.specs.Keeping.Places.{lacking}
@@ -28,8 +28,8 @@ use Rattle.settle_spec.specs.Wishes.{granted}
 use Rattle.settle_laws.specs.KeptLaws.{WishesNothing}
 use Rattle.settle_laws.specs.WriteLaws.{most_settle_writes}
 use Rattle.settle_laws.specs.Keeping.PlacesLaws.{CanSettle}
-use Rattle.settle_laws.specs.ToldSoundLaws.{IsAdmitted, KeepsTold, FewWritesEach}
-use Rattle.settle_laws.specs.ToldSparingLaws.{SparesRefuseNoMore, SparesRefuseNothing, WishedIsSettled, SparesSetNoCommand, SparingKeepsAll, SparesHaveRoom}
+use Rattle.settle_laws.specs.ToldSoundLaws.{IsAdmittedSystem, KeepsTold, FewSparingWritesEach}
+use Rattle.settle_laws.specs.ToldSparingLaws.{SparesRefuseNoMore, ToldSparingRefusesNothing, WishedIsSettled, ToldSparingSetsNoCommand, SparingKeepsAll, ToldSparingLeavesRoom}
 use Rattle.settle_laws.proofs.Keeping.Claimed.{on_now}
 use Rattle.settle_laws.proofs.Keeping.Few.{few_each}
 use Rattle.settle_laws.proofs.Keeping.Moves.{moves}
@@ -58,13 +58,13 @@ writes_from (NoRoom class slot register size alignment) is = absurd (both_ways f
 writes_from (NotKept slot register) is = absurd (both_ways false refl is)
 
 -- where nothing is refused all is settled
-ends_so : (bad : Bool) (x : Option ToldRegion) (a : Option FunctionPart) (y : Option ToldRegion) (b : Option FunctionPart) (lack : Option Item) (w : Option Write) (z : Option ToldRegion) (own : List Write)
+ends_so : (bad : Bool) (x : Option ToldRegion) (a : Option FunctionPart) (y : Option ToldRegion) (b : Option FunctionPart) (lack : Option PlacingItem) (w : Option Write) (z : Option ToldRegion) (own : List Write)
     → bad ≡ false → x ≡ None → a ≡ None → y ≡ None → b ≡ None → lack ≡ None → w ≡ None → z ≡ None
     → cond bad BadLists (or_told x (or_fixed a (or_told y (or_fixed b (or_lack lack (or_write w (or_told z (Settled own)))))))) ≡ Settled own
 ends_so bad x a y b lack w z own good stand fixed stay rest room unwritten on =
     λ i. cond (good i) BadLists (or_told (stand i) (or_fixed (fixed i) (or_told (stay i) (or_fixed (rest i) (or_lack (room i) (or_write (unwritten i) (or_told (on i) (Settled own))))))))
 
-module _ (q asked : Request) (s : System) (may : IsAdmitted q s) where
+module _ (q asked : Request) (s : System) (may : IsAdmittedSystem q s) where
   abbrev k : Kept
   k = finally_kept q s
 
@@ -159,11 +159,11 @@ settled_by_writes q s k is =
 
 -- ---- with slots
 
-module _ (q : Request) (s : System) (may : IsAdmitted q s) where
+module _ (q : Request) (s : System) (may : IsAdmittedSystem q s) where
   abbrev w : Request
   w = without_slots q
 
-  asked_without : IsAdmitted w s
+  asked_without : IsAdmittedSystem w s
   asked_without = record { high = may.high; system = may.system; nested = may.nested; profile = may.profile; chains = may.chains }
 
   abbrev beside : Request → Kept
@@ -182,7 +182,7 @@ told_spares_refuse_no_more = no_more
 pub told_wished_is_settled : WishedIsSettled
 told_wished_is_settled = wished_writes
 
-pub told_spares_refuse_nothing : SparesRefuseNothing
+pub told_spares_refuse_nothing : ToldSparingRefusesNothing
 told_spares_refuse_nothing q s may refused = elim (cases_Bool (is_settled (settle_growing (without_slots q) s))) [
   | inl settled ↦ absurd (both_ways (is_settled (settle_sparing q s)) refused (no_more q s may settled))
   | inr alone ↦ refused_alone q s alone
@@ -190,7 +190,7 @@ told_spares_refuse_nothing q s may refused = elim (cases_Bool (is_settled (settl
 
 -- ---- how many writes
 
-pub told_few_writes : FewWritesEach
+pub told_few_writes : FewSparingWritesEach
 told_few_writes q s writes system ended f listed =
     let p = placing_request q s in
     let j = (grants q s).kept in
@@ -199,19 +199,19 @@ told_few_writes q s writes system ended f listed =
 -- ---- nothing goes for spares
 
 -- what is settled where windows grow can be settled so
-can_finally : (q : Request) (s : System) → IsAdmitted q s → is_settled (settle_growing q s) ≡ true → CanSettle q s (finally_kept q s)
+can_finally : (q : Request) (s : System) → IsAdmittedSystem q s → is_settled (settle_growing q s) ≡ true → CanSettle q s (finally_kept q s)
 can_finally q s may grows =
     let some = writes_from (settle_growing q s) grows in
     let is = told_end q s (finally_kept q s) some.0 (finally_settles q s ∙ some.1) in
     can_kept q q s may is.good is.room
 
-pub can_all : (q : Request) (s : System) → IsAdmitted q s → is_settled (settle_sparing q s) ≡ true → CanAll q s
+pub can_all : (q : Request) (s : System) → IsAdmittedSystem q s → is_settled (settle_sparing q s) ≡ true → CanAll q s
 can_all q s may settles =
     let some = writes_from (settle_sparing q s) settles in
     let both = sparing_can q s may some.0 some.1 in
     record { before = both.0; then = both.1 }
 
-pub told_spares_set_no_command : SparesSetNoCommand
+pub told_spares_set_no_command : ToldSparingSetsNoCommand
 told_spares_set_no_command q s f may listed settled =
     let w = without_slots q in
     wishes_set_none (placing_request q s) s (kept_sparing q s) (finally_kept (placing_request q s) s) f (kept_alike q s)
@@ -226,5 +226,5 @@ told_spares_set_no_command q s f may listed settled =
 pub told_sparing_keeps_all : SparingKeepsAll
 told_sparing_keeps_all q s f p may settles listed there keeps = keeps_all q s (can_all q s may settles) record { function = f; part = p } listed there keeps
 
-pub told_spares_have_room : SparesHaveRoom
+pub told_spares_have_room : ToldSparingLeavesRoom
 told_spares_have_room q s c b e may listed spare there free settles = has_room q s (can_all q s may settles) c b e listed spare there free

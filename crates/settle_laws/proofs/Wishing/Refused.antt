@@ -3,13 +3,13 @@ use Rattle.pci_spec.specs.System.{System}
 use Rattle.settle_spec.specs.Lists.{Request}
 use Rattle.settle_spec.specs.SpareLaws.{CanAsk, SparesRefuseNothing, SparesSetNoCommand, SparesHaveRoom}
 use Rattle.settle_laws.specs.GrowingLaws.{CanBeAsked}
-use Rattle.settle_laws.specs.ToldSoundLaws.{IsAdmitted}
+use Rattle.settle_laws.specs.ToldSoundLaws.{IsAdmittedSystem}
 use Rattle.settle_laws.proofs.Told.Wished.{told_spares_refuse_nothing, told_spares_set_no_command, told_spares_have_room}
 
-pub admitted_of : (q : Request) (s : System) → CanBeAsked q s → IsAdmitted q s
+pub admitted_of : (q : Request) (s : System) → CanBeAsked q s → IsAdmittedSystem q s
 admitted_of q s may = record { high = may.high; system = may.system; nested = may.nested; profile = may.profile; chains = may.chains }
 
-admitted : (q : Request) (s : System) → CanAsk q s → IsAdmitted q s
+admitted : (q : Request) (s : System) → CanAsk q s → IsAdmittedSystem q s
 admitted q s ask = record { high = ask.high; system = ask.system; nested = ask.nested; profile = ask.profile; chains = ask.chains }
 
 -- The law: what is refused with slots is refused without them, for the same reason.

@@ -26,10 +26,11 @@ use Rattle.settle_spec.specs.Stands.{is_fixed_part, part_space, window_part}
 use Rattle.settle_spec.specs.Items.{Placed, taken_by}
 use Rattle.settle_spec.specs.Kept.{Kept, no_wish, unwished}
 use Rattle.settle_spec.specs.Keeping.Places.{new_place}
-use Rattle.settle_spec.specs.Registers.{changing, with_number}
+use Rattle.settle_spec.specs.Registers.{changing}
+use Rattle.judge_spec.specs.Windows.{with_number}
 use Rattle.settle_spec.specs.Keeping.Registers.{shown, with_wish, settled_image, settled_function}
 use Rattle.settle_spec.specs.Writes.{differs_at, part_registers, is_cut_off_in, closing_registers, setting_registers, fixed_write}
-use Rattle.settle_spec.specs.Keeping.Writes.{changes_at, changes_window, changes_above, moves, has_moving, is_shut_itself, is_shut, is_left_on, is_replaced, closed_function, closing_of, setting_of, closing_from, setting_from, opening_from, closings, settle_writes}
+use Rattle.settle_spec.specs.Keeping.Writes.{changes_at, changes_window, changes_above, moves, has_moving, is_shut_itself, is_shut, is_left_on, is_replaced, closed_function, change_to_closed, setting_of, closing_from, setting_from, opening_from, closings, settle_writes}
 use Rattle.settle_spec.specs.Wishes.{range_then}
 use Rattle.settle_laws.specs.KeptLaws.{WishesNothing}
 use Rattle.settle_laws.specs.PlacesLaws.{place_range}
@@ -274,8 +275,8 @@ module _ (q : Request) (s : System) (k j : Kept) (can : CanSettle q s k) (more :
             | inl same ↦ eqb-true new old same
             | inr differs ↦
                 let w : Write = record { slot = f.slot; offset = 4; width = 2; value = new } in
-                let first : Contains (register_write (closing_of q s k f) (COMMAND, 2)) w = subst (λ t. Contains (cond t [] (w ∷ [])) w) (sym differs) (in_head w []) in
-                let own : Contains (closing_from q s k f) w = in_flat_map_from (register_write (closing_of q s k f)) (closing_registers f) (COMMAND, 2) w (in_head (COMMAND, 2) _) first in
+                let first : Contains (register_write (change_to_closed q s k f) (COMMAND, 2)) w = subst (λ t. Contains (cond t [] (w ∷ [])) w) (sym differs) (in_head w []) in
+                let own : Contains (closing_from q s k f) w = in_flat_map_from (register_write (change_to_closed q s k f)) (closing_registers f) (COMMAND, 2) w (in_head (COMMAND, 2) _) first in
                 let all : Contains (settle_writes q s k) w = Contains-append_left (closings q s k s) (flat_map (setting_from q s k) s ++ flat_map (opening_from q s k) s) w (closing_in s listed w own) in
                 absurd (both_ways (list_any (same_slot f.slot) q.fixed) (not_found (λ (x : Write). list_any (same_slot x.slot) q.fixed) (settle_writes q s k) unwritten w all) fixed)
           ]
@@ -312,7 +313,7 @@ module _ (q : Request) (s : System) (k j : Kept) (can : CanSettle q s k) (more :
       closed_is = closed_same q s j f (images_of s can.system f listed) unreplaced left_as_on
 
       no_closing : closing_from q s j f ≡ []
-      no_closing = none_flat (register_write (closing_of q s j f)) (closing_registers f) (λ r has. no_difference (closing_of q s j f) r (ap (λ (g : Function). number_at g.image r.0 r.1) closed_is))
+      no_closing = none_flat (register_write (change_to_closed q s j f)) (closing_registers f) (λ r has. no_difference (change_to_closed q s j f) r (ap (λ (g : Function). number_at g.image r.0 r.1) closed_is))
 
       no_change : settled_function q s j f ≡ closed_function q s j f
       no_change = rests ∙ sym closed_is
@@ -331,7 +332,7 @@ module _ (q : Request) (s : System) (k j : Kept) (can : CanSettle q s k) (more :
     none_fixed w has fixed = elim (Contains-append_cases (closings q s j s) (flat_map (setting_from q s j) s ++ flat_map (opening_from q s j) s) w has) [
       | inl closing ↦
           let piece : IsInPiece (closing_from q s j) s w = closing_piece q s j s w closing in
-          let held = of_fixed piece.of w (own_writes q s j can.system (closing_of q s j piece.of) (closing_registers piece.of) w piece.piece) fixed in
+          let held = of_fixed piece.of w (own_writes q s j can.system (change_to_closed q s j piece.of) (closing_registers piece.of) w piece.piece) fixed in
           in_nil w (subst (λ ws. Contains ws w) (no_closing piece.of piece.has held) piece.piece)
       | inr later ↦ elim (Contains-append_cases (flat_map (setting_from q s j) s) (flat_map (opening_from q s j) s) w later) [
         | inl setting ↦

@@ -7,11 +7,11 @@ use Rattle.std.specs.Bool.{if◌then◌else◌}
 use Rattle.std.specs.List.{AllZip, Contains}
 use Rattle.std.proofs.lemmas.Bool.{and_parts, both_ways, cases_Bool, cond_both}
 use Rattle.pci_spec.specs.Machine.{Write}
-use Rattle.pci_spec.specs.System.{System}
+use Rattle.pci_spec.specs.System.{System, IsSystem, Function, Io, is_space_on}
 use Rattle.settle_spec.specs.Lists.{Request, are_bad_lists}
-use Rattle.settle_spec.specs.Parts.{FunctionPart}
+use Rattle.settle_spec.specs.Parts.{FunctionPart, system_parts, has_left}
 use Rattle.settle_spec.specs.Stands.{stands}
-use Rattle.settle_spec.specs.Items.{Item, spare_of}
+use Rattle.settle_spec.specs.Items.{PlacingItem, spare_of}
 use Rattle.settle_spec.specs.Writes.{Settling, BadLists, Fixed, NoRoom, Settled, fixed_without, fixed_write, or_fixed, or_lack, or_write, NotKept}
 use Rattle.settle_spec.specs.Kept.{as_it_stands, growing}
 use Rattle.settle_spec.specs.Keeping.Places.{lacking}
@@ -36,18 +36,15 @@ use Rattle.settle_laws.proofs.Wishing.AnewOnce.{anew_wishes_settle_once, anew_re
 use Rattle.settle_laws.proofs.Wishing.SameDenied.{kept_deny_alike}
 use Rattle.settle_laws.proofs.Wishing.Unfixed.{settled_alike, have_alike}
 use Rattle.settle_laws.proofs.Wishing.Sparing.{can_finally, settled_sparing_gives, sparing_is_wished, refused_alone, placing_asked}
-use Rattle.settle_laws.proofs.Untold.{settled_untold, untold_forward}
+use Rattle.settle_laws.proofs.Untold.{settled_untold, untold_forward, no_regions}
 use Rattle.settle_laws.proofs.Keeping.AgainKept.{all_stand}
 use Rattle.settle_laws.proofs.Keeping.AgainSettled.{all_left_off}
 use Rattle.settle_laws.proofs.Keeping.Moves.{new_system}
 use Rattle.settle_laws.proofs.Keeping.SettledSound.{settled_sound}
 use Rattle.pci_spec.proofs.Members.{in_nil}
-use Rattle.pci_spec.specs.System.{IsSystem, Function, Io, is_space_on}
 use Rattle.pci_spec.specs.Sound.{IsSound}
-use Rattle.settle_spec.specs.Parts.{system_parts, has_left}
 use Rattle.settle_laws.proofs.Keeping.Unchanged.{not_cut}
 use Rattle.settle_laws.proofs.NothingSettled.{start_stays}
-use Rattle.settle_laws.proofs.Untold.{no_regions}
 use Rattle.settle_laws.proofs.Told.NothingSettled.{IsStart}
 
 finally_wishless : (q : Request) (s : System) → WishesNothing (finally_kept q s)
@@ -61,7 +58,7 @@ finally_wishless q s = by (settle_keeping q s (growing q s))
     by (NotKept slot register) = refl
 
 -- where lists are good and nothing lacks room, what is fixed alone is refused
-ends_so : (bad : Bool) (a b : Option FunctionPart) (lack : Option Item) (w : Option Write) (writes : List Write) → bad ≡ false → lack ≡ None
+ends_so : (bad : Bool) (a b : Option FunctionPart) (lack : Option PlacingItem) (w : Option Write) (writes : List Write) → bad ≡ false → lack ≡ None
     → is_settled_or_fixed (if bad then BadLists else or_fixed a (or_fixed b (or_lack lack (or_write w (Settled writes))))) ≡ true
 ends_so true a b lack w writes fine none = absurd (both_ways true fine refl)
 ends_so false a b (Some i) w writes fine none = cc

@@ -11,7 +11,7 @@ use Rattle.pci_spec.proofs.BusRanges.{all_from}
 use Rattle.settle_spec.specs.Lists.{Request, are_bad_lists}
 use Rattle.settle_spec.specs.Parts.{FunctionPart, system_parts}
 use Rattle.settle_spec.specs.Stands.{is_fixed_part, stands}
-use Rattle.settle_spec.specs.Items.{Item}
+use Rattle.settle_spec.specs.Items.{PlacingItem}
 use Rattle.settle_spec.specs.Writes.{Settling, BadLists, Fixed, NoRoom, Settled, fixed_without, fixed_write, or_fixed, or_lack, or_write, NotKept}
 use Rattle.settle_spec.specs.Kept.{Kept, as_it_stands, growing}
 use Rattle.settle_spec.specs.Keeping.Places.{lacking}
@@ -43,7 +43,7 @@ module _ (q : Request) (untold : q.told.ranges ≡ []) (unfixed : q.fixed ≡ []
       else or_fixed (stand i) (or_fixed (keep i) (or_lack (lacking q s k) (or_write (written i) (Settled (settle_writes q s k)))))))
       ∙ by (are_bad_lists q.roots q.lists) (lacking q s k)
     where
-      by : (bad : Bool) (lack : Option Item) → is_settled (if bad then BadLists else or_lack lack (Settled (settle_writes q s k))) ≡ (not bad && not (is_some lack))
+      by : (bad : Bool) (lack : Option PlacingItem) → is_settled (if bad then BadLists else or_lack lack (Settled (settle_writes q s k))) ≡ (not bad && not (is_some lack))
       by true lack = refl
       by false None = refl
       by false (Some i) = refl

@@ -80,8 +80,8 @@ PlacesAreInWindows =
     → (w : Range) × (end_range q s k (window_part (class_in q s f p) b) ≡ Some w) × IsInside t w
 
 -- Two parts of a space on one bus, or both on roots, end apart.
-abbrev pub PlacesAreApart : Type 0
-PlacesAreApart =
+abbrev pub KeepingPlacesAreApart : Type 0
+KeepingPlacesAreApart =
     (q : Request) (s : System) (k : Kept) → CanSettle q s k → (f g : Function) (p r : Part)
     (t u : Range) → EndsAt q s k f p t → EndsAt q s k g r u → space_of f p ≡ space_of g r
     → AreBeside q.roots f g → AreTwo f p g r → LieApart t u

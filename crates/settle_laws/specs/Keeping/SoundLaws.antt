@@ -39,8 +39,8 @@ SettledClosesTheRest =
     → IsFalse (is_open (settled_function q s k b) kind)
 
 -- Address bits and Command's enables of I/O and memory alone change,
-abbrev pub SettlingMoves : Type 0
-SettlingMoves = (q : Request) (s : System) (k : Kept) → CanSettle q s k → AllZip IsMoved s (settled q s k)
+abbrev pub SettlingKeepingMoves : Type 0
+SettlingKeepingMoves = (q : Request) (s : System) (k : Kept) → CanSettle q s k → AllZip IsMoved s (settled q s k)
 
 -- so what is settled is in the profile.
 abbrev pub SettledIsInProfile : Type 0
@@ -58,12 +58,12 @@ BridgesAreEnabled =
 -- ---- the whole
 
 -- What settling comes to is sound.
-abbrev pub SettledIsSound : Type 0
-SettledIsSound = (q : Request) (s : System) (k : Kept) → CanSettle q s k → IsSound q.roots (settled q s k)
+abbrev pub SettledKeepingIsSound : Type 0
+SettledKeepingIsSound = (q : Request) (s : System) (k : Kept) → CanSettle q s k → IsSound q.roots (settled q s k)
 
 -- So its writes can stop anywhere once the closing ones are made, and from a sound start anywhere at all;
-abbrev pub SettlingCanStop : Type 0
-SettlingCanStop =
+abbrev pub SettlingKeepingCanStop : Type 0
+SettlingKeepingCanStop =
     (q : Request) (s : System) (k : Kept) → CanSettle q s k → (n : ℕ)
     → (length (closings q s k s) ≤ n) ⊎ IsSound q.roots s
     → IsSound q.roots (system_after s (take n (settle_writes q s k)))

@@ -52,8 +52,8 @@ share_lines q y x =
     is_line_of q y.told.space (line_bus y) x && not (ranges_are_apart (line_range y) (line_range x))
 
 -- No told range of an earlier line shares an address with it.
-abbrev pub IsFirstThere : Request → ToldRegion → Type 0
-IsFirstThere q x =
+abbrev pub IsFirstLineThere : Request → ToldRegion → Type 0
+IsFirstLineThere q x =
     (y : ToldRegion) → Contains (told_regions q.told) y → IsFalse (is_held_line y) → y.register < x.register
     → IsFalse (share_lines q y x)
 
@@ -62,7 +62,7 @@ abbrev pub StandingRangesStay : Type 0
 StandingRangesStay =
     (q : Request) (s : System) (k : Kept) (x : ToldRegion) → IsSettledSo q s k
     → Contains (told_regions q.told) x → IsTrue (range_stands q s x)
-    → IsTrue (is_line_on q (settled q s k) x) ⊎ IsFirstThere q x → IsTrue (range_stands q (settled q s k) x)
+    → IsTrue (is_line_on q (settled q s k) x) ⊎ IsFirstLineThere q x → IsTrue (range_stands q (settled q s k) x)
 
 -- Each told range that is on in the result stands there.
 abbrev pub RangesOnStand : Type 0

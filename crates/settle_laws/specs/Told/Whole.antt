@@ -14,13 +14,13 @@ use Rattle.settle_spec.specs.Stands.{is_line_on, precedes_off, range_stands, sta
 use Rattle.settle_spec.specs.Writes.{Settled}
 use Rattle.settle_spec.specs.Sparing.{settle_sparing}
 use Rattle.settle_laws.specs.StandingTold.Standing.{shares_with_line}
-use Rattle.settle_laws.specs.Told.Ranges.{IsReached, IsFirstThere}
+use Rattle.settle_laws.specs.Told.Ranges.{IsReached, IsFirstLineThere}
 use Rattle.settle_laws.specs.Told.Starts.{IsQuiet}
-use Rattle.settle_laws.specs.ToldSoundLaws.{IsAdmitted}
+use Rattle.settle_laws.specs.ToldSoundLaws.{IsAdmittedSystem}
 
 -- A system is admitted, told ranges are as a text tells them, and it is settled by these writes.
 pub record IsSettledBy (q : Request) (s : System) (writes : List Write) : Type 0 where
-  pub admitted : IsAdmitted q s
+  pub admitted : IsAdmittedSystem q s
   pub told : IsTold q.told.ranges
   pub settles : settle_sparing q s ≡ Settled writes
 
@@ -63,7 +63,7 @@ abbrev pub ResultKeepsRanges : Type 0
 ResultKeepsRanges =
     (q : Request) (s : System) (writes : List Write) (x : ToldRegion) → IsSettledBy q s writes
     → Contains (told_regions q.told) x → IsTrue (range_stands q s x)
-    → IsTrue (is_line_on q (system_after s writes) x) ⊎ IsFirstThere q x
+    → IsTrue (is_line_on q (system_after s writes) x) ⊎ IsFirstLineThere q x
     → IsTrue (range_stands q (system_after s writes) x)
 
 -- ---- stops

@@ -10,12 +10,12 @@ use Rattle.settle_spec.specs.FirstPlace.{first_place}
 use Rattle.settle_spec.specs.Lists.{Request}
 use Rattle.settle_spec.specs.Parts.{FunctionPart, system_parts, bridge_over, are_same_space}
 use Rattle.settle_spec.specs.Stands.{part_space, window_part}
-use Rattle.settle_spec.specs.Items.{Item, Placed, Placing, AllPlaced, bus_items, new_window, place_each}
+use Rattle.settle_spec.specs.Items.{PlacingItem, Placed, Placing, AllPlaced, bus_items, new_window, place_each}
 use Rattle.settle_spec.specs.Places.{root_ranges, placed_of, place_among, placed_range, first_lack}
 use Rattle.settle_spec.specs.Kept.{Kept}
 
 -- the items of a bus in a space: of memory, those of class M come first
-abbrev pub space_items : Request → System → Kept → Space → ℕ → List Item
+abbrev pub space_items : Request → System → Kept → Space → ℕ → List PlacingItem
 space_items q s k Io bus = bus_items q s IoWindow k.stays (new_window q s IoWindow) bus
 space_items q s k Memory bus =
     bus_items q s MemoryWindow k.stays (new_window q s MemoryWindow) bus
@@ -30,13 +30,13 @@ taken_at q s k space bus =
     (system_parts q s))
 
 -- in the window over a bus: in the one that stays, or in the new one at its place
-abbrev pub place_behind : Kept → (ℕ → List Placed) → Item → List Range → Option Function → Option ℕ
+abbrev pub place_behind : Kept → (ℕ → List Placed) → PlacingItem → List Range → Option Function → Option ℕ
 place_behind k placed i taken None = None
 place_behind k placed i taken (Some b) =
     if k.stays (window_part i.class b) then k.place b i taken
     else first_place (placed_range (place_among (window_part i.class b) (placed b.slot.bus))) taken i.extent
 
-abbrev pub place_of_item : Request → System → Kept → (ℕ → List Placed) → Item → List Range → Option ℕ
+abbrev pub place_of_item : Request → System → Kept → (ℕ → List Placed) → PlacingItem → List Range → Option ℕ
 place_of_item q s k placed i taken =
     if is_root q.roots i.region.function.slot.bus then first_place (root_ranges q i) taken i.extent
     else place_behind k placed i taken (bridge_over s i.region.function.slot.bus)
@@ -59,14 +59,14 @@ new_place q s k r =
     place_among r (placed_of (placing_on q s k (space_of r.function r.part) r.function.slot.bus))
 
 -- the first item that has no place on the roots: in I/O, or else in memory
-abbrev pub root_lack : Request → System → Kept → ℕ → Option Item
+abbrev pub root_lack : Request → System → Kept → ℕ → Option PlacingItem
 root_lack q s k root =
     first_lack (placing_on q s k Io root) (first_lack (placing_on q s k Memory root) None)
 
 -- all roots are one bus
-abbrev pub lacking_on : Request → System → Kept → List ℕ → Option Item
+abbrev pub lacking_on : Request → System → Kept → List ℕ → Option PlacingItem
 lacking_on q s k [] = None
 lacking_on q s k (root ∷ roots) = root_lack q s k root
 
-abbrev pub lacking : Request → System → Kept → Option Item
+abbrev pub lacking : Request → System → Kept → Option PlacingItem
 lacking q s k = lacking_on q s k q.roots

@@ -14,7 +14,8 @@ use Rattle.settle_spec.specs.Lists.{Request}
 use Rattle.settle_spec.specs.Parts.{FunctionPart, addresses, has_left, are_same_space}
 use Rattle.settle_spec.specs.Stands.{part_space}
 use Rattle.settle_spec.specs.Items.{Placed}
-use Rattle.settle_spec.specs.Registers.{with_number, with_bounds, with_place, closed_if_open, changing, has_own}
+use Rattle.settle_spec.specs.Registers.{with_place, closed_if_open, changing, has_own}
+use Rattle.judge_spec.specs.Windows.{with_number, with_bounds}
 use Rattle.settle_spec.specs.Kept.{Kept}
 use Rattle.settle_spec.specs.Keeping.Places.{new_place}
 

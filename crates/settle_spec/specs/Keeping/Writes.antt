@@ -16,7 +16,7 @@ use Rattle.settle_spec.specs.Lines.{line_bus, is_held_line, is_command_line, is_
 use Rattle.settle_spec.specs.Lists.{Request, are_bad_lists}
 use Rattle.settle_spec.specs.Parts.{FunctionPart, function_parts, has_left, class_in, are_same_space}
 use Rattle.settle_spec.specs.Stands.{part_space, window_part, stands, is_line_on, range_stands}
-use Rattle.settle_spec.specs.Registers.{with_bounds, with_number}
+use Rattle.judge_spec.specs.Windows.{with_number, with_bounds}
 use Rattle.settle_spec.specs.Writes.{differs_at, part_registers, is_cut_off_in, shut_bounds, closing_registers, setting_registers, Settling, BadLists, Settled, fixed_without, fixed_write, or_fixed, or_lack, or_write, NotKept}
 use Rattle.settle_spec.specs.Kept.{Kept, unwished}
 use Rattle.settle_spec.specs.Keeping.Places.{lacking}
@@ -100,14 +100,14 @@ closed_function q s k f = record {
 
 -- ---- the writes
 
-abbrev pub closing_of : Request → System → Kept → Function → Change
-closing_of q s k f = record { old = f; new = closed_function q s k f }
+abbrev pub change_to_closed : Request → System → Kept → Function → Change
+change_to_closed q s k f = record { old = f; new = closed_function q s k f }
 
 abbrev pub setting_of : Request → System → Kept → Function → Change
 setting_of q s k f = record { old = closed_function q s k f; new = settled_function q s k f }
 
 abbrev pub closing_from : Request → System → Kept → Function → List Write
-closing_from q s k f = flat_map (register_write (closing_of q s k f)) (closing_registers f)
+closing_from q s k f = flat_map (register_write (change_to_closed q s k f)) (closing_registers f)
 
 abbrev pub setting_from : Request → System → Kept → Function → List Write
 setting_from q s k f =

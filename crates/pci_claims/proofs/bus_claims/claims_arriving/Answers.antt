@@ -2,7 +2,7 @@ use Rattle.std.proofs.Common.{List, ◌++◌, ap, subst, sym, ◌∙◌}
 use Rattle.pci_spec.specs.Decoded.{HasRecords}
 use Rattle.pci_spec.specs.Decoded as decoded
 use Rattle.pci_base.specs.Space.{space_of}
-use Rattle.pci_claims.specs.Values.{given_value}
+use Rattle.pci_claims.specs.Values.{code_given_value}
 use Rattle.pci_claims.specs.Claim.{Claimed}
 use Rattle.pci_claims.specs.BusClaims.{AreRegisterClaimsAmong}
 use Rattle.pci_claims.proofs.BusClaiming.{claims_made}
@@ -11,7 +11,7 @@ use Rattle.pci_claims.proofs.bus_claims.claims_arriving.Goals as goal
 pub returns-clause-claims : goal.returns-clause-claims
 returns-clause-claims g c s tree bus here addresses =
     let board = c.args.board.now in
-    let given = given_value board.given in
+    let given = code_given_value board.given in
     let space = space_of c.args.arriving.now.space in
     let reach = c.args.arriving.now.reach.now in
     let own = c.in_ok-claims.claims.items in

@@ -4,7 +4,7 @@ use Rattle.std.proofs.lemmas.List.{nil_from_length}
 use Rattle.pci_spec.specs.Decoded.{HasRecords}
 use Rattle.pci_spec.specs.Decoded as decoded
 use Rattle.pci_base.specs.Space.{space_of}
-use Rattle.pci_claims.specs.Values.{given_value, legacy_value}
+use Rattle.pci_claims.specs.Values.{code_given_value, legacy_value}
 use Rattle.pci_claims.specs.Claim.{Claimed}
 use Rattle.pci_claims.specs.BusClaims.{AreClaimsOfParts}
 use Rattle.pci_claims.proofs.PartsOnBus.{parts_made, no_parts}
@@ -12,7 +12,7 @@ use Rattle.pci_claims.proofs.bus_claims.part_claims.Goals as goal
 
 pub returns-then-is_empty-2 : goal.returns-then-is_empty-2
 returns-then-is_empty-2 g c s tree addresses =
-    let given = given_value c.args.board.now.given in
+    let given = code_given_value c.args.board.now.given in
     let space = space_of c.args.arriving.now.space in
     let reach = c.args.arriving.now.reach.now in
     subst (λ (l : List Claimed). AreClaimsOfParts given s c.args.bus space reach l) (sym c.new-claims.ensures.items)
@@ -22,7 +22,7 @@ returns-then-is_empty-2 g c s tree addresses =
 pub returns : goal.returns
 returns g c s tree addresses =
     let board = c.args.board.now in
-    let given = given_value board.given in
+    let given = code_given_value board.given in
     let space = space_of c.args.arriving.now.space in
     let reach = c.args.arriving.now.reach.now in
     let legacy = c.in_ok-add_part_claims.ensures in

@@ -6,7 +6,7 @@ use Rattle.pci_base.specs.Space.{space_of}
 use Rattle.pci_tree.specs.declared.region.Region.{Region}
 use Rattle.pci_tree.specs.Ranges.{IsCanonical}
 use Rattle.pci_tree.specs.Regions.{AreRegionsOf}
-use Rattle.pci_claims.specs.Values.{given_value}
+use Rattle.pci_claims.specs.Values.{code_given_value}
 use Rattle.pci_claims.specs.Reached.{IsAccessReach}
 use Rattle.pci_claims.specs.Claim.{Claimed}
 use Rattle.pci_claims.specs.BusClaims.{AreRegisterClaimsOn}
@@ -15,7 +15,7 @@ use Rattle.pci_claims.proofs.bus_claims.register_claims.Goals as goal
 
 pub returns : goal.returns
 returns g c s tree =
-    let given = given_value c.args.board.now.given in
+    let given = code_given_value c.args.board.now.given in
     let t = c.args.board.now.outline.now in
     let space = space_of c.args.space in
     let regions = c.in_ok-regions.regions.items in
@@ -43,13 +43,13 @@ claims_arriving-requires-clause-canonical g c = subst (λ (l : List Range). IsCa
 
 pub returns-in_default : goal.returns-in_default
 returns-in_default g c s tree =
-    subst (λ (l : List Claimed). AreRegisterClaimsOn (given_value c.args.board.now.given) c.args.board.now.outline.now.roots s c.args.bus (space_of c.args.space) l) (sym c.new.ensures.items)
-    (no_claims (given_value c.args.board.now.given) c.args.board.now.outline.now s tree c.args.bus (space_of c.args.space) c.in_ok-regions.regions.items (c.in_ok-regions.ensures s tree.records)
+    subst (λ (l : List Claimed). AreRegisterClaimsOn (code_given_value c.args.board.now.given) c.args.board.now.outline.now.roots s c.args.bus (space_of c.args.space) l) (sym c.new.ensures.items)
+    (no_claims (code_given_value c.args.board.now.given) c.args.board.now.outline.now s tree c.args.bus (space_of c.args.space) c.in_ok-regions.regions.items (c.in_ok-regions.ensures s tree.records)
     c.args.board.now.bridges.now c.in_ok-bridges.bridges.items c.requires c.in_ok-bridges.ensures (sym c.deref.ensures.value ∙ c.in_default.ensures.0) (sym c.deref-2.ensures.value ∙ c.in_default.ensures.1))
 
 pub returns-in_default-2 : goal.returns-in_default-2
 returns-in_default-2 g c s tree = absurd
-    (never_unlisted (given_value c.args.board.now.given) c.args.board.now.outline.now s tree c.args.bus (space_of c.args.space) c.in_ok-regions.regions.items (c.in_ok-regions.ensures s tree.records)
+    (never_unlisted (code_given_value c.args.board.now.given) c.args.board.now.outline.now s tree c.args.bus (space_of c.args.space) c.in_ok-regions.regions.items (c.in_ok-regions.ensures s tree.records)
     c.args.board.now.bridges.now c.in_ok-bridges.bridges.items c.requires c.in_ok-bridges.ensures c.in-Some.slot
     (subst (λ (l : List Slot). Contains (map (λ (r : Region). r.slot) c.in_ok-regions.regions.items) c.in-Some.slot ⊎ Contains l c.in-Some.slot) c.deref-2.ensures.value
     (subst (λ (l : List Region). Contains (map (λ (r : Region). r.slot) l) c.in-Some.slot ⊎ Contains c.deref-2.result.now c.in-Some.slot) c.deref.ensures.value c.in-Some.ensures))

@@ -11,7 +11,7 @@ use Rattle.pci_base.specs.Space.{space_of}
 use Rattle.pci_function.specs.Values.{record_value}
 use Rattle.pci_tree.specs.Reaches.{HasSpans}
 use Rattle.pci_tree.proofs.Outlines.{have_spans}
-use Rattle.pci_claims.specs.Values.{given_value}
+use Rattle.pci_claims.specs.Values.{code_given_value}
 use Rattle.pci_claims.specs.declared.passed.Through.TheVariants.{Accesses}
 use Rattle.pci_claims.specs.Passed.{IsLetOn}
 use Rattle.pci_claims.proofs.ToBus.{root_reach, unled_reach, behind_reach}
@@ -20,13 +20,13 @@ use Rattle.pci_claims.proofs.reach.reach_to.Goals as goal
 pub returns-then-has-clause-exact : goal.returns-then-has-clause-exact
 returns-then-has-clause-exact g c =
     IfOk-weaker c.sent_to.result _ _
-    (λ v is s has. root_reach (given_value c.args.given.now) c.args.outline.now.roots s (c.records-records.ensures.nested s has) (space_of c.args.space) c.args.bus v.items
+    (λ v is s has. root_reach (code_given_value c.args.given.now) c.args.outline.now.roots s (c.records-records.ensures.nested s has) (space_of c.args.space) c.args.bus v.items
     (subst (λ (roots : List ℕ). Contains roots c.args.bus) c.roots.ensures (c.has.ensures.0 c.if-has.true)) is)
     c.sent_to.ensures
 
 pub returns-in_default-clause-exact : goal.returns-in_default-clause-exact
 returns-in_default-clause-exact g c s has =
-    unled_reach (given_value c.args.given.now) c.args.outline.now.roots s c.records-records.result.now (subst (λ (rs : List decoded.Record). HasRecords s rs) (sym c.records-records.ensures.value) has)
+    unled_reach (code_given_value c.args.given.now) c.args.outline.now.roots s c.records-records.result.now (subst (λ (rs : List decoded.Record). HasRecords s rs) (sym c.records-records.ensures.value) has)
     c.records-records.ensures.rising (c.records-records.ensures.nested s has) (space_of c.args.space) c.args.bus
     (λ root. iff_false c.has.ensures c.if-has.false (subst (λ (roots : List ℕ). Contains roots c.args.bus) (sym c.roots.ensures) root))
     c.new.result.items c.new.ensures.items c.in_default.ensures
@@ -42,10 +42,10 @@ passed_on-requires-clause-spans g c = All-contains HasSpans c.records-records.re
 pub returns-clause-exact : goal.returns-clause-exact
 returns-clause-exact g c =
     IfOk-weaker c.passed_on.result _ _
-    (λ v is s has. behind_reach (given_value c.args.given.now) c.args.outline.now.roots s c.records-records.result.now (subst (λ (rs : List decoded.Record). HasRecords s rs) (sym c.records-records.ensures.value) has)
+    (λ v is s has. behind_reach (code_given_value c.args.given.now) c.args.outline.now.roots s c.records-records.result.now (subst (λ (rs : List decoded.Record). HasRecords s rs) (sym c.records-records.ensures.value) has)
     c.records-records.ensures.rising (c.records-records.ensures.nested s has) (space_of c.args.space) c.args.bus
     (λ root. iff_false c.has.ensures c.if-has.false (subst (λ (roots : List ℕ). Contains roots c.args.bus) (sym c.roots.ensures) root))
     c.in-Some.bridge.now c.in-Some-2.above.items v.items c.in-Some.ensures.0 c.in-Some.ensures.1
     ((rw c.in-Some-2.is at c.in_ok-above.ensures.exact) s has) is.canonical
-    (subst (λ (xs : List Range). IsLetOn (given_value c.args.given.now) (Accesses c.args.space) xs c.in-Some.bridge.now v.items) c.deref.ensures.value is).exact)
+    (subst (λ (xs : List Range). IsLetOn (code_given_value c.args.given.now) (Accesses c.args.space) xs c.in-Some.bridge.now v.items) c.deref.ensures.value is).exact)
     c.passed_on.ensures

@@ -2,20 +2,20 @@ use Rattle.std.proofs.Common.{◌≡◌, ◌+◌, List, ℕ, subst, sym, ◌∙�
 use Rattle.std.specs.List.{Contains}
 use Rattle.std.proofs.lemmas.Bool.{iff_false}
 use Rattle.pci_base.specs.Space.{space_of}
-use Rattle.pci_claims.specs.Values.{given_value, told_value}
+use Rattle.pci_claims.specs.Values.{code_given_value, told_value}
 use Rattle.pci_claims.specs.Claim.{Claimed}
 use Rattle.pci_claims.proofs.RootClaims.{AreRootClaimsBelow, roots_none, roots_skip, roots_more, roots_all}
 use Rattle.pci_claims.proofs.root_claims.claims_of_roots.Goals.{then-has+in_ok-claims+in_ok-append, else-has}
 use Rattle.pci_claims.proofs.root_claims.claims_of_roots.Goals as goal
 
 pub loop-bus-init : goal.loop-bus-init
-loop-bus-init g c = subst (λ (items : List Claimed). AreRootClaimsBelow (told_value c.args.board.now.told) (given_value c.args.board.now.given) c.args.board.now.outline.now (space_of c.args.space) 0 items) (sym c.new-all.ensures.items)
-    (roots_none (told_value c.args.board.now.told) (given_value c.args.board.now.given) c.args.board.now.outline.now (space_of c.args.space))
+loop-bus-init g c = subst (λ (items : List Claimed). AreRootClaimsBelow (told_value c.args.board.now.told) (code_given_value c.args.board.now.given) c.args.board.now.outline.now (space_of c.args.space) 0 items) (sym c.new-all.ensures.items)
+    (roots_none (told_value c.args.board.now.told) (code_given_value c.args.board.now.given) c.args.board.now.outline.now (space_of c.args.space))
 
 pub loop-bus-preserved : goal.loop-bus-preserved
 loop-bus-preserved g c =
     let told = told_value c.args.board.now.told in
-    let given = given_value c.args.board.now.given in
+    let given = code_given_value c.args.board.now.given in
     let t = c.args.board.now.outline.now in
     let space = space_of c.args.space in
     elim c.if-has.branch [
@@ -34,5 +34,5 @@ loop-bus-preserved g c =
 pub returns : goal.returns
 returns g c =
     let all : c.loop-bus.bus ≡ 256 = omega arith in
-    roots_all (told_value c.args.board.now.told) (given_value c.args.board.now.given) c.args.board.now.outline.now (space_of c.args.space) c.requires.lawful c.loop-bus.all.items
-    (subst (λ bus. AreRootClaimsBelow (told_value c.args.board.now.told) (given_value c.args.board.now.given) c.args.board.now.outline.now (space_of c.args.space) bus c.loop-bus.all.items) all c.loop-bus.invariant)
+    roots_all (told_value c.args.board.now.told) (code_given_value c.args.board.now.given) c.args.board.now.outline.now (space_of c.args.space) c.requires.lawful c.loop-bus.all.items
+    (subst (λ bus. AreRootClaimsBelow (told_value c.args.board.now.told) (code_given_value c.args.board.now.given) c.args.board.now.outline.now (space_of c.args.space) bus c.loop-bus.all.items) all c.loop-bus.invariant)

@@ -1,6 +1,6 @@
 use Rattle.std.proofs.Common.{◌≡◌, subst, arith}
 use Rattle.pci_spec.specs.Order.{Clashes}
-use Rattle.pci_faults.specs.Lines.{AreLinesAdded, IsBelow}
+use Rattle.pci_faults.specs.Lines.{AreLinesAdded, IsAtBusesBelow}
 use Rattle.pci_faults.proofs.Adding.{no_bus, one_bus_more, all_buses}
 use Rattle.pci_faults.proofs.clashes.add_clashes.Goals as goal
 
@@ -15,4 +15,4 @@ pub returns : goal.returns
 returns g c =
     let all : c.loop-bus.bus ≡ 256 = omega arith in
     all_buses c.args.board.now.outline.now Clashes c.args.out.now.items c.loop-bus.out.items
-    (subst (λ n. AreLinesAdded (IsBelow Clashes n) c.args.board.now.outline.now c.args.out.now.items c.loop-bus.out.items) all c.loop-bus.invariant)
+    (subst (λ n. AreLinesAdded (IsAtBusesBelow Clashes n) c.args.board.now.outline.now c.args.out.now.items c.loop-bus.out.items) all c.loop-bus.invariant)

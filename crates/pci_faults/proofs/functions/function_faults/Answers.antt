@@ -10,7 +10,7 @@ use Rattle.pci_function.proofs.FirstHere.{rest_of}
 use Rattle.pci_tree.proofs.Pairs.{at_place, placed}
 use Rattle.pci_faults.specs.Lists.{AreJust}
 use Rattle.pci_faults.specs.OwnLines.{IsBeforeAt, IsOwnLine, IsOwnOf}
-use Rattle.pci_faults.specs.Phases.{number_of}
+use Rattle.pci_faults.specs.Phases.{own_phase_number}
 use Rattle.pci_faults.proofs.Lines.{lines_none, lines_more, own_key, own_in_system}
 use Rattle.pci_faults.proofs.functions.function_faults.Goals as goal
 
@@ -20,7 +20,7 @@ bounds-probe-i g c = let long = same_length c.args.dump.now c.args.probe.now c.r
 pub loop-i-init : goal.loop-i-init
 loop-i-init g c =
     let s = system_of c.args.dump.now c.args.probe.now in
-    let phase = number_of c.args.phase in
+    let phase = own_phase_number c.args.phase in
     let system : IsSystem s = IsSystem-of_dumps c.args.dump.now c.args.probe.now c.requires.dump c.requires.probe c.requires.same in
     subst (λ items. AreJust (IsBeforeAt s) (IsOwnOf (IsOwnLine phase) (take 0 s)) (map fault_of items)) (sym c.new-found.ensures.items)
     (lines_none s system phase (IsOwnLine phase) rest_of (own_key phase s system))
@@ -35,7 +35,7 @@ loop-i-preserved g c =
     let dump = c.args.dump.now in
     let probe = c.args.probe.now in
     let s = system_of dump probe in
-    let phase = number_of c.args.phase in
+    let phase = own_phase_number c.args.phase in
     let b : Block = c.index-dump-i.result in
     let p : Block = c.index-probe-i.result in
     let f : Function = function_of b p in
@@ -56,5 +56,5 @@ returns g c =
     let probe = c.args.probe.now in
     let s = system_of dump probe in
     let long = length-system_of dump probe (same_length dump probe c.requires.same) in
-    subst (λ (fs : System). AreJust (IsBeforeAt s) (IsOwnOf (IsOwnLine (number_of c.args.phase)) fs) (map fault_of c.loop-i.found.items))
+    subst (λ (fs : System). AreJust (IsBeforeAt s) (IsOwnOf (IsOwnLine (own_phase_number c.args.phase)) fs) (map fault_of c.loop-i.found.items))
     (take_all c.loop-i.i s (omega (arith, long, c.loop-i-test.false))) c.loop-i.invariant

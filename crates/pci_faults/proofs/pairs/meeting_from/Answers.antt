@@ -3,7 +3,7 @@ use Rattle.std.specs.Prelude.{Option}
 use Rattle.std.proofs.lemmas.List.{get_or_default}
 use Rattle.pci_faults.specs.declared.shares.Share.{Share}
 use Rattle.pci_claims.specs.Claim.{Claimed}
-use Rattle.pci_faults.specs.Clashes.{Meet, IsLeastOfTwo, IsFoundBelow, claim_at, nobody}
+use Rattle.pci_faults.specs.Clashes.{Meet, IsLeastOfTwo, IsFoundBelow, claim_at, missing_claim}
 use Rattle.pci_faults.proofs.Odds.{still_found, found_more}
 use Rattle.pci_faults.proofs.pairs.meeting_from.Goals.{in-Some, in_default}
 use Rattle.pci_faults.proofs.pairs.meeting_from.Goals as goal
@@ -13,8 +13,8 @@ loop-k-preserved g c =
     let below = c.loop-k-test.true in
     let within = c.requires.index in
     let inside : c.loop-k.k < length c.args.claims.now = omega (arith, below, within) in
-    let at_k : c.index-claims-k.result ≡ claim_at c.args.claims.now c.loop-k.k = c.index-claims-k.is ∙ get_or_default c.args.claims.now c.loop-k.k c.index-claims-k.result nobody inside in
-    let at_i : c.index-claims-i.result ≡ claim_at c.args.claims.now c.args.i = c.index-claims-i.is ∙ get_or_default c.args.claims.now c.args.i c.index-claims-i.result nobody within in
+    let at_k : c.index-claims-k.result ≡ claim_at c.args.claims.now c.loop-k.k = c.index-claims-k.is ∙ get_or_default c.args.claims.now c.loop-k.k c.index-claims-k.result missing_claim inside in
+    let at_i : c.index-claims-i.result ≡ claim_at c.args.claims.now c.args.i = c.index-claims-i.is ∙ get_or_default c.args.claims.now c.args.i c.index-claims-i.result missing_claim within in
     elim c.match-least_meeting.branch [
       | in-Some w ↦ subst (λ (o : Option Share). IsFoundBelow c.args.among (c.loop-k.k + 1) c.args.claims.now c.args.i o) (sym (w.found-is ∙ ap Some w.lesser.ensures))
           (found_more c.args.among c.args.claims.now c.args.i c.loop-k.k below within w.in-Some.address

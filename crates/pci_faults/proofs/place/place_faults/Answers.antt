@@ -11,7 +11,7 @@ use Rattle.pci_function.specs.Fault.{fault_of}
 use Rattle.pci_function.specs.Values.{record_value}
 use Rattle.pci_function.proofs.FirstHere.{rest_of}
 use Rattle.pci_tree.specs.Roots.{buses_of}
-use Rattle.pci_faults.specs.Lists.{AreJust, told}
+use Rattle.pci_faults.specs.Lists.{AreJust, present_faults}
 use Rattle.pci_faults.specs.OwnLines.{IsBeforeAt, IsOwnOf}
 use Rattle.pci_faults.specs.Places.{IsPlaceOf, place_list}
 use Rattle.pci_faults.proofs.Lines.{lines_more}
@@ -49,10 +49,10 @@ loop-function-preserved g c =
     let found = c.place_faults_of-faults.ensures in
     let list : List (Option FaultOfCode) = place_list r.slot found.0 in
     let same : c.as_slice.result.now ≡ list = c.as_slice.ensures ∙ found.2 in
-    let grown : map fault_of c.add_told.new.found.items ≡ map fault_of c.loop-function.found.items ++ told list =
-    c.in_ok-add_told.ensures ∙ ap (λ xs. map fault_of c.loop-function.found.items ++ told xs) same in
+    let grown : map fault_of c.add_told.new.found.items ≡ map fault_of c.loop-function.found.items ++ present_faults list =
+    c.in_ok-add_told.ensures ∙ ap (λ xs. map fault_of c.loop-function.found.items ++ present_faults xs) same in
     subst (λ (xs : List Fault). AreJust (IsBeforeAt s) (IsOwnOf (IsPlaceOf roots s) (take (i + 1) s)) xs) (sym grown)
-    (lines_more s system 4 (IsPlaceOf roots s) rest_of (λ h e in_s own. place_key (image_at s) h e own.1) i f (map fault_of c.loop-function.found.items) (told list) within at c.loop-function.invariant
+    (lines_more s system 4 (IsPlaceOf roots s) rest_of (λ h e in_s own. place_key (image_at s) h e own.1) i f (map fault_of c.loop-function.found.items) (present_faults list) within at c.loop-function.invariant
     (place_lines roots s system rs has i r f found.0 within c.function-item.is at found.1))
 
 pub returns : goal.returns

@@ -2,14 +2,14 @@ use Rattle.std.proofs.Common.{◌≡◌, List, refl, subst}
 use Rattle.std.proofs.lemmas.Result.{IfOk-weaker}
 use Rattle.pci_base.specs.Space.{space_of}
 use Rattle.pci_claims.specs.declared.given.LegacyBridge.{LegacyBridge}
-use Rattle.pci_claims.specs.Values.{given_value}
+use Rattle.pci_claims.specs.Values.{code_given_value}
 use Rattle.pci_faults.specs.Quiet.{AreQuiet, HoldNothing}
 use Rattle.pci_faults.proofs.Quieting.{is_quiet, of_bus}
 use Rattle.pci_faults.proofs.quiet.are_apart_on.Goals as goal
 
 pub returns : goal.returns
 returns g c = IfOk-weaker c.are_quiet.result _ _
-    (λ quiet is holds s tree. is_quiet (given_value c.args.board.now.given) s (λ b. b ≡ c.args.bus) (space_of c.args.space) c.in_ok-regions.regions.items
+    (λ quiet is holds s tree. is_quiet (code_given_value c.args.board.now.given) s (λ b. b ≡ c.args.bus) (space_of c.args.space) c.in_ok-regions.regions.items
     (of_bus s c.args.bus (space_of c.args.space) c.in_ok-regions.regions.items (c.in_ok-regions.ensures s tree.records))
     c.args.board.now.given.legacy.now c.in_ok-legacy.legacy.items refl c.in_ok-legacy.ensures
     (subst (λ (l : List LegacyBridge). AreQuiet (space_of c.args.space) c.in_ok-regions.regions.items l) c.deref-2.ensures.value (is holds))

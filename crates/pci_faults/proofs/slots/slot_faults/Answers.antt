@@ -3,7 +3,7 @@ use Rattle.std.proofs.lemmas.List.{map_push}
 use Rattle.pci_spec.specs.Text.{Block, slots_of}
 use Rattle.pci_spec.specs.Fault.{SlotsDiffer}
 use Rattle.pci_function.specs.Fault.{fault_of}
-use Rattle.pci_faults.specs.Slots.{IsFront}
+use Rattle.pci_faults.specs.Slots.{IsFirstSlotNumber}
 use Rattle.pci_faults.proofs.Merging.{IsMergingFrom, merging_begins, merging_ours, merging_theirs, merging_same, merging_ends}
 use Rattle.pci_faults.proofs.slots.slot_faults.Goals.{then-i-dump, else-i-dump+then-j-probe}
 use Rattle.pci_faults.proofs.slots.slot_faults.Goals as goal
@@ -69,7 +69,7 @@ loop-i-preserved g c =
       within_dump = omega (arith, in_dump);
       within_probe = omega (arith, in_probe);
       merging = merging_same dump probe c.requires.dump c.requires.probe c.loop-i.i c.loop-i.j c.number_at-theirs.result (map fault_of c.loop-i.found.items) in_dump in_probe
-          (subst (λ n. IsFront (drop c.loop-i.i (slots_of dump)) n) (sym same) ours.front) theirs.front c.loop-i.invariant.merging;
+          (subst (λ n. IsFirstSlotNumber (drop c.loop-i.i (slots_of dump)) n) (sym same) ours.front) theirs.front c.loop-i.invariant.merging;
     }
 
 pub returns : goal.returns

@@ -1,7 +1,7 @@
 use Rattle.std.proofs.Common.{List, sym, ◌∙◌, ap, subst, arith}
 use Rattle.pci_claims.specs.Values.{told_value}
 use Rattle.pci_faults.specs.declared.needed.Needed.{Needed}
-use Rattle.pci_faults.specs.Needed.{AreAdded, IsNeededRange}
+use Rattle.pci_faults.specs.Needed.{AreNeededAppended, IsNeededRange}
 use Rattle.pci_faults.proofs.ToldListing.{IsOfRangeAt, Is, no_ranges, one_range_more, all_ranges, range_added, range_left}
 use Rattle.pci_faults.proofs.told_needed.add_told.Goals as goal
 use Rattle.pci_faults.proofs.told_needed.add_told.Goals.{then-is_needed+in_ok-push, else-is_needed}
@@ -17,7 +17,7 @@ loop-index-preserved g c t are =
           w.needed_of.result (subst (λ n. IsNeededRange c.range-item.result n w.needed_of.result) (omega arith) w.needed_of.ensures) c.loop-index.out.items c.if-is_needed.out.items
           (ap (λ v. v.items) w.out-is ∙ w.in_ok-push.ensures.items)
       | else-is_needed w ↦
-          subst (λ (l : List Needed). AreAdded (IsOfRangeAt (told_value c.args.told.now) (Is c.loop-index.index)) t c.loop-index.out.items l) (sym (ap (λ v. v.items) w.out-is))
+          subst (λ (l : List Needed). AreNeededAppended (IsOfRangeAt (told_value c.args.told.now) (Is c.loop-index.index)) t c.loop-index.out.items l) (sym (ap (λ v. v.items) w.out-is))
           (range_left (told_value c.args.told.now) t c.requires.told c.loop-index.index c.range-item.result (omega arith) c.range-item.is c.args.on.now are (sym c.is_needed.ensures ∙ w.if-is_needed.false)
           c.loop-index.out.items)
     ])

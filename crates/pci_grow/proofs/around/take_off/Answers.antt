@@ -3,7 +3,7 @@ use Rattle.std.specs.List.{Contains}
 use Rattle.settle_spec.specs.Growth.{place_around}
 use Rattle.pci_base.specs.Ranges.{decoded_range_of}
 use Rattle.pci_first_fit.specs.Spots.{extent_value, spot_place, IsBetweenTaken, FirstsRise}
-use Rattle.pci_grow.specs.Arounds.{AreInOrder}
+use Rattle.pci_grow.specs.Arounds.{AreRisingAtBothEnds}
 use Rattle.pci_grow.specs.Grounds.{AreAlike}
 use Rattle.pci_grow.specs.Widest.{LiesInOne}
 use Rattle.pci_grow.proofs.AlikeTaken.{alike_around}
@@ -52,4 +52,4 @@ returns-clause-listed g c =
     (subst (λ e. IsBetweenTaken c.as_slice-2.result.now e c.in-Some.spot) c.begin-search.ensures.extent c.in-Some.ensures.between)
     c.as_slice-3.result.now c.as_slice-3.ensures.value c.first_from-index.result c.first_from-index.ensures.bound c.first_from-index.ensures.before c.first_from-index.ensures.after
     c.insert.new.self.items c.in_ok-insert.ensures.items in
-    subst AreInOrder (sym put.put.put) (still_in_order c.args.taken.now.items c.args.item.now.extent put.spot c.requires.listed put.put.between)
+    subst AreRisingAtBothEnds (sym put.put.put) (still_in_order c.args.taken.now.items c.args.item.now.extent put.spot c.requires.listed put.put.between)

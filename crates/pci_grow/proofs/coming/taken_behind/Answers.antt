@@ -5,7 +5,7 @@ use Rattle.pci_base.specs.Ranges.{decoded_range_of}
 use Rattle.pci_base.specs.Space.{space_of}
 use Rattle.pci_base.specs.WindowKinds.{kind_value}
 use Rattle.pci_first_fit.specs.Lines.{AreAdded}
-use Rattle.pci_grow.specs.Rows.{row_number}
+use Rattle.pci_grow.specs.RoomRows.{row_number}
 use Rattle.pci_grow.specs.Grounds.{AreAlike}
 use Rattle.pci_grow.specs.There.{tables_of, there_of, in_row}
 use Rattle.pci_grow.proofs.AlikeTaken.{alike_itself}

@@ -1,6 +1,6 @@
 use Rattle.std.proofs.Common.{◌+◌, ◌<◌, ◌∙◌, map, length, arith, subst, sym}
 use Rattle.std.proofs.lemmas.List.{length-map}
-use Rattle.pci_grow.specs.RoomRows.{LastsRise}
+use Rattle.pci_grow.specs.LastPlaces.{LastsRise}
 use Rattle.pci_grow.proofs.Rooms.{row_of}
 use Rattle.pci_grow.proofs.Flags.{AreFlagsTo, flags_next}
 use Rattle.pci_grow.proofs.fill.rising_rows.Goals as goal

@@ -3,9 +3,10 @@ use Rattle.std.proofs.Common.{◌∙◌, map, length, ap, sym, subst, refl}
 use Rattle.std.specs.Vec.{with_items}
 use Rattle.std.proofs.lemmas.List.{length-map}
 use Rattle.pci_tree.specs.Roots.{buses_of}
-use Rattle.pci_grow.specs.Board.{IsTold}
+use Rattle.pci_grow.specs.Board.{IsRoomOfKept}
 use Rattle.pci_first_fit.specs.Spots.{FirstsRise}
-use Rattle.pci_grow.specs.RoomRows.{row_at, LastsRise}
+use Rattle.pci_grow.specs.RoomRows.{row_at}
+use Rattle.pci_grow.specs.LastPlaces.{LastsRise}
 use Rattle.pci_grow.proofs.Rooms.{rewritten}
 use Rattle.pci_grow.proofs.Filled.{empty_rows, told_first, put_from, sorted_from}
 use Rattle.pci_grow.proofs.fill.room_of.Goals as goal
@@ -37,7 +38,7 @@ returns-clause-told g c = λ q s k asked tells own.
     let first_is = rewritten rows c.as_mut_slice.result.now c.put_all.new.rows c.as_mut_slice.ensures.value c.put_all.ensures.count in
     let second_is = rewritten first c.as_mut_slice-2.result.now c.put_all-2.new.rows c.as_mut_slice-2.ensures.value c.put_all-2.ensures.count in
     let third_is = rewritten second c.as_mut_slice-3.result.now c.sort_rows.new.rows c.as_mut_slice-3.ensures.value c.sort_rows.ensures.count in
-    subst (λ xs. IsTold q s k c.args.board.now (record { wished = c.in_ok-wished.wished.items; rows = map (λ v. v.items) xs; rising = c.in_ok-rising.rising.items })) (sym third_is)
+    subst (λ xs. IsRoomOfKept q s k c.args.board.now (record { wished = c.in_ok-wished.wished.items; rows = map (λ v. v.items) xs; rising = c.in_ok-rising.rising.items })) (sym third_is)
     (told_first q s k c.args.board.now asked tells c.args.own.now c.in_ok-windows.windows.items own (λ weight n. c.in_ok-windows.ensures q s asked weight n)
     (map (λ v. v.items) rows.items) (map (λ v. v.items) c.put_all.new.rows) (map (λ v. v.items) c.put_all-2.new.rows) (map (λ v. v.items) c.sort_rows.new.rows)
     (empty_rows rows.items c.in_ok-rows.ensures.none)

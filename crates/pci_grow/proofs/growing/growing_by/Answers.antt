@@ -3,7 +3,7 @@ use Rattle.std.specs.List.{All}
 use Rattle.std.specs.List.Sorted.{IsNonDecreasingBy}
 use Rattle.std.proofs.lemmas.List.Sorted.{IsPermutation-refl}
 use Rattle.settle_spec.specs.Items.{has_room_behind}
-use Rattle.settle_spec.specs.Growth.{takes, has_grown}
+use Rattle.settle_spec.specs.Growth.{takes_growth, has_grown}
 use Rattle.settle_spec.specs.Kept.{is_kept}
 use Rattle.pci_place.specs.Above.{system_in}
 use Rattle.pci_place.proofs.Records.{lent, same_count}
@@ -18,7 +18,7 @@ use Rattle.pci_kept.specs.Staying.{AreStayingBy}
 use Rattle.pci_kept.proofs.Stays.{room_stands, buses_rise}
 use Rattle.pci_grow.specs.Growing.{AreComing}
 use Rattle.pci_grow.specs.Reaching.{reaching_value}
-use Rattle.pci_grow.specs.Rows.{row_of}
+use Rattle.pci_grow.specs.Rows.{region_row_number}
 use Rattle.pci_grow.specs.There.{tables_of}
 use Rattle.pci_grow.proofs.Growable.{board_of, asking_of, growing_of, begun_of}
 use Rattle.pci_grow.proofs.ThereGrows.{coming_there, placed_there}
@@ -47,7 +47,7 @@ pub hold_all-requires-clause-count : goal.hold_all-requires-clause-count
 hold_all-requires-clause-count g c = ap length c.as_mut_slice-entries.ensures.value ∙ c.requires.ready.1.reaching.stand.count
 
 pub find_there-requires-clause-order : goal.find_there-requires-clause-order
-find_there-requires-clause-order g c = subst (IsNonDecreasingBy row_of) (sym c.as_slice-2.ensures.value) c.requires.ready.1.reaching.rise
+find_there-requires-clause-order g c = subst (IsNonDecreasingBy region_row_number) (sym c.as_slice-2.ensures.value) c.requires.ready.1.reaching.rise
 
 pub find_there-requires-clause-begun : goal.find_there-requires-clause-begun
 find_there-requires-clause-begun g c =
@@ -116,7 +116,7 @@ returns g c = λ q can.
     let records = c.records-records.result.now in
     let board = board_of q p l w x can records (lent s records c.records-records.ensures.value c.outline.ensures.records) in
     let parts : AreParts q s regions = subst (AreParts q s) (sym c.as_slice-regions.ensures.value) can.reaching.parts in
-    let comes = subst (AreComing q s (takes q s)) (sym c.as_mut_slice.ensures.value) (coming_there q s can.system can.nested t are) in
+    let comes = subst (AreComing q s (takes_growth q s)) (sym c.as_mut_slice.ensures.value) (coming_there q s can.system can.nested t are) in
     let kept_long = c.args.reaching.kept.ok.0 in
     let grown_long = c.find_there.new.there.grown.ok.0 in
     record {

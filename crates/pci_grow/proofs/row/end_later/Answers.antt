@@ -1,7 +1,7 @@
 use Rattle.std.proofs.Common.{◌<◌, length, arith, subst, sym}
 use Rattle.pci_base.specs.declared.range.Range.{Range}
 use Rattle.pci_first_fit.specs.Spots.{FirstsRise}
-use Rattle.pci_grow.specs.RoomRows.{LastsRise}
+use Rattle.pci_grow.specs.LastPlaces.{LastsRise}
 use Rattle.pci_grow.proofs.Ended.{later_order, later_lasts}
 use Rattle.pci_grow.proofs.row.end_later.Goals as goal
 

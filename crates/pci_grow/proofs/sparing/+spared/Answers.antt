@@ -7,7 +7,7 @@ use Rattle.pci_place.specs.Items.{function_in}
 use Rattle.settle_spec.specs.Lines.{lines_behind}
 use Rattle.settle_spec.specs.Stands.{window_part}
 use Rattle.pci_grow.specs.RoomRows.{HasRanges}
-use Rattle.pci_grow.specs.Board.{room_value, bridge_of, class_of}
+use Rattle.pci_grow.specs.Board.{room_value, bridge_of_window, window_class}
 use Rattle.pci_first_fit.specs.Spots.{extent_value}
 use Rattle.pci_grow.specs.Endings.{IsSparedAs}
 use Rattle.pci_grow.proofs.SpareAround.{root_is, over_one}
@@ -49,8 +49,8 @@ returns-then-is_root-clause-spared g t c = λ q s k behind told window has.
     (λ place. of_root q s k c.args.board.now (room_value c.args.room.now) told c.args.window window c.args.sought.now.extent behind c.args.depth (omega (arith, not)) (sym c.in_default.ensures) c.in-Some-facts.facts are can
     c.held_by-held.result c.held_by-held.ensures.size c.held_by-held.ensures.alignment c.held_by-held.ensures.highest
     (root_is q s c.args.board.now told.asked c.args.window window c.in-Some-facts.facts are true (sym c.is_root.ensures ∙ c.if-is_root.true)) c.if-not-facts.false place (room_value c.spared_on_root.new.room))
-    (c.spared_on_root.ensures.spared q s k (lines_behind q (window_part (class_of c.args.window) (bridge_of s c.args.window))) told window are
-    (subst (λ xs. HasRanges xs (lines_behind q (window_part (class_of c.args.window) (bridge_of s c.args.window)))) (sym c.as_slice.ensures.value) (c.in_ok-behind.ensures q s told.asked window)))
+    (c.spared_on_root.ensures.spared q s k (lines_behind q (window_part (window_class c.args.window) (bridge_of_window s c.args.window))) told window are
+    (subst (λ xs. HasRanges xs (lines_behind q (window_part (window_class c.args.window) (bridge_of_window s c.args.window)))) (sym c.as_slice.ensures.value) (c.in_ok-behind.ensures q s told.asked window)))
 
 pub returns-in_default-bridge_over-clause-spared : goal.returns-in_default-bridge_over-clause-spared
 returns-in_default-bridge_over-clause-spared g t c = λ q s k behind told window has.
@@ -73,9 +73,9 @@ returns-in_default-2-clause-spared g t c = λ q s k behind told window has.
     c.held_by-held.result c.held_by-held.ensures.size c.held_by-held.ensures.alignment c.held_by-held.ensures.highest
     (root_is q s c.args.board.now told.asked c.args.window window c.in-Some-facts.facts are false (sym c.is_root.ensures ∙ c.if-is_root.false))
     c.in-Some-bridge_over.bridge (sym (ap (bridge_over s) are.bus) ∙ over_there.1) over (room_value c.spared.new.room)
-    (subst (λ p. IsSparedAs q s c.args.board.now (spared_within q s (class_of c.args.window) (c.args.depth - 1) (function_in s c.in-Some-bridge_over.bridge) (extent_value c.held_by-held.result) (lines_behind q (window_part (class_of c.args.window) (bridge_of s c.args.window))) k) p (room_value c.args.room.now) (room_value c.spared.new.room))
-    c.in_default-2.is (c.in_ok-at.ensures.spared q s k (lines_behind q (window_part (class_of c.args.window) (bridge_of s c.args.window))) told over.window
-    (subst (λ xs. HasRanges xs (lines_behind q (window_part (class_of c.args.window) (bridge_of s c.args.window)))) (sym c.as_slice.ensures.value) (c.in_ok-behind.ensures q s told.asked window))))
+    (subst (λ p. IsSparedAs q s c.args.board.now (spared_within q s (window_class c.args.window) (c.args.depth - 1) (function_in s c.in-Some-bridge_over.bridge) (extent_value c.held_by-held.result) (lines_behind q (window_part (window_class c.args.window) (bridge_of_window s c.args.window))) k) p (room_value c.args.room.now) (room_value c.spared.new.room))
+    c.in_default-2.is (c.in_ok-at.ensures.spared q s k (lines_behind q (window_part (window_class c.args.window) (bridge_of_window s c.args.window))) told over.window
+    (subst (λ xs. HasRanges xs (lines_behind q (window_part (window_class c.args.window) (bridge_of_window s c.args.window)))) (sym c.as_slice.ensures.value) (c.in_ok-behind.ensures q s told.asked window))))
 
 pub returns-clause-spared : goal.returns-clause-spared
 returns-clause-spared g t c = λ q s k behind told window has.
@@ -89,9 +89,9 @@ returns-clause-spared g t c = λ q s k behind told window has.
     (root_is q s c.args.board.now told.asked c.args.window window c.in-Some-facts.facts are false (sym c.is_root.ensures ∙ c.if-is_root.false))
     c.in-Some-bridge_over.bridge (sym (ap (bridge_over s) are.bus) ∙ over_there.1) over (room_value c.spared.new.room)
     c.in-Some-2.at (room_value c.open_at.new.room) c.window_row-row.result c.window_row-row.ensures.row
-    (subst (λ p. IsSparedAs q s c.args.board.now (spared_within q s (class_of c.args.window) (c.args.depth - 1) (function_in s c.in-Some-bridge_over.bridge) (extent_value c.held_by-held.result) (lines_behind q (window_part (class_of c.args.window) (bridge_of s c.args.window))) k) p (room_value c.args.room.now) (room_value c.spared.new.room))
-    c.in-Some-2.is (c.in_ok-at.ensures.spared q s k (lines_behind q (window_part (class_of c.args.window) (bridge_of s c.args.window))) told over.window
-    (subst (λ xs. HasRanges xs (lines_behind q (window_part (class_of c.args.window) (bridge_of s c.args.window)))) (sym c.as_slice.ensures.value) (c.in_ok-behind.ensures q s told.asked window))))
+    (subst (λ p. IsSparedAs q s c.args.board.now (spared_within q s (window_class c.args.window) (c.args.depth - 1) (function_in s c.in-Some-bridge_over.bridge) (extent_value c.held_by-held.result) (lines_behind q (window_part (window_class c.args.window) (bridge_of_window s c.args.window))) k) p (room_value c.args.room.now) (room_value c.spared.new.room))
+    c.in-Some-2.is (c.in_ok-at.ensures.spared q s k (lines_behind q (window_part (window_class c.args.window) (bridge_of_window s c.args.window))) told over.window
+    (subst (λ xs. HasRanges xs (lines_behind q (window_part (window_class c.args.window) (bridge_of_window s c.args.window)))) (sym c.as_slice.ensures.value) (c.in_ok-behind.ensures q s told.asked window))))
     c.in_ok-open_at.ensures.opened c.if-not-facts.false
 
 pub returns-in_err-open_at-clause-room : goal.returns-in_err-open_at-clause-room

@@ -1,5 +1,5 @@
 use Rattle.std.proofs.Common.{rules, ap}
-use Rattle.pci_json.specs.Lines.{lines_of}
+use Rattle.pci_json.specs.Lines.{lines_of_text}
 use Rattle.pci_json.specs.Members.{with_items}
 use Rattle.pci_json.proofs.Steps.{no_parts, step_items, items_done}
 use Rattle.pci_json.specs.Documents.{offs_of, off_of}
@@ -8,8 +8,8 @@ use Rattle.pci_json.proofs.document.push_offs.Goals as goal
 pub loop-rest-preserved : goal.loop-rest-preserved
 loop-rest-preserved g c = record {
   text = search rules;
-  written = step_items c.loop-rest.out c.push_off.new.out (with_items c.args.out.now (offs_of (lines_of c.args.text.now))) (offs_of (lines_of c.loop-rest.rest.now)) (off_of c.cut.result.0.now) (offs_of (lines_of c.cut.result.1.now)) (ap (offs_of) c.cut.ensures.parts) c.in_ok-push_off.ensures c.loop-rest.invariant.written;
+  written = step_items c.loop-rest.out c.push_off.new.out (with_items c.args.out.now (offs_of (lines_of_text c.args.text.now))) (offs_of (lines_of_text c.loop-rest.rest.now)) (off_of c.cut.result.0.now) (offs_of (lines_of_text c.cut.result.1.now)) (ap (offs_of) c.cut.ensures.parts) c.in_ok-push_off.ensures c.loop-rest.invariant.written;
 }
 
 pub returns : goal.returns
-returns g c = items_done c.loop-rest.out (with_items c.args.out.now (offs_of (lines_of c.args.text.now))) (offs_of (lines_of c.loop-rest.rest.now)) (ap (offs_of) (no_parts 10 c.loop-rest.rest.now c.is_empty.result c.is_empty.ensures c.loop-rest-test.false)) c.loop-rest.invariant.written
+returns g c = items_done c.loop-rest.out (with_items c.args.out.now (offs_of (lines_of_text c.args.text.now))) (offs_of (lines_of_text c.loop-rest.rest.now)) (ap (offs_of) (no_parts 10 c.loop-rest.rest.now c.is_empty.result c.is_empty.ensures c.loop-rest-test.false)) c.loop-rest.invariant.written

@@ -1,8 +1,8 @@
 use Rattle.std.proofs.Common.{◌≡◌, ◌∙◌, ℕ, List, [], ◌∷◌, ◌++◌, codes, ap}
 use Rattle.std.proofs.lemmas.Result.{on_ok_weaker}
 use Rattle.json.specs.Json.{Json, string}
-use Rattle.pci_json.specs.Lines.{word, value_of}
-use Rattle.pci_json.specs.Members.{with_members, hex, count}
+use Rattle.pci_json.specs.Lines.{word, value_in_base}
+use Rattle.pci_json.specs.Members.{with_members, hex, json_count}
 use Rattle.pci_json.proofs.Cuts.{second_there}
 use Rattle.pci_json.proofs.Tokens.{two_members, hex_more}
 use Rattle.pci_json.proofs.listing.push_header.Goals as goal
@@ -18,10 +18,10 @@ returns g c =
     let command = second_there 9 line c.split_second-4.result.1.now c.split_second-5.result.0.now c.split_second-5.result.1.now class.1 c.split_second-5.ensures.first c.split_second-5.ensures.rest in
     let status = second_there 11 line c.split_second-5.result.1.now c.split_second-6.result.0.now c.split_second-6.result.1.now command.1 c.split_second-6.ensures.first c.split_second-6.ensures.rest in
     let one : List (List ℕ × Json) = (codes "slot", string (word 0 line)) ∷ [] in
-    let two : List (List ℕ × Json) = (codes "type", count (value_of 10 (word 2 line))) ∷ [] in
+    let two : List (List ℕ × Json) = (codes "type", json_count (value_in_base 10 (word 2 line))) ∷ [] in
     let slot_written : c.text.new.self ≡ with_members out one = c.in_ok-text.ensures ∙ ap (λ w. with_members out ((codes "slot", string w) ∷ [])) c.split_word.ensures.first in
     let kind_alone : c.number.new.self ≡ with_members c.text.new.self two =
-    c.in_ok-number.ensures ∙ ap (λ n. with_members c.text.new.self ((codes "type", count n) ∷ [])) (c.value.ensures ∙ ap (value_of 10) kind.0) in
+    c.in_ok-number.ensures ∙ ap (λ n. with_members c.text.new.self ((codes "type", json_count n) ∷ [])) (c.value.ensures ∙ ap (value_in_base 10) kind.0) in
     let kind_written = two_members out c.text.new.self c.number.new.self one two slot_written kind_alone in
     let three : List (List ℕ × Json) = one ++ two in
     let vendor_written = hex_more out c.number.new.self c.hex.new.self three (codes "vendor") c.split_second-2.result.0.now (word 4 line) kind_written c.in_ok-hex.ensures vendor.0 in

@@ -1,5 +1,5 @@
 use Rattle.std.proofs.lemmas.Result.{on_ok_weaker}
-use Rattle.pci_json.specs.Lines.{behind}
+use Rattle.pci_json.specs.Lines.{behind_words}
 use Rattle.pci_json.proofs.Cuts.{behind_there, behind_here}
 use Rattle.pci_json.proofs.listing.push_rom.Goals as goal
 
@@ -11,7 +11,7 @@ returns g c =
       e,
       c.split_second.ensures.first,
       c.split_second.ensures.rest,
-      behind_here (behind 2 line),
+      behind_here (behind_words 2 line),
       behind_there 2 1 line,
       c.in_ok-hex.ensures,
       c.is_word.ensures,

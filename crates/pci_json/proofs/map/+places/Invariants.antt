@@ -1,9 +1,9 @@
 use Rattle.std.proofs.Common.{◌≡◌, ◌+◌, ◌*◌, ◌<◌, ◌≤◌, ℕ, length}
 use denote.Text.{Utf8}
 use denote.Shadow.{shadow}
-use Rattle.pci_json.specs.Lines.{lines_of}
+use Rattle.pci_json.specs.Lines.{lines_of_text}
 use Rattle.pci_json.specs.Members.{with_items}
-use Rattle.pci_json.specs.Documents.{places_of}
+use Rattle.pci_json.specs.Documents.{place_objects}
 use Rattle.pci_json.proofs.map.+places.Given as goal
 
 abbrev pub decreases-push_places : goal.decreases-push_places
@@ -18,8 +18,8 @@ decreases-push_inside g l = 3 * length l.text.now + 1
 abbrev pub invariant-push_places-loop-line : goal.invariant-push_places-loop-line
 invariant-push_places-loop-line g l = record {
   text : shadow (Utf8 l.rest);
-  written : with_items l.out (places_of l.depth (lines_of l.rest)) ≡ with_items l.initial.out (places_of l.depth (lines_of l.text));
-  above : (a : ℕ) → a < l.depth → places_of a (lines_of l.rest) ≡ places_of a (lines_of l.text);
+  written : with_items l.out (place_objects l.depth (lines_of_text l.rest)) ≡ with_items l.initial.out (place_objects l.depth (lines_of_text l.text));
+  above : (a : ℕ) → a < l.depth → place_objects a (lines_of_text l.rest) ≡ place_objects a (lines_of_text l.text);
   shorter : length l.rest ≤ length l.text;
 }
 

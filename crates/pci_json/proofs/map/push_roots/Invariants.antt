@@ -1,15 +1,15 @@
 use Rattle.std.proofs.Common.{◌≡◌, length}
 use denote.Text.{Utf8}
 use denote.Shadow.{shadow}
-use Rattle.pci_json.specs.Lines.{lines_of}
+use Rattle.pci_json.specs.Lines.{lines_of_text}
 use Rattle.pci_json.specs.Members.{with_items}
-use Rattle.pci_json.specs.Documents.{buses_of}
+use Rattle.pci_json.specs.Documents.{bus_objects}
 use Rattle.pci_json.proofs.map.push_roots.Given as goal
 
 abbrev pub invariant-loop-rest : goal.invariant-loop-rest
 invariant-loop-rest g l = record {
   text : shadow (Utf8 l.rest);
-  written : with_items l.out (buses_of (lines_of l.rest)) ≡ with_items l.initial.out (buses_of (lines_of l.text));
+  written : with_items l.out (bus_objects (lines_of_text l.rest)) ≡ with_items l.initial.out (bus_objects (lines_of_text l.text));
 }
 
 abbrev pub decreases-loop-rest : goal.decreases-loop-rest

@@ -2,7 +2,7 @@ use Rattle.std.proofs.Common.{◌≡◌, ◌<◌, ◌≤◌, ◌+◌, sym, ap, �
 use Rattle.std.proofs.lemmas.List.{get_or_default}
 use Rattle.judge_spec.specs.Told.{ToldRange}
 use Rattle.pci_kept.specs.declared.told_line.ToldLine.{ToldLine}
-use Rattle.pci_kept.specs.RangePass.{no_line, no_range}
+use Rattle.pci_kept.specs.RangePass.{no_told_line, no_range}
 use Rattle.pci_kept.proofs.LineRowing.{AreRowsBelow, rows_none, rows_skip, rows_more, rows_all}
 use Rattle.pci_kept.proofs.off.add_rows.Goals as goal
 use Rattle.pci_kept.proofs.off.add_rows.Goals.{then-is_taken+in_ok-push, else-is_taken}
@@ -19,8 +19,8 @@ loop-index-preserved g c = λ q s same are empty.
     let low = c.loop-index-test.true in
     let count = c.requires.count in
     let within : k < length q.told.ranges = subst (λ xs. k < length xs) (sym same) low in
-    let line : ToldLine = get_or lines k no_line in
-    let line_is : line ≡ get_or lines k line = sym (get_or_default lines k line no_line (omega (arith, low, count))) in
+    let line : ToldLine = get_or lines k no_told_line in
+    let line_is : line ≡ get_or lines k line = sym (get_or_default lines k line no_told_line (omega (arith, low, count))) in
     let before = c.loop-index.invariant q s same are empty in
     elim c.if-is_taken.branch [
       | then-is_taken+in_ok-push w ↦

@@ -7,7 +7,7 @@ use Rattle.pci_place.proofs.Records.{lent, same_count}
 use Rattle.pci_first_fit.specs.Slots.{demand_value}
 use Rattle.pci_kept.specs.declared.region.Region.{Region}
 use Rattle.pci_kept.specs.Boards.{IsTree}
-use Rattle.pci_kept.specs.Known.{asked_by, region_value, AreParts}
+use Rattle.pci_kept.specs.Known.{asked_by_rules, region_value, AreParts}
 use Rattle.pci_kept.specs.Leads.{AreReachable}
 use Rattle.pci_kept.specs.Order.{IsPartInTurn}
 use Rattle.pci_kept.proofs.Whole.{ready, ordered, leads_sorted, numbers_rise, slice_back}
@@ -27,7 +27,7 @@ note_leads-requires-clause-reachable g c = subst (AreReachable c.args.told.now.r
 pub returns-clause-ordered : goal.returns-clause-ordered
 returns-clause-ordered g c = λ same lines.
     let s = system_in c.args.admitted.now in
-    let q = asked_by c.args.admitted.now.roots (demand_value c.args.lists.now) c.args.rules.now in
+    let q = asked_by_rules c.args.admitted.now.roots (demand_value c.args.lists.now) c.args.rules.now in
     let records = c.records-records.result.now in
     let has = lent s records c.records-records.ensures.value c.outline.ensures.records in
     let admitted = c.outline.ensures.admitted in
@@ -45,7 +45,7 @@ returns-clause-ordered g c = λ same lines.
 pub returns-clause-ready : goal.returns-clause-ready
 returns-clause-ready g c = λ same lines.
     let s = system_in c.args.admitted.now in
-    let q = asked_by c.args.admitted.now.roots (demand_value c.args.lists.now) c.args.rules.now in
+    let q = asked_by_rules c.args.admitted.now.roots (demand_value c.args.lists.now) c.args.rules.now in
     let records = c.records-records.result.now in
     let has = lent s records c.records-records.ensures.value c.outline.ensures.records in
     let admitted = c.outline.ensures.admitted in

@@ -6,9 +6,9 @@ use Rattle.pci_first_fit.specs.Lists.{lists_value}
 use Rattle.pci_first_fit.specs.Slots.{demand_value}
 use Rattle.settle_spec.specs.Stands.{is_line_on}
 use Rattle.pci_kept.specs.Boards.{IsTree, IsBoard}
-use Rattle.pci_kept.specs.Known.{asked_by}
+use Rattle.pci_kept.specs.Known.{asked_by_rules}
 use Rattle.pci_first_fit.specs.Kept.{AreNone}
-use Rattle.pci_kept.specs.LineRows.{AreLineRows}
+use Rattle.pci_kept.specs.LineRows.{AreRowsOfKeptLines}
 use Rattle.pci_kept.specs.Passing.{CanBeNoted, AreOrdered, AreStanding}
 use Rattle.pci_kept.specs.Rows.{AreRows}
 use Rattle.pci_kept.specs.ToldLines.{AreToldLines}
@@ -44,7 +44,7 @@ note_all-requires-clause-all g c =
 pub note_all-requires-clause-ready : goal.note_all-requires-clause-ready
 note_all-requires-clause-ready g c =
     let s = system_in c.args.admitted.now in
-    let q = asked_by c.args.admitted.now.roots (demand_value c.args.lists.now) c.args.rules.now in
+    let q = asked_by_rules c.args.admitted.now.roots (demand_value c.args.lists.now) c.args.rules.now in
     let records = c.records-records.result.now in
     let has = lent s records c.records-records.ensures.value c.outline-outline.ensures.records in
     let admitted = c.outline-outline.ensures.admitted in
@@ -57,7 +57,7 @@ note_all-requires-clause-ready g c =
 pub returns : goal.returns
 returns g c =
     let s = system_in c.args.admitted.now in
-    let q = asked_by c.args.admitted.now.roots (demand_value c.args.lists.now) c.args.rules.now in
+    let q = asked_by_rules c.args.admitted.now.roots (demand_value c.args.lists.now) c.args.rules.now in
     let records = c.records-records.result.now in
     let has = lent s records c.records-records.ensures.value c.outline-outline.ensures.records in
     let admitted = c.outline-outline.ensures.admitted in
@@ -82,8 +82,8 @@ returns g c =
     let whole = all_stand q s admitted.nested slice order admitted.system c.note_all.new.taken.level c.note_all.new.taken.io.items c.note_all.new.taken.mem.items table
     (c.in_ok-note_all.ensures.passed q s board c.as_slice-ranges.ensures.told
     record {
-      on = subst (AreLineRows q (is_line_on q s)) (sym c.as_slice-4.ensures.value) (c.in_ok-on.ensures.rows q s same lines);
-      all = subst (AreLineRows q (λ x. true)) (sym c.as_slice-6.ensures.value) (c.in_ok-all.ensures.rows q s same lines);
+      on = subst (AreRowsOfKeptLines q (is_line_on q s)) (sym c.as_slice-4.ensures.value) (c.in_ok-on.ensures.rows q s same lines);
+      all = subst (AreRowsOfKeptLines q (λ x. true)) (sym c.as_slice-6.ensures.value) (c.in_ok-all.ensures.rows q s same lines);
     } order start) in
     let long = c.in_ok-table.table.ok.0 in
     subst (AreStanding q s) (sym (slice_back c.in_ok-table.table.len table c.in_ok-table.table.items (c.note_all.auto.table ∙ ap length c.as_mut_slice.ensures.value) (omega (arith, long)))) whole

@@ -8,9 +8,9 @@ use Rattle.pci_kept.specs.declared.rows.Row.{Row}
 use Rattle.pci_kept.specs.declared.told_line.ToldLine.{ToldLine}
 use Rattle.pci_kept.specs.ApartRows.{is_row_free, IsWithRow}
 use Rattle.pci_kept.specs.LineRows.{row_key, line_owner, IsRowOf}
-use Rattle.pci_kept.specs.RangePass.{no_line, AreRangesPassed}
+use Rattle.pci_kept.specs.RangePass.{no_told_line, AreRangesPassed}
 use Rattle.pci_kept.specs.StandingRanges.{is_free_of}
-use Rattle.pci_kept.specs.ToldLines.{unnamed, IsToldLine}
+use Rattle.pci_kept.specs.ToldLines.{unnamed, IsToldLineOf}
 use Rattle.pci_kept.proofs.RangeSteps.{passed_by, passed_on}
 use Rattle.pci_kept.proofs.ranges.note_range.Goals as goal
 
@@ -23,8 +23,8 @@ returns-then-not-is_free-clause-passed g c = λ q s xs count tree same standing 
     let low : index < length q.told.ranges = subst (λ ys. index < length ys) (sym same) c.requires.index in
     let r_is : r ≡ x.told = c.index-told-index.is ∙ ap (λ ys. get_or ys index r) (sym same) ∙ get_or_default q.told.ranges index r x.told low ∙ turn.is in
     let there : get_or ranges index r ≡ x.told = sym c.index-told-index.is ∙ r_is in
-    let line : ToldLine = get_or c.args.told.now.lines.now index no_line in
-    let known : IsToldLine q s (get_or c.args.told.now.ranges.now index r) line = subst (λ t. IsToldLine q s t line) (turn.is ∙ sym there) (lines.each index no_line x.told low) in
+    let line : ToldLine = get_or c.args.told.now.lines.now index no_told_line in
+    let known : IsToldLineOf q s (get_or c.args.told.now.ranges.now index r) line = subst (λ t. IsToldLineOf q s t line) (turn.is ∙ sym there) (lines.each index no_told_line x.told low) in
     let told : IsTold q.told.ranges = subst IsTold (sym same) c.requires.told in
     let row : Row = record { key = row_key line.level x.told.space; owner = line_owner x; range = record { first = x.told.first; last = x.told.last } } in
     let row_is : IsRowOf q x row = record { key = ap (λ n. row_key n x.told.space) (known.level ∙ ap (λ (t : ToldRange). level q t.slot.bus) there); owner = refl; range = refl } in
@@ -41,8 +41,8 @@ returns-then-branch-clause-passed g c = λ q s xs count tree same standing held 
     let low : index < length q.told.ranges = subst (λ ys. index < length ys) (sym same) c.requires.index in
     let r_is : r ≡ x.told = c.index-told-index.is ∙ ap (λ ys. get_or ys index r) (sym same) ∙ get_or_default q.told.ranges index r x.told low ∙ turn.is in
     let there : get_or c.args.told.now.ranges.now index r ≡ x.told = sym c.index-told-index.is ∙ r_is in
-    let line : ToldLine = get_or c.args.told.now.lines.now index no_line in
-    let known : IsToldLine q s (get_or c.args.told.now.ranges.now index r) line = subst (λ t. IsToldLine q s t line) (turn.is ∙ sym there) (lines.each index no_line x.told low) in
+    let line : ToldLine = get_or c.args.told.now.lines.now index no_told_line in
+    let known : IsToldLineOf q s (get_or c.args.told.now.ranges.now index r) line = subst (λ t. IsToldLineOf q s t line) (turn.is ∙ sym there) (lines.each index no_told_line x.told low) in
     let told : IsTold q.told.ranges = subst IsTold (sym same) c.requires.told in
     let row = c.row_of.result in
     let key_is : row.key ≡ row_key line.level x.told.space = c.row_of.ensures.key ∙ ap (λ (t : ToldRange). row_key line.level t.space) there in
@@ -65,8 +65,8 @@ returns-else-branch-clause-passed g c = λ q s xs count tree same standing held 
     let low : index < length q.told.ranges = subst (λ ys. index < length ys) (sym same) c.requires.index in
     let r_is : r ≡ x.told = c.index-told-index.is ∙ ap (λ ys. get_or ys index r) (sym same) ∙ get_or_default q.told.ranges index r x.told low ∙ turn.is in
     let there : get_or c.args.told.now.ranges.now index r ≡ x.told = sym c.index-told-index.is ∙ r_is in
-    let line : ToldLine = get_or c.args.told.now.lines.now index no_line in
-    let known : IsToldLine q s (get_or c.args.told.now.ranges.now index r) line = subst (λ t. IsToldLine q s t line) (turn.is ∙ sym there) (lines.each index no_line x.told low) in
+    let line : ToldLine = get_or c.args.told.now.lines.now index no_told_line in
+    let known : IsToldLineOf q s (get_or c.args.told.now.ranges.now index r) line = subst (λ t. IsToldLineOf q s t line) (turn.is ∙ sym there) (lines.each index no_told_line x.told low) in
     let row = c.row_of.result in
     let key_is : row.key ≡ row_key line.level x.told.space = c.row_of.ensures.key ∙ ap (λ (t : ToldRange). row_key line.level t.space) there in
     let row_is : IsRowOf q x row = record {

@@ -5,7 +5,7 @@ use Rattle.pci_place.specs.Above.{system_in}
 use Rattle.pci_place.proofs.Records.{lent}
 use Rattle.pci_first_fit.specs.Buses.{listing_value}
 use Rattle.pci_first_fit.specs.declared.item.Item.{Item}
-use Rattle.pci_kept.specs.Rooms.{wanted_value, AreTakenOn}
+use Rattle.pci_kept.specs.Rooms.{wanted_value, AreTakenBehindBridge}
 use Rattle.pci_kept.specs.Behind.{AreBehindEach}
 use Rattle.pci_kept.proofs.Rooms.{wanted_lawful, room_is}
 use Rattle.pci_kept.proofs.room.has_places.Goals as goal
@@ -29,7 +29,7 @@ returns g c = λ q keeps b is.
     let own = c.in_ok-items.items.items in
     let wanted_is : c.as_slice-5.result.now ≡ map wanted_value own = c.as_slice-5.ensures.value ∙ c.in_ok-wanted.ensures ∙ ap (map wanted_value) c.as_slice.ensures.value in
     let taken = c.in_ok-taken.taken.items in
-    let taken_are = subst (λ space. AreTakenOn rs lines bus space table taken) c.of-space.ensures c.in_ok-taken.ensures.taken in
+    let taken_are = subst (λ space. AreTakenBehindBridge rs lines bus space table taken) c.of-space.ensures c.in_ok-taken.ensures.taken in
     let lists_are = ap (map lists) (c.as_slice-3.ensures.value ∙ c.in_ok-push-2.ensures.items ∙ ap (λ xs. xs ++ c.push.new.self ∷ []) c.new-lists.ensures.items)
     ∙ ap (λ xs. xs ∷ []) (c.in_ok-push.ensures.items ∙ ap (λ xs. xs ++ c.args.range ∷ []) c.new-window.ensures.items) in
     let behind = subst (λ bs. AreBehindEach records lines class own (map lists bs)) (sym c.as_slice-4.ensures.value)

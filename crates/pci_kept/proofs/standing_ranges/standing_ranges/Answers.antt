@@ -7,8 +7,8 @@ use Rattle.pci_place.proofs.Records.{lent}
 use Rattle.pci_first_fit.specs.Slots.{demand_value}
 use Rattle.pci_kept.specs.declared.rows.Row.{Row}
 use Rattle.pci_kept.specs.Boards.{IsTree}
-use Rattle.pci_kept.specs.Known.{asked_by, AreParts}
-use Rattle.pci_kept.specs.LineRows.{nobody, AreLineRows}
+use Rattle.pci_kept.specs.Known.{asked_by_rules, AreParts}
+use Rattle.pci_kept.specs.LineRows.{nobody, AreRowsOfKeptLines}
 use Rattle.pci_kept.specs.RangePass.{ArePartRows}
 use Rattle.pci_kept.specs.Rows.{AreRows}
 use Rattle.pci_kept.specs.StandingRanges.{is_owned}
@@ -43,7 +43,7 @@ flags_in_turn-requires-clause-nobody g c =
 pub returns-clause-flags : goal.returns-clause-flags
 returns-clause-flags g c =
     let s = system_in c.args.admitted.now in
-    let q = asked_by c.args.admitted.now.roots (demand_value c.args.lists.now) c.args.rules.now in
+    let q = asked_by_rules c.args.admitted.now.roots (demand_value c.args.lists.now) c.args.rules.now in
     let records = c.records-records.result.now in
     let has = lent s records c.records-records.ensures.value c.outline-outline.ensures.records in
     let admitted = c.outline-outline.ensures.admitted in
@@ -51,8 +51,8 @@ returns-clause-flags g c =
     let same = sym c.as_slice-ranges.ensures.value in
     let lines : AreToldLines q s c.as_slice.result.now =
     subst (AreToldLines q s) (sym c.as_slice.ensures.value) (c.in_ok-lines.ensures.lines q s tree (sym (c.roots.ensures ∙ c.outline-outline.ensures.roots)) same refl) in
-    let held : AreLineRows q is_held_line c.as_slice-6.result.now =
-    subst (AreLineRows q is_held_line) (sym (c.as_slice-6.ensures.value ∙ c.in_ok-held.ensures ∙ ap (filter is_owned) c.as_slice-2.ensures.value))
+    let held : AreRowsOfKeptLines q is_held_line c.as_slice-6.result.now =
+    subst (AreRowsOfKeptLines q is_held_line) (sym (c.as_slice-6.ensures.value ∙ c.in_ok-held.ensures ∙ ap (filter is_owned) c.as_slice-2.ensures.value))
     (held_lines q c.as_slice-ranges.ensures.told c.in_ok-all.all.items (c.in_ok-all.ensures.rows q s same lines)) in
     let regions = c.as_slice-4.result.now in
     let are : AreParts q s regions = subst (AreParts q s) (sym c.as_slice-4.ensures.value) c.in_ok-regions.ensures in

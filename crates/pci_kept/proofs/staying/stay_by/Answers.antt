@@ -7,7 +7,7 @@ use Rattle.pci_place.proofs.Records.{lent, same_count}
 use Rattle.pci_first_fit.specs.Slots.{demand_value}
 use Rattle.pci_first_fit.specs.Lines.{AreLines}
 use Rattle.settle_spec.specs.Items.{has_room_behind}
-use Rattle.pci_kept.specs.Known.{asked_by, AreParts}
+use Rattle.pci_kept.specs.Known.{asked_by_rules, AreParts}
 use Rattle.pci_kept.specs.Passing.{CanBeNoted, AreStanding}
 use Rattle.pci_kept.proofs.Whole.{ready, slice_back}
 use Rattle.pci_kept.specs.Rooms.{region_bus}
@@ -18,14 +18,14 @@ use Rattle.pci_kept.proofs.staying.stay_by.Goals as goal
 pub hold_all-requires-clause-order : goal.hold_all-requires-clause-order
 hold_all-requires-clause-order g c =
     let s = system_in c.args.classing.now.admitted.now in
-    let q = asked_by c.args.classing.now.admitted.now.roots (demand_value c.args.lists.now) c.args.rules.now in
+    let q = asked_by_rules c.args.classing.now.admitted.now.roots (demand_value c.args.lists.now) c.args.rules.now in
     let admitted = c.outline.ensures.admitted in
     subst (IsNonDecreasingBy region_bus) (sym c.as_slice-regions.ensures.value) (buses_rise q s admitted.system admitted.nested (has_room_behind q s) (room_stands q s admitted.system admitted.nested) c.in_ok-regions.regions.items c.in_ok-regions.ensures)
 
 pub hold_all-requires-clause-ready : goal.hold_all-requires-clause-ready
 hold_all-requires-clause-ready g c =
     let s = system_in c.args.classing.now.admitted.now in
-    let q = asked_by c.args.classing.now.admitted.now.roots (demand_value c.args.lists.now) c.args.rules.now in
+    let q = asked_by_rules c.args.classing.now.admitted.now.roots (demand_value c.args.lists.now) c.args.rules.now in
     let rs = c.in_ok-regions.regions.items in
     let entries = c.as_mut_slice-entries.result.now in
     let are : AreStanding q s c.in_ok-table.table.items = c.in_ok-table.ensures in
@@ -35,7 +35,7 @@ hold_all-requires-clause-ready g c =
 pub stay_all-requires-clause-ready : goal.stay_all-requires-clause-ready
 stay_all-requires-clause-ready g c =
     let s = system_in c.args.classing.now.admitted.now in
-    let q = asked_by c.args.classing.now.admitted.now.roots (demand_value c.args.lists.now) c.args.rules.now in
+    let q = asked_by_rules c.args.classing.now.admitted.now.roots (demand_value c.args.lists.now) c.args.rules.now in
     let rs = c.in_ok-regions.regions.items in
     let records = c.records-records.result.now in
     let has = lent s records c.records-records.ensures.value c.outline.ensures.records in
@@ -45,7 +45,7 @@ stay_all-requires-clause-ready g c =
 pub returns : goal.returns
 returns g c = λ knowing.
     let s = system_in c.args.classing.now.admitted.now in
-    let q = asked_by c.args.classing.now.admitted.now.roots (demand_value c.args.lists.now) c.args.rules.now in
+    let q = asked_by_rules c.args.classing.now.admitted.now.roots (demand_value c.args.lists.now) c.args.rules.now in
     let admitted = c.outline.ensures.admitted in
     let parts : AreParts q s c.as_slice-regions.result.now = subst (AreParts q s) (sym c.as_slice-regions.ensures.value) c.in_ok-regions.ensures in
     let told : AreLines q.roots q.told.ranges c.as_slice-lines.result.now =

@@ -5,7 +5,7 @@ use Rattle.pci_spec.specs.Bus.{is_root}
 use Rattle.judge_spec.specs.Told.{ToldRange}
 use Rattle.settle_laws.specs.Order.{level}
 use Rattle.pci_kept.specs.declared.told_line.ToldLine.{ToldLine}
-use Rattle.pci_kept.specs.ToldLines.{IsToldLine}
+use Rattle.pci_kept.specs.ToldLines.{IsToldLineOf}
 use Rattle.pci_kept.proofs.ToldIndexes.{lines_more}
 use Rattle.pci_kept.proofs.told_line.told_lines.Goals as goal
 
@@ -28,8 +28,8 @@ loop-range-preserved g c =
           (let bus_is = c.bus.ensures ∙ ap (λ (t : ToldRange). t.slot.bus) c.range.view_is in
           let level_is : c.level-level.result ≡ level q r.slot.bus =
           c.level-level.ensures ∙ ap (λ rs. if is_root rs c.bus.result then 0 else c.bus.result + 1) (sym roots) ∙ ap (level q) bus_is in
-          lines_more (IsToldLine q s) ranges c.loop-range.lines.items k line c.loop-range.invariant.size (c.loop-range.invariant.each q s tree roots same awake)
-          (λ t. subst (λ (y : ToldRange). IsToldLine q s y line) (c.range-item.is ∙ get_or_default ranges k r t low) record {
+          lines_more (IsToldLineOf q s) ranges c.loop-range.lines.items k line c.loop-range.invariant.size (c.loop-range.invariant.each q s tree roots same awake)
+          (λ t. subst (λ (y : ToldRange). IsToldLineOf q s y line) (c.range-item.is ∙ get_or_default ranges k r t low) record {
             level = level_is;
             class = c.range_class-class.ensures q s tree level_is;
             on = c.is_on-on.ensures q s tree awake;
@@ -51,5 +51,5 @@ returns-clause-lines g c = λ q s tree roots same awake.
       size = c.loop-range.invariant.size ∙ (let e : c.loop-range.range-index ≡ length c.args.ranges.now = omega (arith, end, count) in e) ∙ ap length (sym same);
       each = λ k d t low.
           (let inside : k < c.loop-range.range-index = (let small = subst (λ xs. k < length xs) same low in omega (arith, small, end)) in
-          subst (λ xs. IsToldLine q s (get_or xs k t) (get_or c.loop-range.lines.items k d)) (sym same) (c.loop-range.invariant.each q s tree roots same awake k d t inside));
+          subst (λ xs. IsToldLineOf q s (get_or xs k t) (get_or c.loop-range.lines.items k d)) (sym same) (c.loop-range.invariant.each q s tree roots same awake k d t inside));
     }

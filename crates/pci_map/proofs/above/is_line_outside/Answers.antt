@@ -10,13 +10,13 @@ use Rattle.pci_base.specs.Space.{space_of}
 use Rattle.pci_tree.specs.Ranges.{Holds, Covers}
 use Rattle.pci_map.specs.Above.{IsSentAbove}
 use Rattle.pci_map.specs.Addresses.{SpaceRanges, ranges_in, HasUnsent}
-use Rattle.pci_map.specs.Seats.{told_of, told_range}
+use Rattle.pci_map.specs.Seats.{told_region_value, told_range}
 use Rattle.pci_map.proofs.Places.{nothing_out, held_in_place, function_there, last_there, line_answer}
 use Rattle.pci_map.proofs.above.is_line_outside.Goals as goal
 
 pub returns-then-above-bus : goal.returns-then-above-bus
 returns-then-above-bus g c = λ told given t s above is_told is out.
-    let x : ToldRegion = told_of c.args.line.now in
+    let x : ToldRegion = told_region_value c.args.line.now in
     let low = c.if-above-bus.true in elim above.rows [
       | inl nothing ↦ nothing_out told given t s nothing.io nothing.memory (OfLine x) out
       | inr rows ↦ (
@@ -29,11 +29,11 @@ returns-then-above-bus g c = λ told given t s above is_told is out.
 
 pub returns-then-is_held : goal.returns-then-is_held
 returns-then-is_held g c = λ told given t s above is_told is.
-    held_in_place told given t s (told_of c.args.line.now) is (sym c.is_held.ensures ∙ c.if-is_held.true)
+    held_in_place told given t s (told_region_value c.args.line.now) is (sym c.is_held.ensures ∙ c.if-is_held.true)
 
 pub returns : goal.returns
 returns g c = λ told given t s above is_told is.
-    let x : ToldRegion = told_of c.args.line.now in
+    let x : ToldRegion = told_region_value c.args.line.now in
     let sent : SpaceRanges = c.index-above-bus.result in
     let low = c.if-above-bus.false in
     let not_held : is_marked_held x.told.mark ≡ false = sym c.is_held.ensures ∙ c.if-is_held.false in elim above.rows [

@@ -5,7 +5,7 @@ use Rattle.pci_spec.specs.Decoded.{HasRecords}
 use Rattle.pci_spec.specs.System.{Io, Memory}
 use Rattle.pci_spec.proofs.Members.{in_nil}
 use Rattle.pci_tree.specs.Ways.{slots_of}
-use Rattle.pci_claims.specs.Values.{given_value, told_value}
+use Rattle.pci_claims.specs.Values.{code_given_value, told_value}
 use Rattle.pci_map.specs.Asides.{AreFoundBy}
 use Rattle.pci_map.proofs.Tolds.{record_in}
 use Rattle.pci_map.proofs.RangeAsides.{behind_more, below_more, up_to}
@@ -17,7 +17,7 @@ loop-function-init g c = record {
   within = omega arith;
   below = λ k d from within i e low high. absurd (let no : ⊥ = omega (arith, high) in no);
   behind = λ x has. absurd (in_nil x has);
-  written = λ s of. none_among (told_value c.args.mapped.now.told) of.is.is_told.lawful (given_value c.args.mapped.now.given) c.args.mapped.now.outline.now.roots s c.args.asides.now;
+  written = λ s of. none_among (told_value c.args.mapped.now.told) of.is.is_told.lawful (code_given_value c.args.mapped.now.given) c.args.mapped.now.outline.now.roots s c.args.asides.now;
 }
 
 pub push_told_asides-requires-clause-low : goal.push_told_asides-requires-clause-low
@@ -30,7 +30,7 @@ pub loop-function-preserved : goal.loop-function-preserved
 loop-function-preserved g c =
     let mapped = c.args.mapped.now in
     let told = told_value mapped.told in
-    let given = given_value mapped.given in
+    let given = code_given_value mapped.given in
     let rs = c.records-records.result.now in
     let k = c.loop-function.function-index in
     let r = c.function-item.result in
@@ -61,7 +61,7 @@ returns g c =
     (λ last s of. (
     let mapped = c.args.mapped.now in
     let told = told_value mapped.told in
-    let given = given_value mapped.given in
+    let given = code_given_value mapped.given in
     let rs = c.records-records.result.now in
     let k = c.loop-function.function-index in
     let was = c.loop-function.invariant in

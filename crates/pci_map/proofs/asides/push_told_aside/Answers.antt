@@ -8,8 +8,8 @@ use Rattle.judge_spec.specs.ToldRegion.{ToldRegion}
 use Rattle.judge_spec.specs.Lines.{IsOutOfPlace}
 use Rattle.judge_spec.specs.Regions.{OfLine}
 use Rattle.pci_base.specs.Space.{space_of}
-use Rattle.pci_claims.specs.Values.{given_value}
-use Rattle.pci_map.specs.Seats.{told_of}
+use Rattle.pci_claims.specs.Values.{code_given_value}
+use Rattle.pci_map.specs.Seats.{told_region_value}
 use Rattle.pci_map.specs.Left.{IsLeftIf}
 use Rattle.pci_map.specs.Asides.{IsTheRange, AsideTexts, AreAsides}
 use Rattle.pci_map.proofs.Places.{first_there}
@@ -18,8 +18,8 @@ use Rattle.pci_map.proofs.asides.push_told_aside.Goals as goal
 
 pub returns-then-is_line_outside : goal.returns-then-is_line_outside
 returns-then-is_line_outside g c = λ told t s of ways is.
-    let x : ToldRegion = told_of c.args.line.now in
-    let given = given_value c.args.routes.now.given in
+    let x : ToldRegion = told_region_value c.args.line.now in
+    let given = code_given_value c.args.routes.now.given in
     let out = subst (λ b. MatchBool b (IsOutOfPlace told given t.roots s (OfLine x)) (IsOutOfPlace told given t.roots s (OfLine x) → ⊥)) c.if-is_line_outside.true (c.is_line_outside.ensures told given t s of.sent of.is_told is) in
     subst (λ (old : AsideTexts). AreAsides told given t.roots s (IsTheRange x) old record { outside = string_bytes c.push_told_line.new.text; unreached = string_bytes c.asides.inside.unreached })
     c.asides.view_is
@@ -27,8 +27,8 @@ returns-then-is_line_outside g c = λ told t s of ways is.
 
 pub returns-then-not-is_left : goal.returns-then-not-is_left
 returns-then-not-is_left g c = λ told t s of ways is.
-    let x : ToldRegion = told_of c.args.line.now in
-    let given = given_value c.args.routes.now.given in
+    let x : ToldRegion = told_region_value c.args.line.now in
+    let given = code_given_value c.args.routes.now.given in
     let within = subst (λ b. MatchBool b (IsOutOfPlace told given t.roots s (OfLine x)) (IsOutOfPlace told given t.roots s (OfLine x) → ⊥)) c.if-is_line_outside.false (c.is_line_outside.ensures told given t s of.sent of.is_told is) in
     let first : x.told.first ≡ c.range.result.first = sym (ap (λ (r : Range). r.first) c.range.ensures) in
     range_reached told given t.roots s x is c.args.asides.now.outside c.args.asides.now.unreached within
@@ -38,8 +38,8 @@ returns-then-not-is_left g c = λ told t s of ways is.
 
 pub returns : goal.returns
 returns g c = λ told t s of ways is.
-    let x : ToldRegion = told_of c.args.line.now in
-    let given = given_value c.args.routes.now.given in
+    let x : ToldRegion = told_region_value c.args.line.now in
+    let given = code_given_value c.args.routes.now.given in
     let within = subst (λ b. MatchBool b (IsOutOfPlace told given t.roots s (OfLine x)) (IsOutOfPlace told given t.roots s (OfLine x) → ⊥)) c.if-is_line_outside.false (c.is_line_outside.ensures told given t s of.sent of.is_told is) in
     let first : x.told.first ≡ c.range.result.first = sym (ap (λ (r : Range). r.first) c.range.ensures) in
     subst (λ (old : AsideTexts). AreAsides told given t.roots s (IsTheRange x) old record { outside = string_bytes c.asides.inside.outside; unreached = string_bytes c.push_told_line-2.new.text })

@@ -3,7 +3,7 @@ use Rattle.std.specs.List.{slice_get}
 use Rattle.std.proofs.lemmas.Option.{slice_get-get_or}
 use Rattle.judge_spec.specs.ToldForm.{blank}
 use Rattle.judge_spec.specs.ToldRegion.{ToldRegion, IsToldIn}
-use Rattle.pci_claims.specs.Values.{given_value, told_value}
+use Rattle.pci_claims.specs.Values.{code_given_value, told_value}
 use Rattle.pci_claims.proofs.AllClaiming.{on_at}
 use Rattle.pci_map.specs.Asides.{IsRangeFrom, AreAsides}
 use Rattle.pci_map.proofs.Asciis.{told_facts}
@@ -25,14 +25,14 @@ invariant_of-line g c =
 pub loop-i-init : goal.loop-i-init
 loop-i-init g c = record {
   from = omega arith;
-  written = λ s of ways. no_range_aside (told_value c.args.mapped.now.told) of.is_told.lawful (given_value c.args.routes.now.given) c.args.mapped.now.outline.now.roots s c.args.first c.args.asides.now;
+  written = λ s of ways. no_range_aside (told_value c.args.mapped.now.told) of.is_told.lawful (code_given_value c.args.routes.now.given) c.args.mapped.now.outline.now.roots s c.args.first c.args.asides.now;
 }
 
 pub loop-i-preserved : goal.loop-i-preserved
 loop-i-preserved g c =
     let mapped = c.args.mapped.now in
     let told = told_value mapped.told in
-    let given = given_value c.args.routes.now.given in
+    let given = code_given_value c.args.routes.now.given in
     let t = mapped.outline.now in
     let ranges = mapped.told.ranges.now in
     let i = c.loop-i.i in

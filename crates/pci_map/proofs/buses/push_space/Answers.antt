@@ -3,7 +3,7 @@ use Rattle.std.specs.String.{string_bytes}
 use Rattle.std.proofs.lemmas.List.{nil_from_length}
 use Rattle.pci_base.specs.Space.{space_of}
 use Rattle.pci_base.specs.declared.range.Range.{Range}
-use Rattle.pci_claims.specs.Values.{given_value, told_value}
+use Rattle.pci_claims.specs.Values.{code_given_value, told_value}
 use Rattle.pci_map.specs.declared.seat.Seat.{Seat}
 use Rattle.pci_map.specs.Seats.{AreSortedSeatsOf}
 use Rattle.pci_map.proofs.SpaceTexts.{told_none, told_some}
@@ -13,7 +13,7 @@ pub returns-then-is_empty-3 : goal.returns-then-is_empty-3
 returns-then-is_empty-3 g c = λ s of is_root.
     let mapped = c.args.mapped.now in
     let told = told_value mapped.told in
-    let given = given_value mapped.given in
+    let given = code_given_value mapped.given in
     let space = space_of c.args.space in
     let all : List Seat = c.in_ok-all.all.items in
     let qs : List Seat = c.in_ok-regions.regions.items in
@@ -31,7 +31,7 @@ pub returns : goal.returns
 returns g c = λ s of is_root.
     let mapped = c.args.mapped.now in
     let told = told_value mapped.told in
-    let given = given_value mapped.given in
+    let given = code_given_value mapped.given in
     let space = space_of c.args.space in
     let all : List Seat = c.in_ok-all.all.items in
     let qs : List Seat = c.in_ok-regions.regions.items in

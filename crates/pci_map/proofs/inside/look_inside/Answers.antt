@@ -3,7 +3,7 @@ use Rattle.std.specs.List.{filter}
 use Rattle.pci_spec.specs.Decoded.{HasRecords, Record}
 use Rattle.pci_base.specs.Space.{space_of}
 use Rattle.pci_tree.specs.declared.region.Region.{Region}
-use Rattle.pci_claims.specs.Values.{given_value, told_value}
+use Rattle.pci_claims.specs.Values.{code_given_value, told_value}
 use Rattle.pci_map.specs.declared.seat.Seat.{Seat}
 use Rattle.pci_map.specs.Seats.{AreSortedSeatsOf}
 use Rattle.pci_map.specs.Above.{AreInPlace}
@@ -20,12 +20,12 @@ returns-in_default g c = λ s of is window.
 pub returns-in_default-bridge : goal.returns-in_default-bridge
 returns-in_default-bridge g c = λ s of is window.
     no_bridge s c.records.result.now (space_of c.args.space) c.args.window.now (subst (λ (rs : List Record). HasRecords s rs) (sym c.records.ensures.value) of.tree.records) is
-    c.records.ensures.rising window c.in-Some.function.now c.in-Some.ensures.0 c.in-Some.ensures.1 (given_value c.args.mapped.now.given) c.in_default-bridge.is
+    c.records.ensures.rising window c.in-Some.function.now c.in-Some.ensures.0 c.in-Some.ensures.1 (code_given_value c.args.mapped.now.given) c.in_default-bridge.is
 
 pub returns : goal.returns
 returns g c = λ s of is window.
     let told = told_value c.args.mapped.now.told in
-    let given = given_value c.args.mapped.now.given in
+    let given = code_given_value c.args.mapped.now.given in
     let qs : List Seat = c.in_ok-all.all.items in
     let w : Region = c.args.window.now in
     let space = space_of c.args.space in

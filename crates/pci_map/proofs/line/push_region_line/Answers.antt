@@ -6,7 +6,7 @@ use Rattle.pci_spec.specs.Listing.{range_text}
 use Rattle.pci_spec.specs.Why.{amount_text, address_count}
 use Rattle.judge_spec.specs.MapText.{part_name}
 use Rattle.pci_base.specs.Space.{space_of}
-use Rattle.pci_map.specs.Values.{part_of, value_of}
+use Rattle.pci_map.specs.Values.{region_part, value_of}
 use Rattle.pci_map.proofs.Asciis.{none_ascii, behind_ascii, extent_ascii, name_ascii, isa_ascii, space_ascii, end_ascii}
 use Rattle.pci_map.proofs.LineTexts.{line_pushed, region_cells}
 use Rattle.pci_map.proofs.line.push_region_line.Goals as goal
@@ -17,7 +17,7 @@ push_cells-requires g c =
     let none = subst IsAscii (sym c.new-cells.ensures) none_ascii in
     let extent = behind_ascii _ _ _ none (extent_ascii _ (space_of c.args.space) q.range (amount_text (address_count q.range)) c.put_extent.ensures.ascii) c.put_extent.ensures.text in
     let space = behind_ascii _ _ _ extent space_ascii c.push.ensures.items in
-    let name = behind_ascii _ _ _ space (name_ascii (part_of c.args.region.now) c.args.region.now.prefetch) c.put_name.ensures.text in
+    let name = behind_ascii _ _ _ space (name_ascii (region_part c.args.region.now) c.args.region.now.prefetch) c.put_name.ensures.text in
     let space-2 = behind_ascii _ _ _ name space_ascii c.push-2.ensures.items in
     let slot = behind_ascii _ _ _ space-2 c.put_slot.ensures.ascii c.put_slot.ensures.text in
     let space-3 = behind_ascii _ _ _ slot space_ascii c.push-3.ensures.items in

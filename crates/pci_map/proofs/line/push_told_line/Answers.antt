@@ -9,14 +9,14 @@ use Rattle.judge_spec.specs.ToldRegion.{told_extent}
 use Rattle.judge_spec.specs.MapText.{indent, told_part_name}
 use Rattle.pci_base.specs.Ranges.{decoded_range_of}
 use Rattle.pci_base.specs.Space.{space_of}
-use Rattle.pci_map.specs.Seats.{told_of}
+use Rattle.pci_map.specs.Seats.{told_region_value}
 use Rattle.pci_map.proofs.Asciis.{none_ascii, behind_ascii, extent_ascii, told_ascii, ending_ascii, space_ascii, end_ascii}
 use Rattle.pci_map.proofs.LineTexts.{line_pushed, told_cells}
 use Rattle.pci_map.proofs.line.push_told_line.Goals as goal
 
 pub push_cells-requires : goal.push_cells-requires
 push_cells-requires g c =
-    let x = told_of c.args.line.now in
+    let x = told_region_value c.args.line.now in
     let r = decoded_range_of c.range.result in
     let none = subst IsAscii (sym c.new-cells.ensures) none_ascii in
     let extent = behind_ascii _ _ _ none (extent_ascii _ (space_of c.space.result) r (amount_text (address_count r)) c.put_extent.ensures.ascii) c.put_extent.ensures.text in
@@ -31,7 +31,7 @@ push_cells-requires g c =
 
 pub returns : goal.returns
 returns g c =
-    let x = told_of c.args.line.now in
+    let x = told_region_value c.args.line.now in
     let r = told_extent x.told in
     let extent : indent (c.args.depth % 32) ++ (range_text (space_of c.space.result) (decoded_range_of c.range.result) ++ (32 ∷ amount_text (address_count (decoded_range_of c.range.result))))
     ≡ indent (c.args.depth % 32) ++ (range_text x.told.space r ++ (32 ∷ amount_text (address_count r))) = λ i. indent (c.args.depth % 32) ++ (range_text (c.space.ensures i) (decoded_range_of (c.range.ensures i)) ++ (32 ∷ amount_text (address_count (decoded_range_of (c.range.ensures i))))) in

@@ -6,7 +6,7 @@ use Rattle.std.proofs.lemmas.List.Elements.{Contains-get_or}
 use Rattle.pci_spec.specs.Decoded.{HasRecords, Record as Decoded}
 use Rattle.pci_function.specs.declared.record.Record.{Record}
 use Rattle.pci_tree.proofs.Lifting.{Has, function_for}
-use Rattle.pci_claims.specs.Values.{given_value, taking_value}
+use Rattle.pci_claims.specs.Values.{code_given_value, taking_value}
 use Rattle.pci_map.specs.Takers.{MayTake, IsTaker}
 use Rattle.pci_map.proofs.TakerLists.{none_yet, one_none, one_taker, all_takers, no_takers}
 use Rattle.pci_map.proofs.takers.find_takers.Goals.{in-Some+in_ok-push, in_default}
@@ -15,14 +15,14 @@ use Rattle.pci_map.proofs.takers.find_takers.Goals as goal
 pub returns-then-is_empty : goal.returns-then-is_empty
 returns-then-is_empty g c = λ s tree.
     let none : length c.args.given.now.unclaimed.now ≡ 0 = search rules in
-    no_takers (given_value c.args.given.now) c.args.outline.now.roots s c.new-takers.result.items (ap (map taking_value) (nil_from_length c.args.given.now.unclaimed.now none)) c.new-takers.ensures.items
+    no_takers (code_given_value c.args.given.now) c.args.outline.now.roots s c.new-takers.result.items (ap (map taking_value) (nil_from_length c.args.given.now.unclaimed.now none)) c.new-takers.ensures.items
 
 pub loop-function-init : goal.loop-function-init
-loop-function-init g c = λ s tree. none_yet (given_value c.args.given.now) c.args.outline.now.roots s c.new-takers.result.items c.new-takers.ensures.items
+loop-function-init g c = λ s tree. none_yet (code_given_value c.args.given.now) c.args.outline.now.roots s c.new-takers.result.items c.new-takers.ensures.items
 
 pub loop-function-preserved : goal.loop-function-preserved
 loop-function-preserved g c = λ s tree.
-    let given = given_value c.args.given.now in
+    let given = code_given_value c.args.given.now in
     let roots = c.args.outline.now.roots in
     let rs : List Record = c.records-function-items.result.now in
     let k = c.loop-function.function-index in
@@ -43,5 +43,5 @@ loop-function-preserved g c = λ s tree.
 
 pub returns : goal.returns
 returns g c = λ s tree.
-    all_takers (given_value c.args.given.now) c.args.outline.now.roots s c.records-function-items.result.now c.loop-function.function-index c.loop-function.takers.items
+    all_takers (code_given_value c.args.given.now) c.args.outline.now.roots s c.records-function-items.result.now c.loop-function.function-index c.loop-function.takers.items
     (subst (λ (xs : List Decoded). HasRecords s xs) (sym c.records-function-items.ensures.value) tree.records) c.loop-function-test.false (c.loop-function.invariant s tree)

@@ -1,14 +1,14 @@
 use Rattle.std.proofs.Common.{refl, sym, ◌∙◌}
-use Rattle.pci_claims.specs.Values.{given_value}
+use Rattle.pci_claims.specs.Values.{code_given_value}
 use Rattle.pci_tree.proofs.Lifting.{same_slot_of}
 use Rattle.pci_map.proofs.TakerLists.{no_bridge, not_given, taker_is}
 use Rattle.pci_map.proofs.takers.taker_of.Goals as goal
 
 pub returns-in_default : goal.returns-in_default
-returns-in_default g c = λ s tree f listed same. no_bridge (given_value c.args.given.now) c.args.function.now f same c.in_default.is
+returns-in_default g c = λ s tree f listed same. no_bridge (code_given_value c.args.given.now) c.args.function.now f same c.in_default.is
 
 pub returns-then-not-is_taking : goal.returns-then-not-is_taking
-returns-then-not-is_taking g c = λ s tree f listed same. not_given (given_value c.args.given.now) c.args.function.now f same (sym c.is_taking.ensures ∙ c.if-not-is_taking.true)
+returns-then-not-is_taking g c = λ s tree f listed same. not_given (code_given_value c.args.given.now) c.args.function.now f same (sym c.is_taking.ensures ∙ c.if-not-is_taking.true)
 
 pub returns : goal.returns
 returns g c = λ s tree f listed same.

@@ -5,7 +5,7 @@ use Rattle.std.proofs.lemmas.List.{nil_from_length}
 use Rattle.std.proofs.lemmas.Result.{on_ok_weaker}
 use Rattle.pci_base.specs.Space.{space_of}
 use Rattle.pci_base.specs.declared.range.Range.{Range}
-use Rattle.pci_claims.specs.Values.{given_value, told_value}
+use Rattle.pci_claims.specs.Values.{code_given_value, told_value}
 use Rattle.pci_map.specs.declared.seat.Seat.{Seat}
 use Rattle.pci_map.specs.Values.{Mapped}
 use Rattle.pci_map.specs.Walk.{merged, ArePlacesWritten}
@@ -34,14 +34,14 @@ pub returns-in_default : goal.returns-in_default
 returns-in_default g c = λ s root of listed below.
     let mapped = c.args.walk.now.mapped.now in
     let it = of.takers_are.each c.args.taker listed in
-    let way = way_here (given_value mapped.given) mapped.outline.now.roots s mapped.ways.now c.args.taker.bus c.index-ways-bus.result None (search rules) c.index-ways-bus.is c.in_default.is of.ways_are in
+    let way = way_here (code_given_value mapped.given) mapped.outline.now.roots s mapped.ways.now c.args.taker.bus c.index-ways-bus.result None (search rules) c.index-ways-bus.is c.in_default.is of.ways_are in
     absurd (none_to_root mapped.outline.now.roots s of.is.sent.tree.nested c.args.taker.bus it.0 (it.1, it.2.bridge, it.2.behind) way)
 
 pub returns-then-is_empty : goal.returns-then-is_empty
 returns-then-is_empty g c = λ s root of listed below.
     let mapped = c.args.walk.now.mapped.now in
     let told = told_value mapped.told in
-    let given = given_value mapped.given in
+    let given = code_given_value mapped.given in
     let roots = mapped.outline.now.roots in
     let bus = c.args.taker.bus in
     let it = of.takers_are.each c.args.taker listed in
@@ -60,7 +60,7 @@ returns g c =
     (λ last s root of listed below. (
     let mapped = c.args.walk.now.mapped.now in
     let told = told_value mapped.told in
-    let given = given_value mapped.given in
+    let given = code_given_value mapped.given in
     let roots = mapped.outline.now.roots in
     let space = space_of c.args.walk.now.space in
     let bus = c.args.taker.bus in

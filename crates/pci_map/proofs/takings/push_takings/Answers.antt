@@ -2,7 +2,7 @@ use Rattle.std.proofs.Common.{◌≡◌, ap, subst, sym}
 use Rattle.std.specs.String.{string_bytes}
 use Rattle.std.proofs.lemmas.List.{take_all}
 use Rattle.pci_base.specs.Space.{space_of}
-use Rattle.pci_claims.specs.Values.{given_value, told_value}
+use Rattle.pci_claims.specs.Values.{code_given_value, told_value}
 use Rattle.pci_map.specs.declared.takers.Taker.{Taker}
 use Rattle.pci_map.specs.Buses.{AreTakingsTold}
 use Rattle.pci_map.proofs.TakingLines.{no_takings, listed, one_taking, its_root, none_taking}
@@ -12,13 +12,13 @@ use Rattle.pci_map.proofs.takings.push_takings.Goals.{then-taker-root+in_ok-push
 pub loop-taker-init : goal.loop-taker-init
 loop-taker-init g c = λ s of is_root.
     let mapped = c.args.walk.now.mapped.now in
-    no_takings (told_value mapped.told) (given_value mapped.given) mapped.outline.now.roots s (space_of c.args.walk.now.space) c.args.root (string_bytes c.args.text.now)
+    no_takings (told_value mapped.told) (code_given_value mapped.given) mapped.outline.now.roots s (space_of c.args.walk.now.space) c.args.root (string_bytes c.args.text.now)
 
 pub loop-taker-preserved : goal.loop-taker-preserved
 loop-taker-preserved g c = λ s of is_root.
     let mapped = c.args.walk.now.mapped.now in
     let told = told_value mapped.told in
-    let given = given_value mapped.given in
+    let given = code_given_value mapped.given in
     let roots = mapped.outline.now.roots in
     let space = space_of c.args.walk.now.space in
     let k = c.loop-taker.taker-index in
@@ -38,5 +38,5 @@ loop-taker-preserved g c = λ s of is_root.
 pub returns : goal.returns
 returns g c = λ s of is_root.
     let mapped = c.args.walk.now.mapped.now in
-    subst (λ takers. AreTakingsTold record { told = told_value mapped.told; given = given_value mapped.given; roots = mapped.outline.now.roots; system = s; space = space_of c.args.walk.now.space } c.args.root takers (string_bytes c.args.text.now) (string_bytes c.loop-taker.text))
+    subst (λ takers. AreTakingsTold record { told = told_value mapped.told; given = code_given_value mapped.given; roots = mapped.outline.now.roots; system = s; space = space_of c.args.walk.now.space } c.args.root takers (string_bytes c.args.text.now) (string_bytes c.loop-taker.text))
     (take_all c.loop-taker.taker-index mapped.takers.now c.loop-taker-test.false) (c.loop-taker.invariant s of is_root)

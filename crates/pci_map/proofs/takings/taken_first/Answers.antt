@@ -6,7 +6,7 @@ use Rattle.std.proofs.lemmas.List.Elements.{Contains-get_or}
 use Rattle.pci_spec.specs.System.{IsAddress}
 use Rattle.pci_base.specs.Space.{space_of}
 use Rattle.pci_map.specs.declared.seat.Seat.{Seat}
-use Rattle.pci_map.specs.Seats.{AreKept, seat_first}
+use Rattle.pci_map.specs.Seats.{AreFilteredSeats, seat_first}
 use Rattle.pci_map.specs.Takers.{IsTakenFirst}
 use Rattle.pci_map.proofs.Keeping.{none_kept, one_kept, one_dropped}
 use Rattle.pci_map.proofs.Values.{seat_address}
@@ -16,7 +16,7 @@ use Rattle.pci_map.proofs.takings.taken_first.Goals.{then-is_taken_first+in_ok-a
 pub loop-seat-init : goal.loop-seat-init
 loop-seat-init g c = λ told given t s bus tree is_told on above.
     let space = space_of c.args.space in
-    subst (λ (xs : List Seat). AreKept (λ q. IsTakenFirst given space above.bridge.b (seat_first q)) space [] xs) (sym c.in-Ok.ensures.items)
+    subst (λ (xs : List Seat). AreFilteredSeats (λ q. IsTakenFirst given space above.bridge.b (seat_first q)) space [] xs) (sym c.in-Ok.ensures.items)
     (none_kept (λ q. IsTakenFirst given space above.bridge.b (seat_first q)) space)
 
 pub loop-seat-preserved : goal.loop-seat-preserved
@@ -42,5 +42,5 @@ loop-seat-preserved g c = λ told given t s bus tree is_told on above.
 pub returns : goal.returns
 returns g c = λ told given t s bus tree is_told on above.
     let space = space_of c.args.space in
-    subst (λ (xs : List Seat). AreKept (λ q. IsTakenFirst given space above.bridge.b (seat_first q)) space xs c.loop-seat.out.items) (take_all c.loop-seat.seat-index c.args.seats.now c.loop-seat-test.false)
+    subst (λ (xs : List Seat). AreFilteredSeats (λ q. IsTakenFirst given space above.bridge.b (seat_first q)) space xs c.loop-seat.out.items) (take_all c.loop-seat.seat-index c.args.seats.now c.loop-seat-test.false)
     (c.loop-seat.invariant told given t s bus tree is_told on above)

@@ -1,7 +1,7 @@
 use Rattle.std.proofs.Common.{◌≡◌, length, subst, sym}
 use Rattle.std.specs.String.{string_bytes}
 use Rattle.pci_claims.specs.ToldOn.{AreOnIn}
-use Rattle.pci_claims.specs.Values.{given_value, told_value}
+use Rattle.pci_claims.specs.Values.{code_given_value, told_value}
 use Rattle.pci_map.specs.Above.{AreSentAbove}
 use Rattle.pci_map.specs.Ways.{AreWays}
 use Rattle.pci_map.specs.Takers.{AreTakers}
@@ -27,7 +27,7 @@ push_off-requires g c = record { lawful = c.requires; each_on = subst (AreOnIn (
 pub returns : goal.returns
 returns g c = λ s tree listed.
     let told = told_value c.args.told.now in
-    let given = given_value c.args.given.now in
+    let given = code_given_value c.args.given.now in
     let roots = c.args.outline.now.roots in
     let sent = c.in_ok-above.ensures s tree.records in
     let of : IsSystemWith told given c.args.outline.now c.as_slice-2.result.now c.as_slice-3.result.now c.as_slice-4.result.now s =

@@ -5,7 +5,7 @@ use Rattle.pci_base.specs.Space.{space_of}
 use Rattle.pci_tree.specs.declared.region.Part.TheVariants.{Window}
 use Rattle.pci_tree.specs.declared.region.Region.{Region}
 use Rattle.pci_tree.specs.Regions.{IsRegionOn}
-use Rattle.pci_claims.specs.Values.{given_value, told_value}
+use Rattle.pci_claims.specs.Values.{code_given_value, told_value}
 use Rattle.pci_map.specs.Seats.{IsSeatOn}
 use Rattle.pci_map.specs.Values.{Mapped, mapped_of}
 use Rattle.pci_map.specs.Inside.{AreInsideWindow}
@@ -26,7 +26,7 @@ returns-in_default-2-clause-inside g c = λ s of on.
     let w : Region = c.in-Own.region in
     let window : w.part ≡ Window = search rules in
     let on_w : IsRegionOn s c.args.bus (space_of walk.space) w = subst (IsSeatOn (told_value mapped.told) s c.args.bus (space_of walk.space)) c.in-Own.is on in
-    let m : Mapped = mapped_of (told_value mapped.told) (given_value mapped.given) mapped.outline.now s (space_of walk.space) in
+    let m : Mapped = mapped_of (told_value mapped.told) (code_given_value mapped.given) mapped.outline.now s (space_of walk.space) in
     absurd (subst (λ o. MatchOption o ⊥ (λ i. AreInsideWindow m w i.bus i.regions.items i.runs.items)) c.in_default-2.is
     (c.in_ok-inside.ensures s of (told_region s c.args.bus (space_of walk.space) w on_w) window))
 
@@ -37,7 +37,7 @@ returns-then-inside-bus-clause-inside g c = λ s of on.
     let w : Region = c.in-Own.region in
     let window : w.part ≡ Window = search rules in
     let on_w : IsRegionOn s c.args.bus (space_of walk.space) w = subst (IsSeatOn (told_value mapped.told) s c.args.bus (space_of walk.space)) c.in-Own.is on in
-    let m : Mapped = mapped_of (told_value mapped.told) (given_value mapped.given) mapped.outline.now s (space_of walk.space) in
+    let m : Mapped = mapped_of (told_value mapped.told) (code_given_value mapped.given) mapped.outline.now s (space_of walk.space) in
     let inside = subst (λ o. MatchOption o ⊥ (λ i. AreInsideWindow m w i.bus i.regions.items i.runs.items)) c.in-Some.is
     (c.in_ok-inside.ensures s of (told_region s c.args.bus (space_of walk.space) w on_w) window) in
     let rises = inside.rises in
@@ -52,7 +52,7 @@ returns-clause-inside g c = λ s of on.
     let w : Region = c.in-Own.region in
     let window : w.part ≡ Window = search rules in
     let on_w : IsRegionOn s c.args.bus (space_of walk.space) w = subst (IsSeatOn (told_value mapped.told) s c.args.bus (space_of walk.space)) c.in-Own.is on in
-    let m : Mapped = mapped_of (told_value mapped.told) (given_value mapped.given) mapped.outline.now s (space_of walk.space) in
+    let m : Mapped = mapped_of (told_value mapped.told) (code_given_value mapped.given) mapped.outline.now s (space_of walk.space) in
     record {
       w = w;
       is = c.in-Own.is;

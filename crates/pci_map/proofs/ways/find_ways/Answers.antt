@@ -3,7 +3,7 @@ use Rattle.std.proofs.lemmas.List.{length_push}
 use Rattle.pci_spec.specs.Bus.{IsNested}
 use Rattle.pci_spec.specs.Decoded as decoded
 use Rattle.pci_spec.specs.Decoded.{HasRecords}
-use Rattle.pci_claims.specs.Values.{given_value}
+use Rattle.pci_claims.specs.Values.{code_given_value}
 use Rattle.pci_map.specs.Left.{HasAbove}
 use Rattle.pci_map.specs.Ways.{IsWayTo, AreWays}
 use Rattle.pci_map.proofs.Ups.{one_way_more}
@@ -19,8 +19,8 @@ loop-bus-preserved g c = record {
       (c.find_above-above.ensures s records (subst (λ (bs : List ℕ). IsNested bs s) (sym c.roots-roots.ensures) tree.nested)) in
       let before = c.loop-bus.invariant.ways s tree in
       let size = c.loop-bus.invariant.size in
-      let here = c.in_ok-way.ensures s tree (subst (AreWays (given_value c.args.given.now) roots s) (sym c.as_slice.ensures.value) before)
+      let here = c.in_ok-way.ensures s tree (subst (AreWays (code_given_value c.args.given.now) roots s) (sym c.as_slice.ensures.value) before)
       (subst (λ n. HasAbove roots s n c.find_above-above.result) (sym (ap length c.as_slice.ensures.value ∙ size)) above) in
-      one_way_more (given_value c.args.given.now) roots s c.loop-bus.ways.items c.push.new.self.items c.in_ok-way.way c.in_ok-push.ensures.items before
-      (subst (λ n. IsWayTo (given_value c.args.given.now) roots s n c.in_ok-way.way) (ap length c.as_slice.ensures.value) here));
+      one_way_more (code_given_value c.args.given.now) roots s c.loop-bus.ways.items c.push.new.self.items c.in_ok-way.way c.in_ok-push.ensures.items before
+      (subst (λ n. IsWayTo (code_given_value c.args.given.now) roots s n c.in_ok-way.way) (ap length c.as_slice.ensures.value) here));
 }

@@ -4,7 +4,7 @@ use Rattle.pci_spec.specs.Slot.{Slot}
 use Rattle.pci_base.specs.Space.{space_of}
 use Rattle.pci_tree.specs.declared.region.Region.{Region}
 use Rattle.pci_claims.specs.Found.{NoneClaims, IsFoundIn}
-use Rattle.pci_claims.specs.Values.{given_value}
+use Rattle.pci_claims.specs.Values.{code_given_value}
 use Rattle.judge_spec.specs.Regions.{Own}
 use Rattle.pci_map.specs.Values.{value_of}
 use Rattle.pci_map.proofs.Firsts.{found_region}
@@ -24,6 +24,6 @@ returns g c = λ s tree ways.
     (c.in_ok-window.ensures.found s tree.records) in record {
       found = found;
       cut = c.is_cut-cut.ensures;
-      judged = c.is_left-left.ensures (given_value c.args.given.now) c.args.outline.now s (Own (value_of space q)) tree ways (ap (λ (x : Slot). x.bus) found.slot_is ∙ sym c.bus.ensures) refl refl
+      judged = c.is_left-left.ensures (code_given_value c.args.given.now) c.args.outline.now s (Own (value_of space q)) tree ways (ap (λ (x : Slot). x.bus) found.slot_is ∙ sym c.bus.ensures) refl refl
           (first_address s space q (found_region s c.args.spot.slot c.args.spot.register space q found));
     }

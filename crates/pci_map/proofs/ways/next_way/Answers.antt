@@ -1,5 +1,5 @@
 use Rattle.std.proofs.Common.{subst, length, ◌≤◌, ap, inl, inr, rules}
-use Rattle.pci_claims.specs.Values.{given_value}
+use Rattle.pci_claims.specs.Values.{code_given_value}
 use Rattle.pci_map.specs.Left.{HasAbove}
 use Rattle.pci_map.specs.Windows.{BridgeWindows}
 use Rattle.pci_map.proofs.Ups.{low_way}
@@ -20,7 +20,7 @@ returns-in-Nothing g c = λ s tree ways has. inr record {
 pub returns-then-ways-bus : goal.returns-then-ways-bus
 returns-then-ways-bus g c = λ s tree ways has.
     let low : length c.args.ways.now ≤ c.in-Bridge.bridge.bus = search rules in
-    absurd (low_way (given_value c.args.given.now) c.args.outline.now.roots s (length c.args.ways.now) c.in-Bridge.bridge tree.nested (subst (HasAbove c.args.outline.now.roots s (length c.args.ways.now)) c.in-Bridge.is has) low)
+    absurd (low_way (code_given_value c.args.given.now) c.args.outline.now.roots s (length c.args.ways.now) c.in-Bridge.bridge tree.nested (subst (HasAbove c.args.outline.now.roots s (length c.args.ways.now)) c.in-Bridge.is has) low)
 
 pub returns-in_ok-windows-in-Bridge : goal.returns-in_ok-windows-in-Bridge
 returns-in_ok-windows-in-Bridge g c = λ s tree ways has. inl record {

@@ -3,7 +3,7 @@ use Rattle.std.proofs.lemmas.List.{length-map}
 use Rattle.pci_base.specs.declared.memory.Refused.TheVariants as refusals
 use Rattle.judge_spec.specs.Told.{IsTold}
 use Rattle.pci_claims.specs.Values.{legacy_value}
-use Rattle.pci_model_settle.specs.ClaimLines.{Kept, claim_lines, lines_with}
+use Rattle.pci_model_settle.specs.ClaimLines.{LinesWithOrigins, claim_lines, lines_with}
 use Rattle.pci_model_settle.specs.LineValues.{line_value}
 use Rattle.pci_model_settle.proofs.HeldLines.{lines_told, memory_is_other, not_refused, not_too_many, too_many}
 use Rattle.pci_model_settle.proofs.MergedLines.{kept_are, ranges_are, ranges_of_lines}
@@ -54,7 +54,7 @@ returns-in-Ok-kept-clause-can_be_told g c =
     let palette = map legacy_value c.args.palette.now in
     let claims = claim_lines legacy palette in
     let few : length lines ≤ 4096 = let size = length-map lines (λ l. (line_value l).range) in let room = c.requires.told.room in omega (arith, size, room) in
-    subst (λ (k : Kept). IsTold k.told) (sym (c.in-Ok-kept.ensures ∙ kept_are (map line_value lines) claims c.deref.result.now (ap (map line_value) c.deref.ensures.value ∙ c.in-Ok.ensures)))
+    subst (λ (k : LinesWithOrigins). IsTold k.told) (sym (c.in-Ok-kept.ensures ∙ kept_are (map line_value lines) claims c.deref.result.now (ap (map line_value) c.deref.ensures.value ∙ c.in-Ok.ensures)))
     (lines_told (map line_value lines) legacy palette (subst IsTold (ranges_of_lines lines) c.requires.told) c.requires.legacy c.requires.palette
     (not_too_many (map line_value lines) claims (length lines) c.is_room.result (sym (length-map lines line_value)) few c.is_room.ensures c.if-not-is_room.false))
 

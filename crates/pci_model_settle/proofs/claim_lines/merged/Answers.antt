@@ -1,6 +1,6 @@
 use Rattle.std.proofs.Common.{◌≡◌, ◌+◌, ◌<◌, ◌++◌, [], ◌∷◌, length, drop, arith, subst, sym, ap, ◌∙◌}
 use Rattle.std.proofs.lemmas.List.{length-drop}
-use Rattle.pci_model_settle.specs.ClaimLines.{merged}
+use Rattle.pci_model_settle.specs.ClaimLines.{merged_by_key}
 use Rattle.pci_model_settle.specs.LineValues.{key_of}
 use Rattle.pci_model_settle.proofs.MergedLines.{first_pushed, next_of_rest, next_some, other_some, second_pushed}
 use Rattle.pci_model_settle.proofs.claim_lines.merged.Goals as goal
@@ -12,7 +12,7 @@ loop-preserved g c =
     let ys = c.args.second.now in
     let i = c.loop.i in
     let j = c.loop.j in
-    let all = merged key_of xs ys in
+    let all = merged_by_key key_of xs ys in
     let count = c.loop.invariant.count in
     let low = c.loop.invariant.low in
     let high = c.loop.invariant.high in
@@ -32,8 +32,8 @@ loop-preserved g c =
             low = omega (arith, ei, within, size_x);
             high = omega (arith, ej, high);
             same =
-                subst (λ n. c.if-is_next.out.items ++ merged key_of (drop n xs) (drop c.if-is_next.j ys) ≡ all) (sym ei)
-                (subst (λ n. c.if-is_next.out.items ++ merged key_of (drop (i + 1) xs) (drop n ys) ≡ all) (sym ej)
+                subst (λ n. c.if-is_next.out.items ++ merged_by_key key_of (drop n xs) (drop c.if-is_next.j ys) ≡ all) (sym ei)
+                (subst (λ n. c.if-is_next.out.items ++ merged_by_key key_of (drop (i + 1) xs) (drop n ys) ≡ all) (sym ej)
                 (first_pushed xs ys c.loop.out.items c.if-is_next.out.items all i j w.index-first-i.result next some c.loop.invariant.same pushed));
           }
       | else-is_next+in_ok-push-2 w ↦
@@ -47,8 +47,8 @@ loop-preserved g c =
             low = omega (arith, ei, low);
             high = omega (arith, ej, within, size_y);
             same =
-                subst (λ n. c.if-is_next.out.items ++ merged key_of (drop n xs) (drop c.if-is_next.j ys) ≡ all) (sym ei)
-                (subst (λ n. c.if-is_next.out.items ++ merged key_of (drop i xs) (drop n ys) ≡ all) (sym ej)
+                subst (λ n. c.if-is_next.out.items ++ merged_by_key key_of (drop n xs) (drop c.if-is_next.j ys) ≡ all) (sym ei)
+                (subst (λ n. c.if-is_next.out.items ++ merged_by_key key_of (drop i xs) (drop n ys) ≡ all) (sym ej)
                 (second_pushed xs ys c.loop.out.items c.if-is_next.out.items all i j w.index-second-j.result other c.loop.invariant.same pushed));
           }
     ]

@@ -5,7 +5,7 @@ use Rattle.pci_tree.specs.Admission.{Admission}
 use Rattle.pci_place.specs.Above.{system_in}
 use Rattle.pci_plan.specs.Comparing.{StartsAs, IsStartFault, moment}
 use Rattle.pci_plan.specs.Making.{IsApplyStop}
-use Rattle.pci_plan.specs.Applying.{writes_made, ReadBackBy, IsApplyFault}
+use Rattle.pci_plan.specs.Applying.{writes_applied, ReadBackBy, IsApplyFault}
 use Rattle.pci_plan.proofs.Applied.{accesses, shows_start, start_fault, start_made, start_read_back, stop_fault, all_made, shows_final, made_by, read_back_by, ok_on_machine, left_sound, sound_while_read_back}
 use Rattle.pci_plan.proofs.apply.apply.Goals as goal
 
@@ -45,7 +45,7 @@ returns-in_err-compare-clause-own_machine g c =
 
 pub returns-in_err-compare-clause-sound : goal.returns-in_err-compare-clause-sound
 returns-in_err-compare-clause-sound g c = λ start from.
-    left_sound c.args.moving.now c.start.ensures.moves (writes_made c.args.moving.now.writes c.from_residual.result) (g.P.ConfigPort.targets c.args.port.now) (g.P.ConfigPort.targets c.compare.new.port)
+    left_sound c.args.moving.now c.start.ensures.moves (writes_applied c.args.moving.now.writes c.from_residual.result) (g.P.ConfigPort.targets c.args.port.now) (g.P.ConfigPort.targets c.compare.new.port)
     start (returns-in_err-compare-clause-made g c) from
 
 pub returns-in_err-compare-clause-sound_images : goal.returns-in_err-compare-clause-sound_images
@@ -67,7 +67,7 @@ returns-clause-made g c =
     let before : g.P.ConfigPort.targets c.compare.new.port ≡ g.P.ConfigPort.targets c.args.port.now = c.in_ok-compare.ensures.same in
     let made = made_by c.args.moving.now c.start.ensures.moves c.make.result c.writes.result.now (g.P.ConfigPort.targets c.compare.new.port) (g.P.ConfigPort.failures c.compare.new.port)
     (g.P.ConfigPort.targets c.make.new.port) (g.P.ConfigPort.failures c.make.new.port) c.writes.ensures.value c.make.ensures.made c.make.ensures.stop in
-    made ∙ ap (λ ts. after_writes ts (take (writes_made c.args.moving.now.writes c.make.result) c.args.moving.now.writes)) before
+    made ∙ ap (λ ts. after_writes ts (take (writes_applied c.args.moving.now.writes c.make.result) c.args.moving.now.writes)) before
 
 pub returns-clause-started : goal.returns-clause-started
 returns-clause-started g c =
@@ -126,7 +126,7 @@ returns-clause-own_machine g c =
 
 pub returns-clause-sound : goal.returns-clause-sound
 returns-clause-sound g c = λ start from.
-    left_sound c.args.moving.now c.start.ensures.moves (writes_made c.args.moving.now.writes c.make.result) (g.P.ConfigPort.targets c.args.port.now) (g.P.ConfigPort.targets c.make.new.port)
+    left_sound c.args.moving.now c.start.ensures.moves (writes_applied c.args.moving.now.writes c.make.result) (g.P.ConfigPort.targets c.args.port.now) (g.P.ConfigPort.targets c.make.new.port)
     start (returns-clause-made g c) from
 
 pub returns-clause-sound_images : goal.returns-clause-sound_images

@@ -17,7 +17,7 @@ use Rattle.pci_function.specs.declared.record.Record.{Record}
 use Rattle.pci_tree.proofs.RootLists.{set_rises}
 use Rattle.pci_place.specs.Above.{system_in}
 use Rattle.pci_place.specs.Pools.{pools_value}
-use Rattle.pci_place.specs.Records.{IsRecordOf}
+use Rattle.pci_place.specs.Records.{IsRecordInSystem}
 use Rattle.pci_place.proofs.Records.{same_count}
 use Rattle.pci_plan.proofs.PlannedDumps.{filling_at, function_here, tables_of, plannable_of}
 use Rattle.pci_plan.proofs.numbered.filled_image.Goals as goal
@@ -63,7 +63,7 @@ module _ (g : Over) (c : After-blocks-blocks g) where
         let count = same_length c.args.admitted.now.dump c.args.admitted.now.probe admitted_is.slots in
         get_or_default c.args.admitted.now.probe c.args.i b probe_block (let l = inside in omega (arith, count, l))
 
-    here : (slice_get (system_in c.args.admitted.now) c.args.i ≡ Some (function_of b probe_block)) × IsRecordOf (system_in c.args.admitted.now) (function_of b probe_block) r
+    here : (slice_get (system_in c.args.admitted.now) c.args.i ≡ Some (function_of b probe_block)) × IsRecordInSystem (system_in c.args.admitted.now) (function_of b probe_block) r
     here = function_here c.args.admitted.now.dump c.args.admitted.now.probe c.records-records.result.now c.args.i b probe_block r admitted_is.slots records_are inside b_at p_at r_is
 
 pub bounds-blocks-i : goal.bounds-blocks-i

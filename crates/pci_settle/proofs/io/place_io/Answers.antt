@@ -5,7 +5,7 @@ use Rattle.pci_place.specs.Above.{system_in}
 use Rattle.pci_first_fit.specs.Slots.{demand_value, demand_in_io}
 use Rattle.pci_base.specs.declared.memory.Refused.TheVariants as refused
 use Rattle.pci_settle_places.specs.Placed.{IsUnplacedOff}
-use Rattle.pci_kept.specs.Known.{asked_by}
+use Rattle.pci_kept.specs.Known.{asked_by_rules}
 use Rattle.pci_settle.specs.Lacks.{unplaced_class}
 use Rattle.pci_settle.proofs.HeldTables.{rest_can_be_left, leaving_rest}
 use Rattle.pci_settle.proofs.Refusals.{named}
@@ -14,7 +14,7 @@ use Rattle.pci_settle.proofs.io.place_io.Goals as goal
 
 pub returns-in_err-table-clause-fault : goal.returns-in_err-table-clause-fault
 returns-in_err-table-clause-fault g c =
-    let q = asked_by c.args.admitted.now.roots (demand_value c.args.lists.now) c.args.rules.now in
+    let q = asked_by_rules c.args.admitted.now.roots (demand_value c.args.lists.now) c.args.rules.now in
     let p = err_from_is_err_and c.from_residual.result c.from_residual.ensures.1 in
     rw (p.1, p.2) (alone_large c.args.admitted.now q c.in_err-table.field-0.0 c.in_err-table.ensures.fault)
 
@@ -27,7 +27,7 @@ place-requires g c =
 
 pub returns-in-Ok-clause-room : goal.returns-in-Ok-clause-room
 returns-in-Ok-clause-room g c =
-    let q = asked_by c.args.admitted.now.roots (demand_value c.args.lists.now) c.args.rules.now in
+    let q = asked_by_rules c.args.admitted.now.roots (demand_value c.args.lists.now) c.args.rules.now in
     let alone = demand_in_io (demand_value c.args.lists.now) in
     let leaving = leaving_rest c.args.admitted.now alone c.args.rules.now c.outline-outline.ensures.admitted c.records.result.now c.records.ensures.value c.outline-outline.ensures.records
     _ c.open_windows-over.ensures c.as_slice.result.now c.as_slice.ensures.value c.as_slice.ensures.value refl c.in_ok-table.ensures.stay in
@@ -44,7 +44,7 @@ fault_of-requires g c =
 
 pub returns-then-is_of_io-clause-fault : goal.returns-then-is_of_io-clause-fault
 returns-then-is_of_io-clause-fault g c =
-    let q = asked_by c.args.admitted.now.roots (demand_value c.args.lists.now) c.args.rules.now in
+    let q = asked_by_rules c.args.admitted.now.roots (demand_value c.args.lists.now) c.args.rules.now in
     let alone = demand_in_io (demand_value c.args.lists.now) in
     let leaving = leaving_rest c.args.admitted.now alone c.args.rules.now c.outline-outline.ensures.admitted c.records.result.now c.records.ensures.value c.outline-outline.ensures.records
     _ c.open_windows-over.ensures c.as_slice.result.now c.as_slice.ensures.value c.as_slice.ensures.value refl c.in_ok-table.ensures.stay in
@@ -56,7 +56,7 @@ returns-then-is_of_io-clause-fault g c =
 
 pub returns-clause-room : goal.returns-clause-room
 returns-clause-room g c =
-    let q = asked_by c.args.admitted.now.roots (demand_value c.args.lists.now) c.args.rules.now in
+    let q = asked_by_rules c.args.admitted.now.roots (demand_value c.args.lists.now) c.args.rules.now in
     let alone = demand_in_io (demand_value c.args.lists.now) in
     let leaving = leaving_rest c.args.admitted.now alone c.args.rules.now c.outline-outline.ensures.admitted c.records.result.now c.records.ensures.value c.outline-outline.ensures.records
     _ c.open_windows-over.ensures c.as_slice.result.now c.as_slice.ensures.value c.as_slice.ensures.value refl c.in_ok-table.ensures.stay in

@@ -15,7 +15,7 @@ use Rattle.pci_first_fit.specs.Slots.{Demand, demand_value}
 use Rattle.pci_settle_places.specs.Live.{HasAllPlaces}
 use Rattle.pci_settle.specs.declared.tables.Tables.{Tables}
 use Rattle.pci_settle.specs.Bounded.{AreBounds}
-use Rattle.pci_settle.specs.Dumps.{IsSettledBy, IsSettledDump}
+use Rattle.pci_settle.specs.Dumps.{IsSettledByWrites, IsSettledDump}
 use Rattle.pci_settle.specs.Endings.{AreAskedFor}
 use Rattle.pci_settle.specs.Fixed.{fixed_register}
 use Rattle.pci_settle.specs.PlacedBy.{IsPlacedBy}
@@ -60,7 +60,7 @@ module _ (g : Outer) (c : After-fixed_write g) (q : Request) (keep : Keeping) (b
     unwished = told.none;
   }
 
-  by : IsSettledBy q keep a c.in_ok-settled.field-0.settled.dump writes c.in_ok-settled.field-0.settled.writes.closings
+  by : IsSettledByWrites q keep a c.in_ok-settled.field-0.settled.dump writes c.in_ok-settled.field-0.settled.writes.closings
   by = c.in_ok-settled.ensures.settled q keep placed_by
 
   ways : AreClearAbove q s keep c.in_ok-settled.field-0.ways.items

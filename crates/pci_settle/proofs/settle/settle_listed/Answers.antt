@@ -4,7 +4,7 @@ use Rattle.std.proofs.lemmas.Bool.{and_parts, both_ways}
 use Rattle.std.proofs.lemmas.Result.{IfOk-weaker}
 use Rattle.judge_spec.specs.Told.{ToldRange}
 use Rattle.pci_first_fit.specs.Slots.{demand_value}
-use Rattle.pci_kept.specs.Known.{asked_by}
+use Rattle.pci_kept.specs.Known.{asked_by_rules}
 use Rattle.pci_settle.proofs.IoFirst.{empty_if}
 use Rattle.pci_settle.proofs.settle.settle_listed.Goals as goal
 
@@ -19,7 +19,7 @@ settle_rest-requires-clause-rest g c = λ anew untold.
 
 pub returns-then-is_all_moved-clause-ends : goal.returns-then-is_all_moved-clause-ends
 returns-then-is_all_moved-clause-ends g c =
-    let q = asked_by c.args.admitted.now.roots (demand_value c.args.lists.now) c.args.rules.now in
+    let q = asked_by_rules c.args.admitted.now.roots (demand_value c.args.lists.now) c.args.rules.now in
     let anew : c.args.rules.now.anew ≡ true = (and_parts c.args.rules.now.anew (length c.args.lists.now.told.ranges.now == 0) (sym c.is_all_moved.ensures ∙ c.if-is_all_moved.true)).0 in
     IfOk-weaker c.settle_all.result _ _
     (λ x ends. ends q record { roots_are = refl; demands_are = refl } anew c.requires.flags)

@@ -1,7 +1,7 @@
 use Rattle.std.proofs.Common.{sym, subst}
 use Rattle.pci_place.specs.Above.{system_in}
 use Rattle.pci_first_fit.specs.Slots.{demand_value}
-use Rattle.pci_kept.specs.Known.{asked_by}
+use Rattle.pci_kept.specs.Known.{asked_by_rules}
 use Rattle.pci_settle.specs.Ended.{ended_value}
 use Rattle.pci_settle.specs.ToldEndings.{HasEachFlag, KnowsTold}
 use Rattle.pci_settle.proofs.Outcomes.{ended_growing}
@@ -19,7 +19,7 @@ settle_grown-requires-clause-told g c = c.told.ensures.ranges
 pub settle_grown-requires-clause-bounds : goal.settle_grown-requires-clause-bounds
 settle_grown-requires-clause-bounds g c =
     let a = c.args.admitted.now in
-    let q = asked_by a.roots (demand_value c.args.lists.now) c.args.rules.now in record {
+    let q = asked_by_rules a.roots (demand_value c.args.lists.now) c.args.rules.now in record {
       fixed = c.requires.flags;
       told = subst (KnowsTold q (system_in a)) (sym c.told.ensures.value) c.in_ok-known.ensures.known;
     }
@@ -36,7 +36,7 @@ settle_ungrown-requires-clause-told g c = c.told.ensures.ranges
 pub settle_ungrown-requires-clause-bounds : goal.settle_ungrown-requires-clause-bounds
 settle_ungrown-requires-clause-bounds g c =
     let a = c.args.admitted.now in
-    let q = asked_by a.roots (demand_value c.args.lists.now) c.args.rules.now in record {
+    let q = asked_by_rules a.roots (demand_value c.args.lists.now) c.args.rules.now in record {
       fixed = c.requires.flags;
       told = subst (KnowsTold q (system_in a)) (sym c.told.ensures.value) c.in_ok-known.ensures.known;
     }
@@ -44,4 +44,4 @@ settle_ungrown-requires-clause-bounds g c =
 pub returns-in-Ok-clause-ends : goal.returns-in-Ok-clause-ends
 returns-in-Ok-clause-ends g c =
     let a = c.args.admitted.now in
-    ended_growing a (asked_by a.roots (demand_value c.args.lists.now) c.args.rules.now) (ended_value c.in-Ok.ended) c.in-Ok.ensures.ends
+    ended_growing a (asked_by_rules a.roots (demand_value c.args.lists.now) c.args.rules.now) (ended_value c.in-Ok.ended) c.in-Ok.ensures.ends

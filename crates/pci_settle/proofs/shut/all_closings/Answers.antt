@@ -24,13 +24,13 @@ use Rattle.pci_first_fit.specs.Own.{AreTerms}
 use Rattle.pci_settle_places.specs.Answers.{AreFlagsOfTold}
 use Rattle.pci_settle_places.specs.declared.answering.Answering.{Answering}
 use Rattle.pci_settle_places.proofs.Registers.{have_registers}
-use Rattle.pci_settle_places.specs.Images.{is_window_kept}
+use Rattle.pci_settle_places.specs.Images.{is_staying_window}
 use Rattle.pci_settle.specs.declared.closed.Closing.{Closing}
 use Rattle.pci_settle.specs.declared.shut.Around.{Around}
 use Rattle.pci_settle.specs.declared.way.Way.{Way}
 use Rattle.pci_settle.specs.Requests.{IsAskedOf}
 use Rattle.pci_settle.specs.Dumps.{IsSettledDump}
-use Rattle.pci_settle.specs.Shut.{IsWay, IsAround, in_space, in_class, is_shut_by, closing_by}
+use Rattle.pci_settle.specs.Shut.{IsWay, IsAroundFunction, flag_in_space, in_class, is_shut_by, closing_by}
 use Rattle.pci_settle.specs.Stages.{AreOf, AreSettledBlocks}
 use Rattle.pci_settle.proofs.States.{start_of, settled_of}
 use Rattle.pci_settle.proofs.Ways.{no_way as nothing_above, by_spaces, by_classes}
@@ -165,7 +165,7 @@ loop-k-preserved g c =
       ];
       closed = λ q keep by.
           let was = c.loop-k.invariant.closed q keep by in
-          let is_around : IsAround q s keep f around = record {
+          let is_around : IsAroundFunction q s keep f around = record {
             over = record {
               above = subst (λ n. IsAbove s f.slot.bus (get_or c.aboves-aboves.result n no_above)) (sym (c.from-in-loop-k.ensures ∙ bus)) (c.aboves-aboves.ensures f no_above here.is.listed);
               windows_are = subst (AreClassWindows q s f.slot.bus) (sym (c.open_over.ensures ∙ ap (λ n. get_or c.args.overs.now n no_windows) bus)) (by.overs_are f here.is.listed);
@@ -187,13 +187,13 @@ loop-k-preserved g c =
           let new_is : new ≡ (settled_function q s keep f).image = ap (λ (x : Block). x.image) (c.new.view_is ∙ sym c.index-images-k-in-loop-k.is)
           ∙ settled_image q roots s keep admitted.system admitted.nested k f r here.at here.is keep c.args.images.now.settled.now c.index-images-k-in-loop-k.result c.index-images-k-in-loop-k.is
           (settled g first q keep c.args.images.now.settled.now by.settled) in
-          let itself_by : (x : Space) → in_space c.shut_itself-itself.result x ≡ is_shut_by around x old new r =
-          by_spaces (λ x. in_space c.shut_itself-itself.result x ≡ is_shut_by around x old new r) c.shut_itself-itself.ensures.io c.shut_itself-itself.ensures.memory in
-          let shut_by : (x : Space) → in_space c.shut.result x ≡ (in_space c.shut_itself-itself.result x || not (in_space way.clear x)) =
-          by_spaces (λ x. in_space c.shut.result x ≡ (in_space c.shut_itself-itself.result x || not (in_space way.clear x))) c.shut.ensures.io c.shut.ensures.memory in
+          let itself_by : (x : Space) → flag_in_space c.shut_itself-itself.result x ≡ is_shut_by around x old new r =
+          by_spaces (λ x. flag_in_space c.shut_itself-itself.result x ≡ is_shut_by around x old new r) c.shut_itself-itself.ensures.io c.shut_itself-itself.ensures.memory in
+          let shut_by : (x : Space) → flag_in_space c.shut.result x ≡ (flag_in_space c.shut_itself-itself.result x || not (flag_in_space way.clear x)) =
+          by_spaces (λ x. flag_in_space c.shut.result x ≡ (flag_in_space c.shut_itself-itself.result x || not (flag_in_space way.clear x))) c.shut.ensures.io c.shut.ensures.memory in
           let kept = get_or c.args.tables.now.staying.now k nothing_kept in
-          let windows_by : (x : WindowKind) → in_class c.without.result x ≡ (not (is_window_kept kept.windows x) && in_class c.changed_windows-changed.result x) =
-          by_classes (λ x. in_class c.without.result x ≡ (not (is_window_kept kept.windows x) && in_class c.changed_windows-changed.result x)) c.without.ensures.io c.without.ensures.memory c.without.ensures.prefetchable in
+          let windows_by : (x : WindowKind) → in_class c.without.result x ≡ (not (is_staying_window kept.windows x) && in_class c.changed_windows-changed.result x) =
+          by_classes (λ x. in_class c.without.result x ≡ (not (is_staying_window kept.windows x) && in_class c.changed_windows-changed.result x)) c.without.ensures.io c.without.ensures.memory c.without.ensures.prefetchable in
           let After : Vec Way g.row.A.Denot → Type 0 = λ ways. AreClosedTo q roots s keep (k + 1) ways.items c.push.new.self.items in
           elim c.match-record.branch [
             | in-Some w ↦
@@ -201,8 +201,8 @@ loop-k-preserved g c =
                 (closed_more q roots s keep admitted.system admitted.nested k f r here.at here.is around is_around old plain new old_is plain_is new_is c.shut_itself-itself.result c.shut.result itself_by shut_by
                 c.changed_windows-changed.result c.without.result c.changed_windows-changed.ensures windows_by
                 c.loop-k.ways.items c.loop-k.each.items c.push.new.self.items was each w.in-Some.bridge w.in-Some.is w.from-in-Some.result w.from-in-Some.ensures w.and.result
-                (by_spaces (λ x. in_space w.and.result.on x ≡ (in_space way.on x && is_on r.command x)) w.and.ensures.io w.and.ensures.memory)
-                (by_spaces (λ x. in_space w.and.result.clear x ≡ (in_space way.clear x && not (in_space c.shut_itself-itself.result x))) w.and.ensures.clear_io w.and.ensures.clear_memory)
+                (by_spaces (λ x. flag_in_space w.and.result.on x ≡ (flag_in_space way.on x && is_on r.command x)) w.and.ensures.io w.and.ensures.memory)
+                (by_spaces (λ x. flag_in_space w.and.result.clear x ≡ (flag_in_space way.clear x && not (flag_in_space c.shut_itself-itself.result x))) w.and.ensures.clear_io w.and.ensures.clear_memory)
                 (by_classes (λ x. in_class w.and.result.same x ≡ (in_class way.same x && not (in_class c.changed_windows-changed.result x))) w.and.ensures.same_io w.and.ensures.same_memory w.and.ensures.same_prefetchable))
             | in_default w ↦
                 subst After (sym w.ways-is)

@@ -7,7 +7,7 @@ use Rattle.pci_plan.specs.Writes.{write_value}
 use Rattle.pci_first_fit.specs.Slots.{Demand, demand_value}
 use Rattle.pci_settle.specs.Requests.{request}
 use Rattle.pci_settle.specs.Denied.{denied_value, IsSpared}
-use Rattle.pci_settle.specs.Ended.{ended_value, IsEnded}
+use Rattle.pci_settle.specs.Ended.{ended_value, IsEndOfSettling}
 use Rattle.pci_settle.specs.Endings.{kept_after}
 use Rattle.pci_settle.specs.Sparing.{HaveSpares}
 use Rattle.pci_settle.proofs.Outcomes.{ended}
@@ -46,7 +46,7 @@ returns-then-is_empty-clause-spared g c =
     let q = request a.roots d c.args.rules.now.fixed.now c.args.rules.now.anew in
     let high = highest_of c.args.lists.now.pref.now c.requires.high in
     let o = ended_value c.in_ok-without.without in
-    let is = subst (λ (x : Demand). IsEnded (request a.roots x c.args.rules.now.fixed.now c.args.rules.now.anew) (kept_after (request a.roots x c.args.rules.now.fixed.now c.args.rules.now.anew) (system_in a)) a o) c.without_slots-alone.ensures c.in_ok-without.ensures.ends in
+    let is = subst (λ (x : Demand). IsEndOfSettling (request a.roots x c.args.rules.now.fixed.now c.args.rules.now.anew) (kept_after (request a.roots x c.args.rules.now.fixed.now c.args.rules.now.anew) (system_in a)) a o) c.without_slots-alone.ensures c.in_ok-without.ensures.ends in
     subst (λ dump. IsSpared q a dump (map write_value c.unspared.result.writes.all.items) c.unspared.result.writes.closings (map denied_value c.unspared.result.denied.items)) (sym c.unspared.ensures.dump)
     (subst (λ writes. IsSpared q a o.dump (map write_value writes.all.items) writes.closings (map denied_value c.unspared.result.denied.items)) (sym c.unspared.ensures.writes)
     (subst (λ denied. IsSpared q a o.dump o.writes o.closings (map denied_value denied)) (sym c.unspared.ensures.denied)
@@ -61,11 +61,11 @@ returns-clause-spared g c =
     let w = without_slots q in
     let high = highest_of c.args.lists.now.pref.now c.requires.high in
     let o = ended_value c.in_ok-without.without in
-    let is = subst (λ (x : Demand). IsEnded (request a.roots x c.args.rules.now.fixed.now c.args.rules.now.anew) (kept_after (request a.roots x c.args.rules.now.fixed.now c.args.rules.now.anew) s) a o) c.without_slots-alone.ensures c.in_ok-without.ensures.ends in
+    let is = subst (λ (x : Demand). IsEndOfSettling (request a.roots x c.args.rules.now.fixed.now c.args.rules.now.anew) (kept_after (request a.roots x c.args.rules.now.fixed.now c.args.rules.now.anew) s) a o) c.without_slots-alone.ensures c.in_ok-without.ensures.ends in
     elim c.match-branch-4.branch [
       | goal.in-Some+in_ok-settled-in-Some x ↦
           let sparing = ended_value x.in-Some.spared in
-          let ends = if_some (λ y. IsEnded q (kept_after q s) a (ended_value y)) x.in-Some.is c.in_ok-spared.ensures.spares in
+          let ends = if_some (λ y. IsEndOfSettling q (kept_after q s) a (ended_value y)) x.in-Some.is c.in_ok-spared.ensures.spares in
           let made = x.in_ok-settled-in-Some.settled in
           let wished = x.in_ok-settled-in-Some.ensures.wished q.slots (finally_kept q s) refl (ended a q c.requires.fine sparing ends) in
           let told : HaveSpares a q o.staying true = subst (λ staying. HaveSpares a q staying true) c.as_slice.ensures.value (subst (λ f. HaveSpares a q c.as_slice.result.now (is_some f)) x.in-Some.is c.in_ok-spared.ensures.have) in

@@ -11,7 +11,7 @@ use Rattle.pci_place.proofs.Records.{same_count}
 use Rattle.pci_first_fit.specs.Slots.{demand_value}
 use Rattle.pci_first_fit.specs.Kept.{AreNone}
 use Rattle.pci_settle_places.proofs.NothingLeft.{can_be_left}
-use Rattle.pci_settle.specs.Ended.{held_value, IsEnded}
+use Rattle.pci_settle.specs.Ended.{held_value, IsEndOfSettling}
 use Rattle.pci_settle.specs.Endings.{kept_after}
 use Rattle.pci_settle.proofs.Outcomes.{ended_anew, after_anew}
 use Rattle.pci_settle.proofs.HeldTables.{stand_anew, told_anew, untold_ranges}
@@ -60,10 +60,10 @@ returns-clause-ends g c =
     let keep = as_it_stands q (system_in a) in
     let held = c.in_ok-held.held in
     let known = nothing_known q (system_in a) _ (untold ∙ sym c.requires.untold) c.requires.untold record { lines = sym (ap length c.requires.untold); standing = sym (ap length c.requires.untold) } in
-    subst (λ standing. IsEnded q (kept_after q (system_in a)) a (held_value held c.in_ok-none.none.items c.new.result.items standing)) (sym c.new-2.ensures.items)
-    (subst (λ grown. IsEnded q (kept_after q (system_in a)) a (held_value held c.in_ok-none.none.items grown [])) (sym c.new.ensures.items)
+    subst (λ standing. IsEndOfSettling q (kept_after q (system_in a)) a (held_value held c.in_ok-none.none.items c.new.result.items standing)) (sym c.new-2.ensures.items)
+    (subst (λ grown. IsEndOfSettling q (kept_after q (system_in a)) a (held_value held c.in_ok-none.none.items grown [])) (sym c.new.ensures.items)
     (ended_anew a q (held_value held c.in_ok-none.none.items [] []) untold anew
-    (subst (λ staying. IsEnded q keep a (held_value held staying [] [])) c.as_slice-kept.ensures.value
+    (subst (λ staying. IsEndOfSettling q keep a (held_value held staying [] [])) c.as_slice-kept.ensures.value
     (c.in_ok-held.ensures.ends q keep record { fixed = flags; told = known } (told_anew a (demand_value c.args.lists.now) c.as_slice-kept.result.now count none q is untold anew _ refl refl refl
     (λ test told. c.in_default.ensures q test is flags told))))))
 

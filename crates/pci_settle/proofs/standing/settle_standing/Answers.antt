@@ -6,8 +6,8 @@ use Rattle.settle_spec.specs.Kept.{as_it_stands}
 use Rattle.pci_place.specs.Above.{system_in}
 use Rattle.pci_first_fit.specs.declared.told.ToldRanges.{ToldRanges}
 use Rattle.pci_first_fit.specs.Slots.{demand_value}
-use Rattle.pci_kept.specs.Known.{asked_by}
-use Rattle.pci_settle.specs.Ended.{held_value, IsEnded}
+use Rattle.pci_kept.specs.Known.{asked_by_rules}
+use Rattle.pci_settle.specs.Ended.{held_value, IsEndOfSettling}
 use Rattle.pci_settle.proofs.HeldTables.{asked_is, table_stand, table_stay, rest_can_be_left, told_rest}
 use Rattle.pci_settle.proofs.Refusals.{unstanding, kept_standing, ended_too_large}
 use Rattle.pci_settle.proofs.Unkept.{unreached, unkept, all_reached, all_kept}
@@ -16,14 +16,14 @@ use Rattle.pci_settle.proofs.standing.settle_standing.Goals as goal
 pub returns-in-Some-clause-refusal : goal.returns-in-Some-clause-refusal
 returns-in-Some-clause-refusal g c =
     let a = c.args.admitted.now in
-    let q = asked_by a.roots (demand_value c.args.lists.now) c.args.rules.now in
+    let q = asked_by_rules a.roots (demand_value c.args.lists.now) c.args.rules.now in
     unreached a q (as_it_stands q (system_in a)) c.in-Some.fault (c.in-Some.ensures q (system_in a) c.requires.bounds.told)
 
 pub returns-in-Some-fixed_without-clause-refusal : goal.returns-in-Some-fixed_without-clause-refusal
 returns-in-Some-fixed_without-clause-refusal g c =
     let a = c.args.admitted.now in
     let l = demand_value c.args.lists.now in
-    let q = asked_by a.roots l c.args.rules.now in
+    let q = asked_by_rules a.roots l c.args.rules.now in
     let reached = all_reached q (system_in a) (c.in_default.ensures q (system_in a) c.requires.bounds.told) in
     unstanding a q (as_it_stands q (system_in a)) reached c.in-Some-fixed_without.fault
     (c.in-Some-fixed_without.ensures q (stands q (system_in a)) (asked_is a l c.args.rules.now) c.requires.bounds.fixed
@@ -33,7 +33,7 @@ pub returns-in_err-table-clause-refusal : goal.returns-in_err-table-clause-refus
 returns-in_err-table-clause-refusal g c =
     let a = c.args.admitted.now in
     let l = demand_value c.args.lists.now in
-    let q = asked_by a.roots l c.args.rules.now in
+    let q = asked_by_rules a.roots l c.args.rules.now in
     let p = err_from_is_err_and c.from_residual-in_err-table.result c.from_residual-in_err-table.ensures.1 in
     let reached = all_reached q (system_in a) (c.in_default.ensures q (system_in a) c.requires.bounds.told) in
     let stand = kept_standing a q reached
@@ -45,7 +45,7 @@ pub returns-in-Some-first_without-clause-refusal : goal.returns-in-Some-first_wi
 returns-in-Some-first_without-clause-refusal g c =
     let a = c.args.admitted.now in
     let l = demand_value c.args.lists.now in
-    let q = asked_by a.roots l c.args.rules.now in
+    let q = asked_by_rules a.roots l c.args.rules.now in
     let keep = as_it_stands q (system_in a) in
     let reached = all_reached q (system_in a) (c.in_default.ensures q (system_in a) c.requires.bounds.told) in
     let stand = kept_standing a q reached
@@ -71,7 +71,7 @@ pub returns-clause-ends : goal.returns-clause-ends
 returns-clause-ends g c =
     let a = c.args.admitted.now in
     let l = demand_value c.args.lists.now in
-    let q = asked_by a.roots l c.args.rules.now in
+    let q = asked_by_rules a.roots l c.args.rules.now in
     let keep = as_it_stands q (system_in a) in
     let held = c.in_ok-held.held in
     let reached = all_reached q (system_in a) (c.in_default.ensures q (system_in a) c.requires.bounds.told) in
@@ -80,9 +80,9 @@ returns-clause-ends g c =
     (table_stand a l c.args.rules.now c.as_slice.result.now c.as_slice.ensures.value c.in_ok-stand.ensures)) in
     let stay = all_kept a q keep (c.in_default-first_without.ensures q keep (asked_is a l c.args.rules.now) c.requires.bounds
     (table_stay a l c.args.rules.now c.as_slice-stay.result.now c.as_slice-stay.ensures.value (has_room_behind q (system_in a)) c.in_ok-table.ensures.stay)) in
-    subst (λ standing. IsEnded q keep a (held_value held c.in_ok-table.table.items c.new.result.items standing)) (sym c.in_ok-copy_of.ensures)
-    (subst (λ grown. IsEnded q keep a (held_value held c.in_ok-table.table.items grown c.args.bounds.now.told.standing.now)) (sym c.new.ensures.items)
-    (subst (λ staying. IsEnded q keep a (held_value held staying [] c.args.bounds.now.told.standing.now)) c.as_slice-stay.ensures.value
+    subst (λ standing. IsEndOfSettling q keep a (held_value held c.in_ok-table.table.items c.new.result.items standing)) (sym c.in_ok-copy_of.ensures)
+    (subst (λ grown. IsEndOfSettling q keep a (held_value held c.in_ok-table.table.items grown c.args.bounds.now.told.standing.now)) (sym c.new.ensures.items)
+    (subst (λ staying. IsEndOfSettling q keep a (held_value held staying [] c.args.bounds.now.told.standing.now)) c.as_slice-stay.ensures.value
     (c.in_ok-held.ensures.ends q keep c.requires.bounds
     (told_rest a l c.args.rules.now c.outline-outline.ensures.admitted c.records.result.now c.records.ensures.value c.outline-outline.ensures.records
     _ c.open_windows-over.ensures c.as_slice-stay.result.now c.as_slice-stay.ensures.value c.as_slice-stay.ensures.value refl c.in_ok-table.ensures.stay
@@ -92,7 +92,7 @@ pub returns-in_err-held-clause-refusal : goal.returns-in_err-held-clause-refusal
 returns-in_err-held-clause-refusal g c =
     let a = c.args.admitted.now in
     let l = demand_value c.args.lists.now in
-    let q = asked_by a.roots l c.args.rules.now in
+    let q = asked_by_rules a.roots l c.args.rules.now in
     let keep = as_it_stands q (system_in a) in
     let reached = all_reached q (system_in a) (c.in_default.ensures q (system_in a) c.requires.bounds.told) in
     let stand = kept_standing a q reached

@@ -15,7 +15,7 @@ use Rattle.pci_kept.specs.declared.told_line.ToldLine.{ToldLine}
 use Rattle.pci_settle.specs.declared.way.ByClass.{ByClass}
 use Rattle.pci_settle.specs.declared.lack.SettleFault.TheVariants as fault
 use Rattle.pci_settle.specs.Shut.{in_class}
-use Rattle.pci_settle.specs.ToldEndings.{told_fault, told_value, KnowsTold, AreKeptAbove}
+use Rattle.pci_settle.specs.ToldEndings.{told_fault, known_told_value, KnowsTold, AreKeptAbove}
 use Rattle.pci_settle.proofs.ToldFirsts.{told_at, none_yet, none_next, none_past, none_at_all, one_there}
 use Rattle.pci_settle.proofs.ToldTests.{range_here, cut_is, line_is}
 use Rattle.pci_settle.proofs.told.first_cut_by.Goals as goal
@@ -35,8 +35,8 @@ module _ (c : After-is_cut) where
   abbrev index : ℕ
   index = c.loop-index.index
 
-  here : (q : Request) (s : System) → KnowsTold q s (told_value c.args.told.now) → slice_get q.told.ranges index ≡ Some r
-  here q s knows = range_here q s (told_value c.args.told.now) knows c.as_slice-ranges.result.now c.as_slice-ranges.ensures.value index r c.loop-index-test.true c.index-ranges-index.is
+  here : (q : Request) (s : System) → KnowsTold q s (known_told_value c.args.told.now) → slice_get q.told.ranges index ≡ Some r
+  here q s knows = range_here q s (known_told_value c.args.told.now) knows c.as_slice-ranges.result.now c.as_slice-ranges.ensures.value index r c.loop-index-test.true c.index-ranges-index.is
 
   small : r.slot.bus < 256
   small =
@@ -44,14 +44,14 @@ module _ (c : After-is_cut) where
       let slot : IsSlot r.slot = subst (λ (x : ToldRange). IsSlot x.slot) (sym c.index-ranges-index.is) (told.each index r c.loop-index-test.true).line.slot in
       slot.0
 
-  test_is : (q : Request) (s : System) (k : Kept) → KnowsTold q s (told_value c.args.told.now) → AreKeptAbove q s k c.args.ways.now
+  test_is : (q : Request) (s : System) (k : Kept) → KnowsTold q s (known_told_value c.args.told.now) → AreKeptAbove q s k c.args.ways.now
       → c.is_cut.result ≡ does_not_stay q s k (told_at (told_register index) r)
   test_is q s k knows ways =
       let bus = c.from.ensures ∙ c.bus.ensures ∙ ap (λ (x : ToldRange). x.slot.bus) c.range.view_is in
       c.is_cut.ensures
       ∙ ap (λ b. get_or c.args.told.now.standing.now index false && not b)
       (c.get.ensures ∙ ap (λ n. in_class (get_or c.args.ways.now n no_class) (kind_value (get_or c.args.told.now.lines.now index no_line).class)) bus)
-      ∙ cut_is q s k (told_value c.args.told.now) knows c.args.ways.now ways index r (here q s knows) small no_class no_line
+      ∙ cut_is q s k (known_told_value c.args.told.now) knows c.args.ways.now ways index r (here q s knows) small no_class no_line
 
 pub loop-index-init : goal.loop-index-init
 loop-index-init c = λ q s k knows ways. none_yet q (does_not_stay q s k)

@@ -13,8 +13,8 @@ use Rattle.settle_spec.specs.Lines.{is_marked_command, is_marked_always}
 use Rattle.pci_base.specs.Space.{space_of}
 use Rattle.pci_settle.specs.declared.way.Way.{Way}
 use Rattle.pci_settle.specs.declared.lack.SettleFault.TheVariants as fault
-use Rattle.pci_settle.specs.Shut.{in_space}
-use Rattle.pci_settle.specs.ToldEndings.{told_fault, told_value, KnowsTold, AreFlagsThen, AreClearAbove, AlwaysStand}
+use Rattle.pci_settle.specs.Shut.{flag_in_space}
+use Rattle.pci_settle.specs.ToldEndings.{told_fault, known_told_value, KnowsTold, AreFlagsThen, AreClearAbove, AlwaysStand}
 use Rattle.pci_settle.proofs.ToldFirsts.{told_at, none_yet, none_next, none_past, none_at_all, one_there}
 use Rattle.pci_settle.proofs.ToldTests.{range_here, line_is}
 use Rattle.pci_settle.proofs.ToldSwitched.{switched_is}
@@ -36,8 +36,8 @@ module _ (c : After-is_switched) where
   abbrev index : ℕ
   index = c.loop-index.index
 
-  here : (q : Request) (s : System) → KnowsTold q s (told_value c.args.told.now) → slice_get q.told.ranges index ≡ Some r
-  here q s knows = range_here q s (told_value c.args.told.now) knows c.as_slice-ranges.result.now c.as_slice-ranges.ensures.value index r c.loop-index-test.true c.index-ranges-index.is
+  here : (q : Request) (s : System) → KnowsTold q s (known_told_value c.args.told.now) → slice_get q.told.ranges index ≡ Some r
+  here q s knows = range_here q s (known_told_value c.args.told.now) knows c.as_slice-ranges.result.now c.as_slice-ranges.ensures.value index r c.loop-index-test.true c.index-ranges-index.is
 
   small : r.slot.bus < 256
   small =
@@ -45,14 +45,14 @@ module _ (c : After-is_switched) where
       let slot : IsSlot r.slot = subst (λ (x : ToldRange). IsSlot x.slot) (sym c.index-ranges-index.is) (told.each index r c.loop-index-test.true).line.slot in
       slot.0
 
-  test_is : (q : Request) (s : System) (k : Kept) → KnowsTold q s (told_value c.args.told.now) → AreFlagsThen q s k c.args.on_then.now → AreClearAbove q s k c.args.ways.now → AlwaysStand q s
+  test_is : (q : Request) (s : System) (k : Kept) → KnowsTold q s (known_told_value c.args.told.now) → AreFlagsThen q s k c.args.on_then.now → AreClearAbove q s k c.args.ways.now → AlwaysStand q s
       → c.is_switched.result ≡ would_be_switched q s k (told_at (told_register index) r)
   test_is q s k knows then ways stand =
       let bus = c.from.ensures ∙ c.bus.ensures ∙ ap (λ (x : ToldRange). x.slot.bus) c.range.view_is in
       c.is_switched.ensures
       ∙ ap (λ b. (is_marked_command r.mark && not (get_or c.args.told.now.standing.now index false) && get_or c.args.on_then.now index false) || (is_marked_always r.mark && not b))
-      (c.get-is_clear.ensures ∙ ap (λ n. in_space (get_or c.args.ways.now n no_way).clear (space_of c.range.inside.space)) bus ∙ ap (λ (x : ToldRange). in_space (get_or c.args.ways.now r.slot.bus no_way).clear x.space) c.range.view_is)
-      ∙ switched_is q s k (told_value c.args.told.now) knows c.args.on_then.now then c.args.ways.now ways stand index r (here q s knows) small no_way
+      (c.get-is_clear.ensures ∙ ap (λ n. flag_in_space (get_or c.args.ways.now n no_way).clear (space_of c.range.inside.space)) bus ∙ ap (λ (x : ToldRange). flag_in_space (get_or c.args.ways.now r.slot.bus no_way).clear x.space) c.range.view_is)
+      ∙ switched_is q s k (known_told_value c.args.told.now) knows c.args.on_then.now then c.args.ways.now ways stand index r (here q s knows) small no_way
 
 pub loop-index-init : goal.loop-index-init
 loop-index-init c = λ q s k knows then ways stand. none_yet q (would_be_switched q s k)

@@ -8,7 +8,7 @@ use Rattle.pci_place.specs.Above.{system_in}
 use Rattle.pci_place.proofs.Records.{lent, FunctionAt, same_count, function_read}
 use Rattle.pci_place.proofs.BusTables.{AreTo}
 use Rattle.pci_first_fit.specs.Kept.{nothing_kept}
-use Rattle.pci_settle_places.specs.Images.{is_window_kept}
+use Rattle.pci_settle_places.specs.Images.{is_staying_window}
 use Rattle.pci_settle.specs.declared.way.ByClass.{ByClass}
 use Rattle.pci_settle.specs.Shut.{in_class}
 use Rattle.pci_settle.proofs.Ways.{by_classes}
@@ -53,12 +53,12 @@ loop-k-preserved g c = λ keep told.
     let After : List ByClass → Type 0 = λ ways. AreTo (IsKeptAbove s keep) roots s (k + 1) ways in
     elim c.match-record.branch [
       | in-Some w ↦
-          let both : (x : WindowKind) → in_class w.and_kept.result x ≡ (in_class (get_or c.loop-k.ways c.from.result no_class) x && is_window_kept (get_or c.args.table.now k nothing_kept).windows x) =
-          by_classes (λ x. in_class w.and_kept.result x ≡ (in_class (get_or c.loop-k.ways c.from.result no_class) x && is_window_kept (get_or c.args.table.now k nothing_kept).windows x))
+          let both : (x : WindowKind) → in_class w.and_kept.result x ≡ (in_class (get_or c.loop-k.ways c.from.result no_class) x && is_staying_window (get_or c.args.table.now k nothing_kept).windows x) =
+          by_classes (λ x. in_class w.and_kept.result x ≡ (in_class (get_or c.loop-k.ways c.from.result no_class) x && is_staying_window (get_or c.args.table.now k nothing_kept).windows x))
           w.and_kept.ensures.io w.and_kept.ensures.memory w.and_kept.ensures.prefetchable in
           subst After (sym w.ways-is)
           (more_ways roots s keep admitted.system admitted.nested c.args.table.now told k f r here.at here.is c.loop-k.ways was w.in-Some.bridge w.in-Some.is w.from-in-Some.result w.from-in-Some.ensures no_class w.and_kept.result nothing_kept
-          (λ x. both x ∙ ap (λ n. in_class (get_or c.loop-k.ways n no_class) x && is_window_kept (get_or c.args.table.now k nothing_kept).windows x) bus))
+          (λ x. both x ∙ ap (λ n. in_class (get_or c.loop-k.ways n no_class) x && is_staying_window (get_or c.args.table.now k nothing_kept).windows x) bus))
       | in_default w ↦
           subst After (sym w.ways-is)
           (same_ways roots s keep admitted.system admitted.nested c.args.table.now told k f r here.at here.is c.loop-k.ways was w.in_default.is)

@@ -3,7 +3,7 @@ use Rattle.pci_place.specs.Above.{system_in}
 use Rattle.pci_place.proofs.Records.{lent}
 use Rattle.pci_first_fit.specs.Slots.{demand_value}
 use Rattle.pci_kept.specs.Boards.{IsTree}
-use Rattle.pci_kept.specs.Known.{asked_by}
+use Rattle.pci_kept.specs.Known.{asked_by_rules}
 use Rattle.pci_settle.proofs.told.known_ranges.Goals as goal
 
 pub returns-clause-flags : goal.returns-clause-flags
@@ -15,7 +15,7 @@ returns-clause-flags g c = record {
 pub returns-clause-known : goal.returns-clause-known
 returns-clause-known g c =
     let s = system_in c.args.admitted.now in
-    let q = asked_by c.args.admitted.now.roots (demand_value c.args.lists.now) c.args.rules.now in
+    let q = asked_by_rules c.args.admitted.now.roots (demand_value c.args.lists.now) c.args.rules.now in
     let records = c.records-records.result.now in
     let has = lent s records c.records-records.ensures.value c.outline-outline.ensures.records in
     let admitted = c.outline-outline.ensures.admitted in

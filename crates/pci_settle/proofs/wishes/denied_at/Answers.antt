@@ -2,7 +2,7 @@ use Rattle.std.proofs.Common.{map, ap, sym, ◌∙◌}
 use Rattle.std.proofs.lemmas.List.{take_all}
 use Rattle.pci_function.specs.declared.record.Record.{Record}
 use Rattle.pci_grow.specs.Granting.{part_of}
-use Rattle.pci_settle.specs.Denied.{register_at, denied_value}
+use Rattle.pci_settle.specs.Denied.{slot_and_offset_of, denied_value}
 use Rattle.pci_settle.proofs.WishesGranted.{denied_next}
 use Rattle.pci_settle.proofs.wishes.denied_at.Goals as goal
 
@@ -19,4 +19,4 @@ loop-window-preserved g c = λ s has.
     (ap (λ (x : Record). x.slot) (sym c.index-records-window.is)) c.register.ensures c.in_ok-push.ensures.items (c.loop-window.invariant s has)
 
 pub returns : goal.returns
-returns g c = λ s has. c.loop-window.invariant s has ∙ ap (map (λ w. register_at (part_of s w))) (take_all c.loop-window.window-index c.args.windows.now c.loop-window-test.false)
+returns g c = λ s has. c.loop-window.invariant s has ∙ ap (map (λ w. slot_and_offset_of (part_of s w))) (take_all c.loop-window.window-index c.args.windows.now c.loop-window-test.false)

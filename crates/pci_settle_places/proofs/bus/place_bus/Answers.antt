@@ -3,7 +3,7 @@ use Rattle.pci_base.specs.declared.range.Range.{Range}
 use Rattle.pci_base.specs.Space.{space_of}
 use Rattle.pci_place.specs.Above.{system_in}
 use Rattle.pci_place.proofs.Records.{lent, same_count}
-use Rattle.pci_settle_places.specs.Taken.{AreBehindEach}
+use Rattle.pci_settle_places.specs.Taken.{AreNearBehindEach}
 use Rattle.pci_settle_places.proofs.Buses.{slice_back, slice_within, all_lawful, within_in, places_in}
 use Rattle.pci_settle_places.proofs.bus.place_bus.Goals as goal
 
@@ -58,7 +58,7 @@ returns-clause-placing g c =
     _ c.as_slice-5.ensures.value c.place_all.new.places c.in_ok-lack.lack _
     (slice_back c.in_ok-places.places.len c.place_all.new.places c.in_ok-places.places.items (c.place_all.auto.places ∙ ap length c.as_mut_slice.ensures.value) (omega (arith, long)))
     records has (map items c.in_ok-behind.behind.items) _ (ap (map items) c.as_slice-4.ensures.value) (map items c.args.lists.now) c.as_slice-2.result.now c.as_slice-2.ensures.value
-    (subst (λ xs. AreBehindEach records c.args.pass.now.setting.now.staying.lines.now (map items c.args.lists.now) c.as_slice-2.result.now xs (map items c.in_ok-behind.behind.items)) c.as_slice-3.ensures.value c.in_ok-behind.ensures)
+    (subst (λ xs. AreNearBehindEach records c.args.pass.now.setting.now.staying.lines.now (map items c.args.lists.now) c.as_slice-2.result.now xs (map items c.in_ok-behind.behind.items)) c.as_slice-3.ensures.value c.in_ok-behind.ensures)
     _ (c.level-level.ensures) (c.in_ok-candidates.ensures.lawful c.requires.lawful) _ c.in_ok-taken.ensures.taken c.in_ok-lack.ensures.placing
 
 pub returns-clause-within : goal.returns-clause-within

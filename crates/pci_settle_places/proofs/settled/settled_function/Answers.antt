@@ -1,5 +1,5 @@
 use Rattle.std.proofs.Common.{◌∙◌, ap}
-use Rattle.settle_spec.specs.Registers.{with_number}
+use Rattle.judge_spec.specs.Windows.{with_number}
 use Rattle.settle_spec.specs.Keeping.Registers.{settled_image}
 use Rattle.pci_settle_places.proofs.Commands.{command_is}
 use Rattle.pci_settle_places.proofs.settled.settled_function.Goals as goal

@@ -7,14 +7,14 @@ use Rattle.pci_image.specs.Windows.{decoded_windows_of}
 use Rattle.pci_function.specs.declared.record.Bridge.{Bridge}
 use Rattle.pci_function.specs.Values.{record_value, bridge_value}
 use Rattle.judge_spec.specs.Why.{isa_words, unclaimed_words, legacy_words}
-use Rattle.pci_claims.specs.Values.{given_value}
+use Rattle.pci_claims.specs.Values.{code_given_value}
 use Rattle.pci_why.specs.Bridges.{bridge_text}
 use Rattle.pci_why.proofs.LegacyWords.{line_ended, two_words}
 use Rattle.pci_why.proofs.bridge.push_bridge_line.Goals as goal
 
 pub returns : goal.returns
 returns g c =
-    let given = given_value c.args.given.now in
+    let given = code_given_value c.args.given.now in
     let start = string_bytes c.args.text.now in
     let space = space_of c.args.space in
     let slot = c.args.function.now.slot in

@@ -2,11 +2,11 @@ use Rattle.std.proofs.Common.{◌≡◌, ◌⊎◌, ◌+◌, ℕ, map, subst, in
 use Rattle.std.specs.String.{string_bytes}
 use Rattle.pciplan_cli.specs.CarriedOut.{texts}
 use Rattle.pciplan_tasks.specs.Tasks.{HasFailed}
-use Rattle.pciplan_front.specs.FirstWords.{AreOfTexts, IsFirst, behind}
-use Rattle.pciplan_front.specs.HereTold.{IsHere, files}
+use Rattle.pciplan_front.specs.FirstWords.{AreOfTexts, IsCommandOfWords, behind_first_word}
+use Rattle.pciplan_front.specs.HereTold.{IsHereCommand, files}
 use Rattle.pciplan_front.specs.JsonAsked.{IsJson}
 use Rattle.pciplan_front.specs.PictureAsked.{IsPicture}
-use Rattle.pciplan_front.specs.TextAsked.{IsTold}
+use Rattle.pciplan_front.specs.TextAsked.{IsTextCommand}
 use Rattle.pciplan_front.specs.Went.{went}
 use Rattle.pciplan_front.proofs.FirstWords.{not_texts, of_explain, of_here, of_json, of_picture, of_version}
 use Rattle.pciplan_front.proofs.front.front.Goals as goal
@@ -15,8 +15,8 @@ pub returns-in_default : goal.returns-in_default
 returns-in_default g c =
     let items : c.as_slice.result.now ≡ c.in-Ok.words.items = cc (c.as_slice.ensures.value) in
     let again : c.as_slice-in_default.result.now ≡ c.in-Ok.words.items = cc (c.as_slice-in_default.ensures.value) in
-    let is : IsFirst (map string_bytes c.in-Ok.words.items) c.first_of.result =
-    subst (λ v. IsFirst (map string_bytes v) c.first_of.result) items c.first_of.ensures in
+    let is : IsCommandOfWords (map string_bytes c.in-Ok.words.items) c.first_of.result =
+    subst (λ v. IsCommandOfWords (map string_bytes v) c.first_of.result) items c.first_of.ensures in
     let none : AreOfTexts (map string_bytes c.in-Ok.words.items) → ⊥ =
     not_texts (map string_bytes c.in-Ok.words.items) c.first_of.result is c.in_default.not-Texts in
     rw c.in-Ok.is record {
@@ -28,7 +28,7 @@ returns-in_default g c =
       refused = λ status. λ of. absurd (none of);
       failed = λ status. λ of. absurd (none of);
       text = λ begins. subst
-          (λ v. IsTold (map string_bytes v) c.beside.result
+          (λ v. IsTextCommand (map string_bytes v) c.beside.result
           (went (g.O.Sink.taken c.args.outside.now.out) (g.O.Sink.taken c.beside.new.outside.out) (c.beside.new.outside.out ≡ c.args.outside.now.out)
           (g.O.Sink.failures c.beside.new.outside.out ≡ g.O.Sink.failures c.args.outside.now.out + 1)))
           again
@@ -37,7 +37,7 @@ returns-in_default g c =
             | inr version ↦ inr (of_version (map string_bytes c.in-Ok.words.items) c.first_of.result is version)
           ]));
       json = λ begins. subst
-          (λ v. IsJson (behind (map string_bytes v))
+          (λ v. IsJson (behind_first_word (map string_bytes v))
           (texts (g.D.Opening.stands c.args.outside.now.dump) (g.D.Opening.bytes_at c.args.outside.now.dump))
           (texts (g.P.Opening.stands c.args.outside.now.second) (g.P.Opening.bytes_at c.args.outside.now.second))
           (texts (g.P.Opening.stands c.args.outside.now.third) (g.P.Opening.bytes_at c.args.outside.now.third))
@@ -52,7 +52,7 @@ returns-in_default g c =
           ⊎ (g.P.Source.failures c.beside.new.outside.third ≡ g.P.Source.failures c.args.outside.now.third + 1)))
           again (c.beside.ensures.json (of_json (map string_bytes c.in-Ok.words.items) c.first_of.result is begins));
       picture = λ begins. subst
-          (λ v. IsPicture (behind (map string_bytes v))
+          (λ v. IsPicture (behind_first_word (map string_bytes v))
           (texts (g.D.Opening.stands c.args.outside.now.dump) (g.D.Opening.bytes_at c.args.outside.now.dump))
           (texts (g.P.Opening.stands c.args.outside.now.second) (g.P.Opening.bytes_at c.args.outside.now.second))
           (texts (g.P.Opening.stands c.args.outside.now.third) (g.P.Opening.bytes_at c.args.outside.now.third))
@@ -67,7 +67,7 @@ returns-in_default g c =
           ⊎ (g.P.Source.failures c.beside.new.outside.third ≡ g.P.Source.failures c.args.outside.now.third + 1)))
           again (c.beside.ensures.picture (of_picture (map string_bytes c.in-Ok.words.items) c.first_of.result is begins));
       here = λ begins. subst
-          (λ v. IsHere (map string_bytes v) (files (g.M.Foldered.shown_in c.args.outside.now.machine) (g.M.Foldered.text_at c.args.outside.now.machine)) c.beside.result
+          (λ v. IsHereCommand (map string_bytes v) (files (g.M.Foldered.shown_in c.args.outside.now.machine) (g.M.Foldered.text_at c.args.outside.now.machine)) c.beside.result
           (went (g.O.Sink.taken c.args.outside.now.out) (g.O.Sink.taken c.beside.new.outside.out) (c.beside.new.outside.out ≡ c.args.outside.now.out)
           ((x : ℕ) × (g.O.Sink.failures c.beside.new.outside.out ≡ x + 1))))
           again (c.beside.ensures.here (of_here (map string_bytes c.in-Ok.words.items) c.first_of.result is begins));

@@ -1,6 +1,6 @@
 use Rattle.std.proofs.Common.{ℕ, ◌+◌, ◌≤◌, sym, subst, inr, take}
 use Rattle.std.specs.Io.KnownBytes.{Appends}
-use Rattle.pciplan_front.specs.HereTold.{AreTold}
+use Rattle.pciplan_front.specs.HereTold.{AreDomainsTold}
 use Rattle.pciplan_front.proofs.HerePieces.{cut_off, greater_known, told_more}
 use Rattle.pciplan_front.proofs.here.tell_domains.Goals as goal
 
@@ -19,7 +19,7 @@ loop-domain-preserved g c = record {
   told =
       subst
       (λ (s : ℕ).
-      AreTold (g.M.Machine.shown c.args.each.now.machine.now) c.args.each.now.what c.args.each.now.headed
+      AreDomainsTold (g.M.Machine.shown c.args.each.now.machine.now) c.args.each.now.what c.args.each.now.headed
       (take (c.loop-domain.domain-index + 1) c.args.domains.now) s
       (Appends (g.O.Sink.taken c.args.out.now) (g.O.Sink.taken c.tell_domain.new.out)))
       (sym c.greater-status.ensures)

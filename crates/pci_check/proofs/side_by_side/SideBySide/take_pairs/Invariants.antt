@@ -1,6 +1,6 @@
 use Rattle.std.proofs.Common.{◌-◌, ℕ, List}
 use Rattle.pci_dump.specs.State.{IsOver, state_of}
-use Rattle.pci_check.specs.SideBySide.{Texts, IsBeside}
+use Rattle.pci_check.specs.SideBySide.{Texts, IsSideBySide}
 use Rattle.pci_check.proofs.side_by_side.SideBySide.take_pairs.Given as goal
 
 abbrev pub invariant-loop : goal.invariant-loop
@@ -8,9 +8,9 @@ invariant-loop g l = record {
   over_dump : IsOver l.self.listed (g.D.Source.left l.dump);
   over_probe : IsOver l.self.read_back (g.P.Source.left l.probe);
   each : (texts : Texts) (buses : List ℕ)
-      → IsBeside texts buses (state_of l.initial.self.listed (g.D.Source.left l.initial.dump) (g.D.Source.failures l.initial.dump))
+      → IsSideBySide texts buses (state_of l.initial.self.listed (g.D.Source.left l.initial.dump) (g.D.Source.failures l.initial.dump))
       (state_of l.initial.self.read_back (g.P.Source.left l.initial.probe) (g.P.Source.failures l.initial.probe)) l.initial.self.survey
-      → IsBeside texts buses (state_of l.self.listed (g.D.Source.left l.dump) (g.D.Source.failures l.dump))
+      → IsSideBySide texts buses (state_of l.self.listed (g.D.Source.left l.dump) (g.D.Source.failures l.dump))
       (state_of l.self.read_back (g.P.Source.left l.probe) (g.P.Source.failures l.probe)) l.self.survey;
 }
 

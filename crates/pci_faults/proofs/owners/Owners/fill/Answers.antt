@@ -1,6 +1,6 @@
 use Rattle.std.proofs.Common.{◌⊎◌, ◌≡◌, ℕ, subst, sym}
 use Rattle.std.specs.Prelude.{OnOk, ◌↔◌}
-use Rattle.pci_faults.specs.Owners.{OwnedRanges, RangesAreApart, Owns, OwnedRangeHas}
+use Rattle.pci_faults.specs.Owners.{OwnedRanges, OwnedRangesAreApart, Owns, OwnedRangeHas}
 use Rattle.pci_faults.proofs.Filling.{filled_apart, filled}
 use Rattle.pci_faults.proofs.owners.Owners.fill.Goals.{in-Ok, in-Err}
 use Rattle.pci_faults.proofs.owners.Owners.fill.Goals as goal
@@ -12,7 +12,7 @@ invariant_of-self g c =
     elim c.match-insert.branch [
       | in-Ok w ↦ filled_apart c.self.inside.ranges.entries c.insert.new.self.entries c.args.range c.args.owner c.self.invariant c.requires.some free
           w.in-Ok.ensures.updates.1 w.in-Ok.ensures.updates.2
-      | in-Err w ↦ subst RangesAreApart (sym w.in-Err.ensures.err) c.self.invariant
+      | in-Err w ↦ subst OwnedRangesAreApart (sym w.in-Err.ensures.err) c.self.invariant
     ]
 
 pub returns : goal.returns

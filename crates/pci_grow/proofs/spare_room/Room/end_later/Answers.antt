@@ -2,7 +2,7 @@ use Rattle.std.proofs.Common.{sym, subst, ◌∙◌, ap, length}
 use Rattle.std.specs.Vec.{with_items}
 use Rattle.pci_first_fit.specs.Tables.{told}
 use Rattle.pci_first_fit.specs.Spots.{FirstsRise}
-use Rattle.pci_grow.specs.RoomRows.{LastsRise}
+use Rattle.pci_grow.specs.LastPlaces.{LastsRise}
 use Rattle.pci_grow.proofs.Rooms.{row_of, row_put, row_rest, rows_long, rows_order, rows_rising, rewritten, ended_in, tells_in}
 use Rattle.pci_grow.proofs.spare_room.Room.end_later.Goals as goal
 

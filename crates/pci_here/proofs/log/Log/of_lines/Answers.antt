@@ -1,6 +1,6 @@
 use Rattle.std.proofs.Common.{◌≤◌, ◌∙◌, length, sym, ap, arith}
 use Rattle.std.proofs.lemmas.List.{take_all}
-use Rattle.pci_here.specs.Log.{told_of, with_line}
+use Rattle.pci_here.specs.Log.{registers_told, with_line}
 use Rattle.pci_here.proofs.Logs.{line_more}
 use Rattle.pci_here.proofs.log.Log.of_lines.Goals as goal
 
@@ -12,4 +12,4 @@ loop-line-preserved c = λ p.
 pub returns : goal.returns
 returns c = λ p.
     let all : length c.args.lines.now ≤ c.loop-line.line-index = omega arith in
-    c.loop-line.invariant p ∙ ap (λ lines. told_of lines p) (take_all c.loop-line.line-index c.args.lines.now all)
+    c.loop-line.invariant p ∙ ap (λ lines. registers_told lines p) (take_all c.loop-line.line-index c.args.lines.now all)
