@@ -2,7 +2,7 @@
 use Rattle.std.proofs.Common.{◌≡◌, ◌⊎◌, inl, inr, List, ℕ, subst, sym}
 use Rattle.std.specs.Prelude.{Result, Ok, Err, IfOk, IfErr, MatchResult}
 use Rattle.std.proofs.lemmas.Result.{IfErr-at_err}
-use Rattle.pciplan_words.specs.CommandLines.{HasNoLine}
+use Rattle.pciplan_words.specs.CommandWords.{HasNoLine}
 use Rattle.pciplan_words.specs.Forms.{plain_words}
 use Rattle.pciplan_cli.specs.Invocations.{IsRefusedLine, AreWordsRefused, HasBadWords}
 use Rattle.pciplan_tasks.specs.Statuses.{status_of}

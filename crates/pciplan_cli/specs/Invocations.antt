@@ -1,7 +1,7 @@
 -- The command lines, by their words.
 use Rattle.std.specs.Prelude.{◌≡◌, ◌⊎◌, List, ℕ, ⊤}
 use Rattle.std.specs.String.{string_bytes}
-use Rattle.pciplan_words.specs.CommandLines.{IsGiven, HasNoLine}
+use Rattle.pciplan_words.specs.CommandWords.{IsGiven, HasNoLine}
 use Rattle.pciplan_words.specs.Forms.{form_in, plain_words}
 use Rattle.pciplan_words.specs.declared.asked.Asked.{Asked}
 use Rattle.pciplan_cli.specs.AlsoTexts.{IsAlsoAt, also_path, with_also}

@@ -2,7 +2,7 @@
 ghost use Rattle.std.specs.Prelude.{◌≡◌, ◌⊎◌, ◌+◌, IfErr, IfOk, MatchResult, map};
 ghost use Rattle.pciplan_cli.specs.CarriedOut.{texts};
 ghost use Rattle.pciplan_cli.specs.Invocations.{IsInvocationOf, AreWordsRefused};
-ghost use Rattle.pciplan_words.specs.CommandLines.{IsGiven, HasNoLine};
+ghost use Rattle.pciplan_words.specs.CommandWords.{IsGiven, HasNoLine};
 ghost use Rattle.pciplan_tasks.specs.Also.{IsAlsoUnread};
 ghost use Rattle.pciplan_tasks.specs.Statuses.{status_of};
 ghost use Rattle.pciplan_tasks.specs.declared.failure.Failure.{Failure};
@@ -13,9 +13,8 @@ use crate::opened::Opening;
 use pci_dump::streams::Sink;
 use pciplan_tasks::failure::{Failure, report};
 use pciplan_tasks::task::Task;
-use pciplan_words::asked::{Given, WordsFault};
+use pciplan_words::asked::{Given, WordsFault, words_given};
 use pciplan_words::forms::{form_in, plain_words};
-use pciplan_words::words::words_given;
 use std::alloc::Global;
 
 /// A task with what its third text tells, and the paths of the other two: the dump, and the probe or the sizes.

@@ -87,13 +87,7 @@ fn unread(task: &Task) -> Failure
 {
     match task {
         Task::Probe { .. } => Failure::Sizes(ReadFault::Io),
-        Task::Show
-        | Task::Check { .. }
-        | Task::Faults { .. }
-        | Task::Map { .. }
-        | Task::Size
-        | Task::Plan { .. }
-        | Task::Settle { .. } => Failure::Probe(ReadFault::Io),
+        _ => Failure::Probe(ReadFault::Io),
     }
 }
 

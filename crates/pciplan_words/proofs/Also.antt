@@ -2,7 +2,7 @@
 use Rattle.std.proofs.Common.{◌≡◌, List, [], ◌∷◌, ◌==◌, Bool, true, false, codes, length, map, refl}
 use Rattle.clap.specs.Words.{Text, fault_of}
 use Rattle.clap.proofs.OnLiterals.{clap_on_literals}
-use Rattle.pciplan_words.specs.CommandLines.{commands}
+use Rattle.pciplan_words.specs.CommandWords.{commands}
 
 -- whether a line of a task with these words behind its two texts is taken
 abbrev is_taken : Text → List Text → Bool

@@ -19,8 +19,7 @@ use Rattle.clap.specs.declared.parser.matches.ArgMatches.{ArgMatches}
 use Rattle.clap.specs.declared.parser.matches.ArgMatches.TheViews.{out-ArgMatches, out-SubCommand}
 use Rattle.clap.proofs.OnLiterals.{clap_on_literals}
 use Rattle.pciplan_words.specs.Arguments.{app_of_subcommand, argument_rule, with_argument, with_entry}
-use Rattle.pciplan_words.specs.CommandLines.{commands, IsGiven, HasNoLine}
-use Rattle.pciplan_words.specs.CommandWords.{IsSaid}
+use Rattle.pciplan_words.specs.CommandWords.{commands, IsGiven, HasNoLine, IsSaid}
 use Rattle.pciplan_words.specs.declared.asked.Asked.{Asked}
 use Rattle.pciplan_words.specs.declared.asked.Given.{Given}
 use Rattle.pciplan_words.specs.declared.commands.Argument.{Argument}

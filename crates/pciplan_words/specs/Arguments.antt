@@ -1,7 +1,7 @@
 -- What the entries of the table of commands stand for.
 use Rattle.std.specs.Prelude.{fold}
 use Rattle.clap.specs.Words.{App, Rule, new_rule, with_rule, with_subcommand}
-use Rattle.pciplan_words.specs.CommandLines.{flag_rule, option_rule, path_rule, pool_rule, with_paths}
+use Rattle.pciplan_words.specs.CommandWords.{flag_rule, option_rule, path_rule, pool_rule, with_paths}
 use Rattle.pciplan_words.specs.declared.commands.Argument.{Argument}
 use Rattle.pciplan_words.specs.declared.commands.Argument.TheVariants.{Path, Word, Required, Flag, Optional}
 use Rattle.pciplan_words.specs.declared.commands.Subcommand.{Subcommand}

@@ -1,8 +1,7 @@
 -- The commands that take no texts, and what the words of one say.
 use Rattle.std.specs.Prelude.{◌≡◌, List, [], Some, codes}
 use Rattle.clap.specs.Words.{App, Row, Text, fault_of, first_of, new_app, new_rule, subcommand_of, with_rule, with_subcommand}
-use Rattle.pciplan_words.specs.CommandLines.{option_rule, program}
-use Rattle.pciplan_words.specs.CommandWords.{word_of}
+use Rattle.pciplan_words.specs.CommandWords.{option_rule, program, word_of}
 use Rattle.pciplan_words.specs.declared.further.Further.{Further}
 use Rattle.pciplan_words.specs.declared.further.Further.TheVariants.{Here, Explain, Version}
 use Rattle.pciplan_words.specs.declared.further.HereWords.{HereWords}

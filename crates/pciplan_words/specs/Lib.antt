@@ -1,5 +1,4 @@
 pub mod Forms
 pub mod Arguments
 pub mod CommandWords
-pub mod CommandLines
 pub mod FurtherWords

@@ -7,4 +7,3 @@ pub mod asked;
 mod commands;
 pub mod forms;
 pub mod further;
-pub mod words;

@@ -1,7 +1,7 @@
 use Rattle.std.proofs.Common.{rules, ◌≡◌, false}
 use Rattle.clap.specs.Words.{app_of}
 use Rattle.clap.specs.declared.builder.command.Command.TheViews.{out-Command}
-use Rattle.pciplan_words.specs.CommandLines.{program}
+use Rattle.pciplan_words.specs.CommandWords.{program}
 use Rattle.pciplan_words.specs.FurtherWords.{explaining, looking}
 use Rattle.pciplan_words.proofs.CommandLines.{with_sub}
 use Rattle.pciplan_words.proofs.FurtherLines.{last_sub}

@@ -1,7 +1,7 @@
 use Rattle.std.proofs.Common.{Some, codes}
 use Rattle.clap.specs.Words.{found_of}
 use Rattle.pciplan_words.proofs.CommandWords.{word_there, flag_there}
-use Rattle.pciplan_words.proofs.words.settle_words.Goals as goal
+use Rattle.pciplan_words.proofs.asked.settle_words.Goals as goal
 
 pub returns : goal.returns
 returns c =

@@ -1,7 +1,7 @@
 use Rattle.std.proofs.Common.{List, map, ap, option_map, sym, ◌∙◌}
 use Rattle.clap.specs.Words.{Text, app_of, fault_of, found_of, is_simple_and_free, rows_of}
 use Rattle.pciplan_words.proofs.CommandLines.{commands_are_free, entered_is, failed_by, fault_is, given_is, refused_words, subcommand_is}
-use Rattle.pciplan_words.proofs.words.words_given.Goals as goal
+use Rattle.pciplan_words.proofs.asked.words_given.Goals as goal
 
 pub returns-in_err-matches : goal.returns-in_err-matches
 returns-in_err-matches c =

@@ -1,7 +1,7 @@
 use Rattle.std.proofs.Common.{codes}
 use Rattle.clap.specs.Words.{found_of}
-use Rattle.pciplan_words.proofs.CommandWords.{word_there}
-use Rattle.pciplan_words.proofs.words.map_words.Goals as goal
+use Rattle.pciplan_words.proofs.CommandWords.{word_there, flag_there}
+use Rattle.pciplan_words.proofs.asked.faults_words.Goals as goal
 
 pub returns : goal.returns
 returns c =
@@ -12,4 +12,5 @@ returns c =
       host_io = word_there found (codes "host-io") c.get_str-3.result c.get_str-3.ensures;
       host_mem = word_there found (codes "host-mem") c.get_str-4.result c.get_str-4.ensures;
       also = word_there found (codes "also") c.get_str-5.result c.get_str-5.ensures;
+      why = flag_there found (codes "why") c.get_flag.result c.get_flag.ensures.none c.get_flag.ensures.value c.get_flag.ensures.other;
     }
