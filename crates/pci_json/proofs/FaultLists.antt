@@ -134,8 +134,8 @@ none_inner [] = refl
 none_inner (f ∷ fs) =
     ap (λ (b : Bool). if b then content_of (given_line.fault_text f) ∷ inner_of (map given_line.fault_text fs) else []) (of_given f).outer
 
-object : (f : given.Fault) (behind_words : List (List ℕ)) → inner_of behind_words ≡ [] → fault_object (given_line.fault_text f) behind_words ≡ object_of (all_given_values f)
-object f behind_words none =
+object : (f : given.Fault) (behind : List (List ℕ)) → inner_of behind ≡ [] → fault_object (given_line.fault_text f) behind ≡ object_of (all_given_values f)
+object f behind none =
     ap (λ (ls : List (List ℕ)). object_of (fault_members (given_line.fault_text f) ++ why_member ls)) none
     ∙ ap object_of (append-nil (fault_members (given_line.fault_text f)) ∙ has_given_fault_members f)
 

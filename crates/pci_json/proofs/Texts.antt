@@ -84,8 +84,8 @@ room : (lines : List (List ℕ)) → texts_in (room_member lines) ≡ []
 room [] = refl
 room (line ∷ lines) = refl
 
-fault_text : (line : List ℕ) (behind_words : List (List ℕ)) → texts_of (fault_object line behind_words) ≡ string line ∷ []
-fault_text line behind_words = one_text line (why_member (inner_of behind_words)) (why (inner_of behind_words))
+fault_text : (line : List ℕ) (behind : List (List ℕ)) → texts_of (fault_object line behind) ≡ string line ∷ []
+fault_text line behind = one_text line (why_member (inner_of behind)) (why (inner_of behind))
 
 faults_step : (is : Bool) (line : List ℕ) (lines : List (List ℕ))
     → map texts_of (faults_of lines) ≡ map (λ l. string (content_of l) ∷ []) (filter is_fault lines)

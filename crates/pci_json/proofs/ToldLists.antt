@@ -126,8 +126,8 @@ none_inner [] = refl
 none_inner (f ∷ fs) =
     ap (λ (b : Bool). if b then content_of (fault_text f) ∷ inner_of (map fault_text fs) else []) (of_told f).outer
 
-object : (f : told.Fault) (behind_words : List (List ℕ)) → NamesRegisters f → inner_of behind_words ≡ [] → fault_object (fault_text f) behind_words ≡ object_of (all_told_values f)
-object f behind_words names none =
+object : (f : told.Fault) (behind : List (List ℕ)) → NamesRegisters f → inner_of behind ≡ [] → fault_object (fault_text f) behind ≡ object_of (all_told_values f)
+object f behind names none =
     ap (λ (ls : List (List ℕ)). object_of (fault_members (fault_text f) ++ why_member ls)) none
     ∙ ap object_of (append-nil (fault_members (fault_text f)) ∙ has_told_fault_members f names)
 
