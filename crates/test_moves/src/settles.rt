@@ -61,14 +61,13 @@ fn settled_below(
     }
 }
 
-/// Whether a board settles by just these writes, so many of which close.
+/// Whether a board settles by so many closing writes, which are the first of just these.
 fn settles(
     alloc: Global,
     roots: &[u8],
     board: &[Row],
     mem: &[Listed],
-    closings: usize,
-    wanted: &[Wanted],
+    (closings, wanted): (usize, &[Wanted]),
 ) -> bool {
     match settled_below(alloc, roots, board, mem) {
         Some(Ok(writes)) => are_writes(&writes, closings, wanted),
@@ -95,7 +94,7 @@ fn bars_behind_a_bridge_are_placed_and_opened(rt: HostRuntime) {
         (0, 1, 0x04, 2, 2),
         (1, 0, 0x04, 2, 2),
     ];
-    assert!(rt; settles(rt.alloc(), &[0], BOARD, MEM, 1, WANTED));
+    assert!(rt; settles(rt.alloc(), &[0], BOARD, MEM, (1, WANTED)));
 }
 
 #[test]
@@ -113,7 +112,7 @@ fn what_fits_no_hole_goes_behind_it(rt: HostRuntime) {
         (0, 2, 0x10, 4, 0xe020_0000),
         (0, 2, 0x04, 2, 2),
     ];
-    assert!(rt; settles(rt.alloc(), &[0], BOARD, MEM, 1, WANTED));
+    assert!(rt; settles(rt.alloc(), &[0], BOARD, MEM, (1, WANTED)));
 }
 
 #[test]
@@ -124,7 +123,15 @@ fn each_root_is_settled_in_its_own_range(rt: HostRuntime) {
         (0, 1, 0x04, 2, 2),
         (0x40, 1, 0x04, 2, 2),
     ];
-    assert!(rt; settles(rt.alloc(), &[0, 0x40], TWO_ROOTS, RANGE_OF_EACH, 0, WANTED));
+    assert!(rt;
+        settles(
+            rt.alloc(),
+            &[0, 0x40],
+            TWO_ROOTS,
+            RANGE_OF_EACH,
+            (0, WANTED)
+        )
+    );
 }
 
 #[test]
@@ -139,7 +146,7 @@ fn io_that_is_left_is_switched_off(rt: HostRuntime) {
     )];
     const MEM: &[Listed] = &[(None, 0xe000_0000, 0xe00f_ffff)];
     const WANTED: &[Wanted] = &[(0, 1, 0x04, 2, 2)];
-    assert!(rt; settles(rt.alloc(), &[0], BOARD, MEM, 1, WANTED));
+    assert!(rt; settles(rt.alloc(), &[0], BOARD, MEM, (1, WANTED)));
 }
 
 #[test]
@@ -147,7 +154,7 @@ fn a_window_with_nothing_behind_is_closed(rt: HostRuntime) {
     const BOARD: &[Row] = &[Bridge("00:01.0", 2, (0, 1, 1), &[(0x20, 0xe000_e000, 0xfff0_fff0)])];
     const MEM: &[Listed] = &[(None, 0xe000_0000, 0xe00f_ffff)];
     const WANTED: &[Wanted] = &[(0, 1, 0x20, 4, 0x0000_fff0)];
-    assert!(rt; settles(rt.alloc(), &[0], BOARD, MEM, 1, WANTED));
+    assert!(rt; settles(rt.alloc(), &[0], BOARD, MEM, (1, WANTED)));
 }
 
 #[test]
@@ -164,7 +171,7 @@ fn a_bridge_stays_on_while_its_window_moves(rt: HostRuntime) {
         (1, 0, 0x10, 4, 0xe000_0000),
         (1, 0, 0x04, 2, 3),
     ];
-    assert!(rt; settles(rt.alloc(), &[0], BOARD, MEM, 2, WANTED));
+    assert!(rt; settles(rt.alloc(), &[0], BOARD, MEM, (2, WANTED)));
 }
 
 #[test]
@@ -175,7 +182,7 @@ fn what_is_cut_off_is_shut_until_the_bridge_is_open(rt: HostRuntime) {
     ];
     const MEM: &[Listed] = &[(None, 0xe000_0000, 0xe00f_ffff)];
     const WANTED: &[Wanted] = &[(1, 0, 0x04, 2, 0), (0, 1, 0x04, 2, 2), (1, 0, 0x04, 2, 2)];
-    assert!(rt; settles(rt.alloc(), &[0], BOARD, MEM, 1, WANTED));
+    assert!(rt; settles(rt.alloc(), &[0], BOARD, MEM, (1, WANTED)));
 }
 
 /// The fault for which a board below bus 00 isn't settled.

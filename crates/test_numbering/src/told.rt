@@ -45,7 +45,8 @@ fn push_board(
         Some(mut tree) => {
             for i in 0..numbers.len() {
                 let end = end_of(&numbers, i).min(last);
-                push_call(alloc, &mut tree, numbers[i], end, spare, text)?;
+                let call = call_text(alloc, &mut tree, numbers[i], end, spare)?;
+                text.push_str(&call)?;
             }
             Ok(())
         }
@@ -73,14 +74,14 @@ fn push_root_numbers(roots: &Roots, numbers: &mut Vec<u8>) -> Result<(), AllocEr
 
 /// Numbers what is behind a root: each write, by the slot, the offset and the number, and the
 /// answer.
-fn push_call(
+fn call_text(
     alloc: Global,
     tree: &mut Tree,
     root: u8,
     last: u8,
     spare: u8,
-    text: &mut String,
-) -> Result<(), AllocError> {
+) -> Result<String, AllocError> {
+    let mut text = String::new(alloc);
     let made = tree.stood.len();
     let answer = number(tree, root, last, spare);
     for i in made..tree.stood.len() {
@@ -94,7 +95,8 @@ fn push_call(
     }
     let answer = answer_text(alloc, answer)?;
     text.push_str(&answer)?;
-    text.push('\n')
+    text.push('\n')?;
+    Ok(text)
 }
 
 /// An answer.
