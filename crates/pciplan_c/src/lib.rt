@@ -22,33 +22,21 @@ pub mod answer;
 pub mod calls;
 pub mod denied_spare;
 pub mod ending;
-#[cfg(test)]
-mod faults_tests;
 pub mod faults_words;
 pub mod held;
 pub mod listing;
 pub mod no_list;
 pub mod no_writes;
 pub mod numbering;
-#[cfg(test)]
-mod plan_tests;
 pub mod planning;
 pub mod pools;
 pub mod put;
 pub mod refusal;
 pub mod register_write;
-#[cfg(test)]
-mod settle_tests;
 pub mod settle_words;
 pub mod settling;
-#[cfg(test)]
-mod start_tests;
 pub mod starting;
 pub mod stepping;
-#[cfg(test)]
-mod tests;
-#[cfg(test)]
-mod texts;
 pub mod told;
 pub mod unread;
 pub mod unready;

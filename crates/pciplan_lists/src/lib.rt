@@ -19,5 +19,3 @@ pub mod pool_word;
 pub mod range_word;
 pub mod slot_list;
 pub mod spare_word;
-#[cfg(test)]
-mod tests;

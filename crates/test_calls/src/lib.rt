@@ -1,5 +1,6 @@
 //! Tests of single calls: what one function's registers decode to, texts that are read and written, a machine in
-//! memory, admission and what it keeps, what an outline lists, derived probes, and the domains that are read of a machine.
+//! memory, admission and what it keeps, what an outline lists, derived probes, the domains that are read of a machine, and
+//! the words of options.
 #![tactic(auto)]
 
 #[cfg(test)]
@@ -18,6 +19,8 @@ mod headers;
 mod lines;
 #[cfg(test)]
 mod machines;
+#[cfg(test)]
+mod option_words;
 #[cfg(test)]
 mod outlines;
 #[cfg(test)]

@@ -1,6 +1,19 @@
-//! Tests of what the public calls and the program do where a read, a write or a growth fails.
+//! Tests of what the public calls and the program do where a read, a write or a growth fails, and of the calls of the C
+//! library.
 #![tactic(auto)]
 
+#[cfg(test)]
+mod c_check;
+#[cfg(test)]
+mod c_faults;
+#[cfg(test)]
+mod c_plan;
+#[cfg(test)]
+mod c_settle;
+#[cfg(test)]
+mod c_start;
+#[cfg(test)]
+mod c_texts;
 #[cfg(test)]
 mod failing;
 #[cfg(test)]

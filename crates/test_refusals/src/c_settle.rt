@@ -1,12 +1,12 @@
 //! Settlings of a board that runs, where a card was plugged in behind its second bridge.
-use crate::calls::pciplan_settle;
-use crate::denied_spare::DeniedSpare;
-use crate::ending::HeldBack;
-use crate::plan_tests::{MANY, NONE};
-use crate::register_write::RegisterWrite;
-use crate::settle_words::SettleWords;
-use crate::settling::{SettleHeldBack, settle_into};
-use crate::texts::{Pair, whole};
+use crate::c_plan::{MANY, NONE};
+use crate::c_texts::{Pair, whole};
+use pciplan_c::calls::pciplan_settle;
+use pciplan_c::denied_spare::DeniedSpare;
+use pciplan_c::ending::HeldBack;
+use pciplan_c::register_write::RegisterWrite;
+use pciplan_c::settle_words::SettleWords;
+use pciplan_c::settling::{SettleHeldBack, settle_into};
 use std::alloc::{AllocError, Global};
 use std::test::Fail;
 use test_support::refusing::Refusing;

@@ -1,10 +1,11 @@
-use crate::host_list::is_good_host_list;
-use crate::list_word::list_of_word;
-use crate::slot_list::slots_of_word;
-use crate::spare_word::spares_of_word;
+//! The words of options: lists of ranges and of slots, and spares.
 use pci_base::range::RootRange;
 use pci_base::slot::Slot;
 use pci_tree::roots::Roots;
+use pciplan_lists::host_list::is_good_host_list;
+use pciplan_lists::list_word::list_of_word;
+use pciplan_lists::slot_list::slots_of_word;
+use pciplan_lists::spare_word::spares_of_word;
 use std::alloc::Global;
 
 /// Words of lists, and their ranges: the root bus or None, the first and the last address.

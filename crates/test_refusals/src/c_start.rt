@@ -1,8 +1,8 @@
 //! What a plan starts from, where a growth is refused, the array is short, or the dump is no text.
-use crate::plan_tests::{MANY, NONE};
-use crate::starting::{NoStart, start_into};
-use crate::texts::old_pair;
+use crate::c_plan::{MANY, NONE};
+use crate::c_texts::old_pair;
 use pci_dump::read_fault::ReadFault;
+use pciplan_c::starting::{NoStart, start_into};
 use std::alloc::Global;
 use std::test::Fail;
 use test_support::refusing::Refusing;

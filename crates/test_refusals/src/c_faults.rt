@@ -1,7 +1,7 @@
 //! Lists of the faults of a board whose two devices answer one address.
-use crate::calls::pciplan_faults;
-use crate::faults_words::FaultsWords;
-use crate::texts::{Pair, whole};
+use crate::c_texts::{Pair, whole};
+use pciplan_c::calls::pciplan_faults;
+use pciplan_c::faults_words::FaultsWords;
 use std::alloc::{AllocError, Global};
 use std::test::Fail;
 

@@ -1,10 +1,10 @@
 //! Plans of a board that was never set up: a bridge with a device behind it, and a device beside it.
-use crate::calls::pciplan_plan;
-use crate::ending::HeldBack;
-use crate::planning::plan_into;
-use crate::pools::PoolsOfC;
-use crate::register_write::RegisterWrite;
-use crate::texts::{Pair, whole};
+use crate::c_texts::{Pair, whole};
+use pciplan_c::calls::pciplan_plan;
+use pciplan_c::ending::HeldBack;
+use pciplan_c::planning::plan_into;
+use pciplan_c::pools::PoolsOfC;
+use pciplan_c::register_write::RegisterWrite;
 use std::alloc::{AllocError, Global};
 use std::test::Fail;
 use test_support::refusing::Refusing;

@@ -1,8 +1,8 @@
 //! Calls on texts of emulated machines.
-use crate::calls::pciplan_check;
-use crate::put::Withheld;
-use crate::texts::{Pair, desk_pair, old_pair, roots_pair};
-use crate::verdict::check_into;
+use crate::c_texts::{Pair, desk_pair, old_pair, roots_pair};
+use pciplan_c::calls::pciplan_check;
+use pciplan_c::put::Withheld;
+use pciplan_c::verdict::check_into;
 use std::alloc::Global;
 use std::test::Fail;
 use test_support::refusing::Refusing;
