@@ -9,6 +9,8 @@ use pci_tree::fault::Fault;
 use pci_tree::roots::Roots;
 use std::test::Fail;
 use test_support::registers::{Registers, bridge, device, list_at};
+use test_support::row::Row::{Bridge, Device};
+use test_support::row::{Row, dumps_of_rows};
 
 /// A function on bus, device and function.
 type Placed = (u8, u8, u8, Registers);
@@ -18,11 +20,9 @@ fn to_bus_1() -> Registers {
     bridge().bytes(0x18, &[0, 1, 1])
 }
 
-/// A device whose probe has a byte at an offset.
-fn read_back(off: u8) -> Registers {
-    let mut changed = device();
-    changed.probe.0[usize::from(off)] = 1;
-    changed
+/// A device whose probe has a byte at 3dh.
+fn stray() -> Registers {
+    device().register(0x3c, 0, 0x0000_0100)
 }
 
 /// Appends a function to a dump.
@@ -97,7 +97,7 @@ fn each_fault_is_named(rt: HostRuntime) -> Result<(), Fail> {
             Some(Fault::NoVendor(slot)),
         ),
         (device().byte(0x0e, 2), Some(Fault::HeaderKind(slot))),
-        (read_back(0x3d), Some(Fault::StrayProbe(slot, 0x3d))),
+        (stray(), Some(Fault::StrayProbe(slot, 0x3d))),
         (
             device().register(0x10, 0, 0xfff0_f000),
             Some(Fault::BarMask(slot, 0x10)),
@@ -142,21 +142,21 @@ fn the_earlier_phase_is_named(rt: HostRuntime) -> Result<(), Fail> {
     let rows = [
         (place, profile, Fault::PaletteSnoop(second)),
         (place, register, Fault::BarMask(second, 0x10)),
-        (place, read_back(0x3d), Fault::StrayProbe(second, 0x3d)),
+        (place, stray(), Fault::StrayProbe(second, 0x3d)),
         (profile, register, Fault::BarMask(second, 0x10)),
-        (profile, read_back(0x3d), Fault::StrayProbe(second, 0x3d)),
-        (register, read_back(0x3d), Fault::StrayProbe(second, 0x3d)),
+        (profile, stray(), Fault::StrayProbe(second, 0x3d)),
+        (register, stray(), Fault::StrayProbe(second, 0x3d)),
         // the other way round, and of one phase
         (profile, place, Fault::PaletteSnoop(first)),
         (register, profile, Fault::BarMask(first, 0x10)),
-        (read_back(0x3d), register, Fault::StrayProbe(first, 0x3d)),
+        (stray(), register, Fault::StrayProbe(first, 0x3d)),
         (
             profile,
             to_bus_1().byte(0x3e, 0x08),
             Fault::PaletteSnoop(first),
         ),
         (
-            read_back(0x3d),
+            stray(),
             device().byte(0x0e, 2),
             Fault::StrayProbe(first, 0x3d),
         ),
@@ -167,32 +167,59 @@ fn the_earlier_phase_is_named(rt: HostRuntime) -> Result<(), Fail> {
     Ok(())
 }
 
+/// A function 3 without a function 0, and with it.
+const LONE: &[Row] = &[Device("00:01.3", 0, &[])];
+
+const OF_TWO: &[Row] = &[Device("00:01.0", 0, &[]), Device("00:01.3", 0, &[])];
+
+/// A device on bus 01, and behind a bridge to it.
+const ORPHAN: &[Row] = &[Device("01:00.0", 0, &[])];
+
+const BEHIND: &[Row] = &[
+    Bridge("00:01.0", 0, (0, 1, 1), &[]),
+    Device("01:00.0", 0, &[]),
+];
+
+/// What comes of the admission of a board.
+fn admission(
+    rt: &HostRuntime,
+    board: &[Row],
+    roots: Roots,
+) -> Option<Result<Admitted, Refused<Fault>>> {
+    let (dump, probe) = dumps_of_rows(rt.alloc(), board)?;
+    Some(admit_with(rt.alloc(), dump, probe, roots))
+}
+
+/// Whether a board is admitted on some roots, or refused by this fault.
+fn is_placed(rt: &HostRuntime, board: &[Row], roots: Roots, fault: Option<Fault>) -> bool {
+    match admission(rt, board, roots) {
+        Some(answer) => ends_with(answer, fault),
+        None => false,
+    }
+}
+
+/// Whether each board is answered so below bus 00.
+fn are_placed_on_host(rt: &HostRuntime, lone: Slot, orphan: Slot) -> bool {
+    let host = Roots::host();
+    is_placed(rt, LONE, host, Some(Fault::LoneFunction(lone)))
+        && is_placed(rt, OF_TWO, host, None)
+        && is_placed(rt, ORPHAN, host, Some(Fault::Orphan(orphan)))
+        && is_placed(rt, BEHIND, host, None)
+}
+
+/// Whether they are where bus 01 is a root as well.
+fn are_placed_on_both(rt: &HostRuntime, both: Roots, bridge: Slot) -> bool {
+    is_placed(rt, ORPHAN, both, None) && is_placed(rt, BEHIND, both, Some(Fault::BusRange(bridge)))
+}
+
 #[test]
 fn each_function_has_its_place(rt: HostRuntime) -> Result<(), Fail> {
     let lone = Slot::new(0, 1, 3).ok_or("a slot")?;
     let orphan = Slot::new(1, 0, 0).ok_or("a slot")?;
-    let behind = Slot::new(0, 1, 0).ok_or("a slot")?;
-    let host = Roots::host();
+    let bridge = Slot::new(0, 1, 0).ok_or("a slot")?;
     let both = Roots::of(&[0, 1]).ok_or("roots")?;
-    let rows: [(Roots, &[Placed], Option<Fault>); 6] = [
-        (
-            host,
-            &[(0, 1, 3, device())],
-            Some(Fault::LoneFunction(lone)),
-        ),
-        (host, &[(0, 1, 0, device()), (0, 1, 3, device())], None),
-        (host, &[(1, 0, 0, device())], Some(Fault::Orphan(orphan))),
-        (both, &[(1, 0, 0, device())], None),
-        (host, &[(0, 1, 0, to_bus_1()), (1, 0, 0, device())], None),
-        (
-            both,
-            &[(0, 1, 0, to_bus_1()), (1, 0, 0, device())],
-            Some(Fault::BusRange(behind)),
-        ),
-    ];
-    for (roots, functions, fault) in rows {
-        assert!(rt; is_answered(&rt, roots, functions, fault), "{fault:?}");
-    }
+    assert!(rt; are_placed_on_host(&rt, lone, orphan));
+    assert!(rt; are_placed_on_both(&rt, both, bridge));
     Ok(())
 }
 
@@ -232,7 +259,7 @@ fn other_slots_are_named_first(rt: HostRuntime) -> Result<(), Fail> {
 
 /// A bridge and a device behind it, admitted.
 fn bridged(rt: &HostRuntime) -> Option<Admitted> {
-    let (dump, probe) = pair(rt, &[(0, 1, 0, to_bus_1()), (1, 0, 0, device())])?;
+    let (dump, probe) = dumps_of_rows(rt.alloc(), BEHIND)?;
     admit(rt.alloc(), dump, probe).ok()
 }
 
