@@ -17,6 +17,7 @@ pub mod Headings
 pub mod Filtered
 pub mod Members
 pub mod Groups
+pub mod Once
 pub mod Sections
 pub mod HexDigits
 pub mod DecimalDigits

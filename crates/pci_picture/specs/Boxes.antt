@@ -77,3 +77,10 @@ pub record IsPictureOf (map text : List ℕ) : Type 0 where
   pub height : ℕ
   pub drawn : IsDrawnOf (all_of sections ++ off) height text
   pub stand : EachStands height sections
+
+-- sections that have what stands below their headings and what is out of place, and a list of what is off, have each region of
+-- the map exactly once, as often as it stands there
+abbrev pub EachRegionOnce : Type 0
+EachRegionOnce = (map : List ℕ) (sections : List Section) (off : List Spot) → AreSectionsOf (headed_regions map) sections
+    → lines_drawn off ≡ lines_below is_off (headed_regions map)
+    → IsPermutation (region_lines map) (lines_drawn (all_of sections ++ off))
