@@ -2,7 +2,7 @@
 use Rattle.std.proofs.Common.{◌≡◌, ◌≤◌, ◌<◌, ◌+◌, ℕ, List, refl, ap, subst, inl, inr, arith}
 use Rattle.std.specs.List.{All, Contains}
 use Rattle.std.proofs.lemmas.Bool.{cases_lt}
-use Rattle.pci_picture.specs.Spots.{first_address, last_address, StandsAt, BoxesAreApart}
+use Rattle.pci_picture.specs.Spots.{first_address, region_last_address, BoxStandsAt, BoxesAreApart}
 use Rattle.pci_picture.proofs.Framed.{end_drawn}
 
 held_at : {X : Type 0} (P : X → Type 0) (xs : List X) (x : X) → All P xs → Contains xs x → P x
@@ -19,10 +19,10 @@ not_above height_of low high rises le =
 pub boxes_are_apart : BoxesAreApart
 boxes_are_apart spots one other standing here there less =
     let f = standing.height_of in
-    let past : ℕ = last_address one.line + 1 in
+    let past : ℕ = region_last_address one.line + 1 in
     let first : ℕ = first_address other.line in
-    let above : StandsAt f one = held_at (StandsAt f) spots one standing.stand here in
-    let below : StandsAt f other = held_at (StandsAt f) spots other standing.stand there in
+    let above : BoxStandsAt f one = held_at (BoxStandsAt f) spots one standing.stand here in
+    let below : BoxStandsAt f other = held_at (BoxStandsAt f) spots other standing.stand there in
     let ends : one.y + one.height + 1 ≡ f past = above.ends in
     let begins : other.y ≡ f first = below.begins in
     let up : f past ≤ f first =

@@ -6,9 +6,9 @@ use Rattle.std.specs.List.{flat_map}
 use Rattle.std.specs.String.{string_bytes}
 use Rattle.pci_picture.specs.Elements.{box_text, words_text, axis_text, tick_text, gap_text}
 use Rattle.pci_picture.specs.Boxes.{HasTitles, no_element, a_box, a_line, at_axis, a_tick, a_gap, Titled, titled, titled_spot, HasSpots, AreDrawn, IsDrawnOf}
-use Rattle.pci_picture.specs.Spots.{Spot}
+use Rattle.pci_picture.specs.Spots.{BoxSpot}
 use Rattle.pci_picture.specs.Whole.{picture_text}
-use Rattle.pci_picture.specs.Canvases.{HasDrawn, Adds, AddsSome}
+use Rattle.pci_picture.specs.Canvases.{HasDrawn, AddsToCanvas, AddsSome}
 use Rattle.pci_picture.specs.declared.canvas.Canvas.{Canvas}
 
 -- boxes behind boxes
@@ -53,7 +53,7 @@ gap_titles x y to = subst (HasTitles []) (append-nil (gap_text x y to)) (a_gap x
 
 -- ---- regions of boxes
 
-pub spots_append : (s t : List Spot) (a b : List ℕ) → HasSpots s a → HasSpots t b → HasSpots (s ++ t) (a ++ b)
+pub spots_append : (s t : List BoxSpot) (a b : List ℕ) → HasSpots s a → HasSpots t b → HasSpots (s ++ t) (a ++ b)
 spots_append s t a b h k = record {
   boxes = h.boxes ++ k.boxes;
   has = titles_append h.boxes k.boxes a b h.has k.has;
@@ -75,7 +75,7 @@ box_spots x y width height class anchor title = record {
 pub added_box : {A : Type 0} (x y width height : ℕ) (class anchor title : List ℕ) (before after : Canvas A) (empty element : List ℕ)
     → empty ≡ [] → element ≡ empty ++ box_text x y width height class anchor title
     → string_bytes after.boxes ≡ string_bytes before.boxes ++ element → string_bytes after.words ≡ string_bytes before.words
-    → Adds (titled_spot (titled y height title)) before after
+    → AddsToCanvas (titled_spot (titled y height title)) before after
 added_box x y width height class anchor title before after empty element none made boxes words = record {
   behind = λ spots drawn.
       let e : element ≡ box_text x y width height class anchor title = made ∙ ap (λ l. l ++ box_text x y width height class anchor title) none in
@@ -90,7 +90,7 @@ added_box x y width height class anchor title before after empty element none ma
 pub added_bare : {A : Type 0} (made : List ℕ) → HasTitles [] made → (before after : Canvas A) (empty element : List ℕ)
     → empty ≡ [] → element ≡ empty ++ made
     → string_bytes after.boxes ≡ string_bytes before.boxes ++ element → string_bytes after.words ≡ string_bytes before.words
-    → Adds [] before after
+    → AddsToCanvas [] before after
 added_bare made bare before after empty element none is boxes words = record {
   behind = λ spots drawn.
       let e : element ≡ made = is ∙ ap (λ l. l ++ made) none in
@@ -105,7 +105,7 @@ added_bare made bare before after empty element none is boxes words = record {
 pub added_words : {A : Type 0} (made : List ℕ) → HasTitles [] made → (before after : Canvas A) (empty element : List ℕ)
     → empty ≡ [] → element ≡ empty ++ made
     → string_bytes after.boxes ≡ string_bytes before.boxes → string_bytes after.words ≡ string_bytes before.words ++ element
-    → Adds [] before after
+    → AddsToCanvas [] before after
 added_words made bare before after empty element none is boxes words = record {
   behind = λ spots drawn.
       let e : element ≡ made = is ∙ ap (λ l. l ++ made) none in
@@ -117,40 +117,40 @@ added_words made bare before after empty element none is boxes words = record {
 }
 
 -- nothing is added
-pub unchanged : {A : Type 0} (canvas : Canvas A) → Adds [] canvas canvas
+pub unchanged : {A : Type 0} (canvas : Canvas A) → AddsToCanvas [] canvas canvas
 unchanged canvas = record {
   behind = λ spots drawn. subst (λ l. HasDrawn l canvas) (sym (append-nil spots)) drawn;
 }
 
 -- one after the other
-pub then_adds : {A : Type 0} (first second : List Spot) (before between after : Canvas A)
-    → Adds first before between → Adds second between after → Adds (first ++ second) before after
+pub then_adds : {A : Type 0} (first second : List BoxSpot) (before between after : Canvas A)
+    → AddsToCanvas first before between → AddsToCanvas second between after → AddsToCanvas (first ++ second) before after
 then_adds first second before between after one other = record {
   behind = λ spots drawn.
       subst (λ l. HasDrawn l after) (append_assoc spots first second) (other.behind (spots ++ first) (one.behind spots drawn));
 }
 
 -- nothing, and then some; some, and then nothing
-pub then_draws : {A : Type 0} (spots : List Spot) (before between after : Canvas A)
-    → Adds [] before between → Adds spots between after → Adds spots before after
+pub then_draws : {A : Type 0} (spots : List BoxSpot) (before between after : Canvas A)
+    → AddsToCanvas [] before between → AddsToCanvas spots between after → AddsToCanvas spots before after
 then_draws spots before between after one other = then_adds [] spots before between after one other
 
-pub then_keeps : {A : Type 0} (spots : List Spot) (before between after : Canvas A)
-    → Adds spots before between → Adds [] between after → Adds spots before after
+pub then_keeps : {A : Type 0} (spots : List BoxSpot) (before between after : Canvas A)
+    → AddsToCanvas spots before between → AddsToCanvas [] between after → AddsToCanvas spots before after
 then_keeps spots before between after one other =
-    subst (λ l. Adds l before after) (append-nil spots) (then_adds spots [] before between after one other)
+    subst (λ l. AddsToCanvas l before after) (append-nil spots) (then_adds spots [] before between after one other)
 
 -- the same of some of which something holds
-pub then_some : {A : Type 0} (Hold : List Spot → Type 0) (before between after : Canvas A)
-    → Adds [] before between → AddsSome Hold between after → AddsSome Hold before after
+pub then_some : {A : Type 0} (Hold : List BoxSpot → Type 0) (before between after : Canvas A)
+    → AddsToCanvas [] before between → AddsSome Hold between after → AddsSome Hold before after
 then_some Hold before between after one other = record {
   spots = other.spots;
   hold = other.hold;
   adds = then_draws other.spots before between after one other.adds;
 }
 
-pub keeps_some : {A : Type 0} (Hold : List Spot → Type 0) (before between after : Canvas A)
-    → AddsSome Hold before between → Adds [] between after → AddsSome Hold before after
+pub keeps_some : {A : Type 0} (Hold : List BoxSpot → Type 0) (before between after : Canvas A)
+    → AddsSome Hold before between → AddsToCanvas [] between after → AddsSome Hold before after
 keeps_some Hold before between after one other = record {
   spots = one.spots;
   hold = one.hold;
@@ -166,7 +166,7 @@ none_titles text none = subst (HasTitles []) (sym none) no_element
 
 -- the picture of what is drawn
 pub drawn_of : {T E : Type 0} (result : Result T E) (bytes : T → List ℕ) (is_told : Bool) (boxes words : List ℕ) (width height : ℕ)
-    (spots : List Spot) → AreDrawn spots boxes words
+    (spots : List BoxSpot) → AreDrawn spots boxes words
     → IfOk result (λ t. bytes t ≡ picture_text is_told boxes words width height) → IfOk result (λ t. IsDrawnOf spots height (bytes t))
 drawn_of (Err e) bytes is_told boxes words width height spots drawn is = tt
 drawn_of (Ok t) bytes is_told boxes words width height spots drawn is = record {
@@ -180,23 +180,23 @@ drawn_of (Ok t) bytes is_told boxes words width height spots drawn is = record {
 
 -- ---- at the end of a function: its last step is a call, which may fail
 
-pub then_ok : {A T E : Type 0} (result : Result T E) (spots : List Spot) (before between after : Canvas A)
-    → Adds [] before between → IfOk result (λ _. Adds spots between after) → IfOk result (λ _. Adds spots before after)
+pub then_ok : {A T E : Type 0} (result : Result T E) (spots : List BoxSpot) (before between after : Canvas A)
+    → AddsToCanvas [] before between → IfOk result (λ _. AddsToCanvas spots between after) → IfOk result (λ _. AddsToCanvas spots before after)
 then_ok (Err e) spots before between after one other = tt
 then_ok (Ok t) spots before between after one other = then_draws spots before between after one other
 
-pub keep_ok : {A T E : Type 0} (result : Result T E) (spots : List Spot) (before between after : Canvas A)
-    → Adds spots before between → IfOk result (λ _. Adds [] between after) → IfOk result (λ _. Adds spots before after)
+pub keep_ok : {A T E : Type 0} (result : Result T E) (spots : List BoxSpot) (before between after : Canvas A)
+    → AddsToCanvas spots before between → IfOk result (λ _. AddsToCanvas [] between after) → IfOk result (λ _. AddsToCanvas spots before after)
 keep_ok (Err e) spots before between after one other = tt
 keep_ok (Ok t) spots before between after one other = then_keeps spots before between after one other
 
 -- a box whose title has these lines
-pub box_ok : {A T E : Type 0} (result : Result T E) (spots more : List Spot) (before after : Canvas A)
-    → more ≡ spots → IfOk result (λ _. Adds more before after) → IfOk result (λ _. Adds spots before after)
-box_ok result spots more before after is adds = subst (λ l. IfOk result (λ _. Adds l before after)) is adds
+pub box_ok : {A T E : Type 0} (result : Result T E) (spots more : List BoxSpot) (before after : Canvas A)
+    → more ≡ spots → IfOk result (λ _. AddsToCanvas more before after) → IfOk result (λ _. AddsToCanvas spots before after)
+box_ok result spots more before after is adds = subst (λ l. IfOk result (λ _. AddsToCanvas l before after)) is adds
 
-pub adds_same : {A : Type 0} (spots more : List Spot) (before after : Canvas A) → more ≡ spots → Adds more before after → Adds spots before after
-adds_same spots more before after is adds = subst (λ l. Adds l before after) is adds
+pub adds_same : {A : Type 0} (spots more : List BoxSpot) (before after : Canvas A) → more ≡ spots → AddsToCanvas more before after → AddsToCanvas spots before after
+adds_same spots more before after is adds = subst (λ l. AddsToCanvas l before after) is adds
 
 -- no height falls
 pub up_to : (a b c : ℕ) → a ≤ b → b ≤ c → a ≤ c

@@ -1,7 +1,7 @@
 -- Which texts XML reads as content.
 use Rattle.std.proofs.Common.{ℕ, Bool, List, [], ◌++◌, sym, subst}
 use Rattle.std.proofs.lemmas.List.{append_assoc, append-nil}
-use Rattle.pci_picture.specs.Xml.{is_plain, is_unquoted, AreCharacters, no_character, character, entity, AreAttributes, no_attribute, one_attribute, attribute, element, empty_element, IsName, IsContent, nothing, text, one_element, one_empty}
+use Rattle.pci_picture.specs.Xml.{is_plain_character, is_unquoted, AreCharacters, no_character, character, entity, AreAttributes, no_attribute, one_attribute, attribute, element, empty_element, IsXmlName, IsContent, nothing, text, one_element, one_empty}
 
 -- characters behind characters are characters
 pub characters_append : (allowed : ℕ → Bool) (a b : List ℕ) → AreCharacters allowed a → AreCharacters allowed b
@@ -32,17 +32,17 @@ content_append _ b (one_empty name attributes rest named lawful r) h =
     (one_empty name attributes (rest ++ b) named lawful (content_append rest b r h))
 
 -- characters alone
-pub content_of : (a : List ℕ) → AreCharacters is_plain a → IsContent a
+pub content_of : (a : List ℕ) → AreCharacters is_plain_character a → IsContent a
 content_of a h = subst IsContent (append-nil a) (text a [] h nothing)
 
 -- one element alone
-pub element_content : (name attributes content : List ℕ) → IsName name → AreAttributes attributes → IsContent content
+pub element_content : (name attributes content : List ℕ) → IsXmlName name → AreAttributes attributes → IsContent content
     → IsContent (element name attributes content)
 element_content name attributes content named lawful closed =
     subst IsContent (append-nil (element name attributes content)) (one_element name attributes content [] named lawful closed nothing)
 
 -- one attribute alone
-pub attribute_lawful : (name value : List ℕ) → IsName name → AreCharacters is_unquoted value
+pub attribute_lawful : (name value : List ℕ) → IsXmlName name → AreCharacters is_unquoted value
     → AreAttributes (attribute name value)
 attribute_lawful name value named lawful =
     subst AreAttributes (append-nil (attribute name value)) (one_attribute name value [] named lawful no_attribute)

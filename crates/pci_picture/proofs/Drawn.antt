@@ -1,8 +1,8 @@
 -- What is drawn is content.
 use Rattle.std.proofs.Common.{ℕ, List, [], ◌∷◌, ◌<◌, ◌^◌, refl, subst, codes}
 use Rattle.std.specs.Fmt.{decimal}
-use Rattle.pci_picture.specs.Xml.{is_unquoted, AreCharacters, no_character, character, AreAttributes, no_attribute, attribute, empty_element, IsName, IsContent, one_empty, nothing}
-use Rattle.pci_picture.specs.Elements.{escaped, number_attribute, text_attribute, frame_attributes, rect_attributes, place_attributes, title_text, box_text, words_text, faint_text, axis_words, axis_text, path_value, tick_text, gap_text}
+use Rattle.pci_picture.specs.Xml.{is_unquoted, AreCharacters, no_character, character, AreAttributes, no_attribute, attribute, empty_element, IsXmlName, IsContent, one_empty, nothing}
+use Rattle.pci_picture.specs.Elements.{escaped, number_attribute, text_attribute, frame_attributes, rect_attributes, place_attributes, title_element, box_text, words_text, faint_text, axis_words, axis_text, path_value, tick_text, gap_text}
 use Rattle.std.proofs.lemmas.List.{append-nil}
 use Rattle.pci_picture.proofs.Contents.{characters_append, attributes_append, content_append, content_of, element_content, attribute_lawful}
 use Rattle.pci_picture.proofs.Escapes.{plain_characters, escaped_characters, decimal_characters}
@@ -13,11 +13,11 @@ escaped_content bytes = content_of (escaped bytes) (plain_characters (escaped by
 pub feed : IsContent (10 ∷ [])
 feed = content_of (10 ∷ []) (character 10 [] refl no_character)
 
-pub number_lawful : (name : List ℕ) (n : ℕ) → IsName name → n < 2 ^ 64 → AreAttributes (number_attribute name n)
+pub number_lawful : (name : List ℕ) (n : ℕ) → IsXmlName name → n < 2 ^ 64 → AreAttributes (number_attribute name n)
 unfolding number_attribute
 number_lawful name n named small = attribute_lawful name (decimal n) named (decimal_characters n small)
 
-text_lawful : (name bytes : List ℕ) → IsName name → AreAttributes (text_attribute name bytes)
+text_lawful : (name bytes : List ℕ) → IsXmlName name → AreAttributes (text_attribute name bytes)
 unfolding text_attribute
 text_lawful name [] named = no_attribute
 text_lawful name (b ∷ bytes) named = attribute_lawful name (escaped (b ∷ bytes)) named (escaped_characters (b ∷ bytes))
@@ -41,8 +41,8 @@ rect_lawful x y width height class anchor sx sy sw sh =
     attributes_append _ _ (frame_lawful x y width height sx sy sw sh)
     (attributes_append _ _ (text_lawful (codes "class") class refl) (text_lawful (codes "id") anchor refl))
 
-title_content : (title : List ℕ) → IsContent (title_text title)
-unfolding title_text
+title_content : (title : List ℕ) → IsContent (title_element title)
+unfolding title_element
 title_content title = element_content (codes "title") [] (escaped title) refl no_attribute (escaped_content title)
 
 pub box_content : (x y width height : ℕ) (class anchor title : List ℕ) → x < 2 ^ 64 → y < 2 ^ 64 → width < 2 ^ 64 → height < 2 ^ 64
@@ -97,7 +97,7 @@ path_characters x y step ok sx sy =
     (characters_append is_unquoted _ _ (decimal_characters x sx)
     (character 32 _ refl (characters_append is_unquoted _ _ (decimal_characters y sy) ok)))
 
-pub empty_content : (name attributes : List ℕ) → IsName name → AreAttributes attributes → IsContent (empty_element name attributes)
+pub empty_content : (name attributes : List ℕ) → IsXmlName name → AreAttributes attributes → IsContent (empty_element name attributes)
 empty_content name attributes named lawful =
     subst IsContent (append-nil (empty_element name attributes)) (one_empty name attributes [] named lawful nothing)
 

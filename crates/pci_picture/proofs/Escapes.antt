@@ -3,15 +3,15 @@ use Rattle.std.proofs.Common.{◌≡◌, ℕ, Bool, true, false, IsTrue, List, [
 use Rattle.std.proofs.lemmas.Bool.{and_parts, ne_eqb}
 use Rattle.std.proofs.lemmas.Fmt.{decimal_by_steps}
 use Rattle.std.specs.Fmt.{decimal}
-use Rattle.pci_picture.specs.Xml.{is_plain, is_unquoted, AreCharacters, no_character, character, entity, ampersand, less, greater, quote, apostrophe}
+use Rattle.pci_picture.specs.Xml.{is_plain_character, is_unquoted, AreCharacters, no_character, character, entity, ampersand, less, greater, quote, apostrophe}
 use Rattle.pci_picture.specs.Elements.{is_shown, escaped_byte, escaped}
 use Rattle.pci_picture.proofs.Contents.{characters_append}
 
 -- what a value may have, content may have too
-pub plain_characters : (a : List ℕ) → AreCharacters is_unquoted a → AreCharacters is_plain a
+pub plain_characters : (a : List ℕ) → AreCharacters is_unquoted a → AreCharacters is_plain_character a
 plain_characters _ no_character = no_character
 plain_characters _ (character c rest ok r) =
-    character c rest ((and_parts (is_plain c) (not (c == 34)) ok).0) (plain_characters rest r)
+    character c rest ((and_parts (is_plain_character c) (not (c == 34)) ok).0) (plain_characters rest r)
 plain_characters _ (entity e rest is r) = entity e rest is (plain_characters rest r)
 
 -- a byte that is none of the three is allowed

@@ -1,7 +1,7 @@
 -- Lines of maps, their headings, and titles.
 use Rattle.std.proofs.Common.{◌≡◌, ℕ, List, [], ◌∷◌, ◌++◌, codes, refl, arith}
-use Rattle.pci_picture.specs.Headings.{AreSectionsOf, Headed, heading_told, headed_regions, is_lost, is_off, is_section, lines_below}
-use Rattle.pci_picture.specs.Lines.{region_lines, is_region_line, is_range, is_part, is_slot, is_register, is_told_number, words_of}
+use Rattle.pci_picture.specs.Headings.{AreSectionsOf, Headed, heading_told, headed_regions, is_lost, is_below_no_heading, is_section, lines_below_headings}
+use Rattle.pci_picture.specs.Lines.{region_lines, is_region_line, is_range, names_part, is_slot, is_register, is_told_number, words_in_line}
 use Rattle.pci_picture.specs.Boxes.{titled_line}
 use Rattle.pci_picture.specs.Spots.{Section}
 use Rattle.pci_picture.specs.declared.map.Heading.TheVariants.{Section as InSection, Lost, Off}
@@ -9,13 +9,13 @@ use Rattle.pci_picture.specs.declared.map.Heading.TheVariants.{Section as InSect
 -- a map of a heading and a line
 one_region : region_lines (codes "bus 00 io" ++ 10 ∷ codes "  0000d040-0000d05f 32 bar 00:1f.2 20")
     ≡ codes "0000d040-0000d05f 32 bar 00:1f.2 20" ∷ []
-unfolding is_region_line is_range is_part is_slot is_register words_of
+unfolding is_region_line is_range names_part is_slot is_register words_in_line
 one_region = refl
 
 -- what is inside a window, and what is free there
 inner_regions : region_lines (codes "    fe800000-fe8fffff 1M bar pref 43:00.0 20" ++ 10 ∷ codes "    fe900000-fe9fffff 1M free")
     ≡ codes "fe800000-fe8fffff 1M bar pref 43:00.0 20" ∷ codes "fe900000-fe9fffff 1M free" ∷ []
-unfolding is_region_line is_range is_part is_slot is_register words_of
+unfolding is_region_line is_range names_part is_slot is_register words_in_line
 inner_regions = refl
 
 -- ranges that are told, with a name and without one
@@ -23,54 +23,54 @@ told_regions : region_lines (codes "    e0000000-e001ffff 128K told 01:00.0 +2 v
     ++ 10 ∷ (codes "  fd000000-fdffffff 16M held 00:1f.1 +10 p2sb" ++ 10 ∷ codes "  f0000000-f0000fff 4K held pref 01:1f.0 +1 x")))
     ≡ codes "e0000000-e001ffff 128K told 01:00.0 +2 vf0" ∷ codes "e0020000-e002ffff 64K told pref 01:00.0 +4096"
     ∷ codes "fd000000-fdffffff 16M held 00:1f.1 +10 p2sb" ∷ codes "f0000000-f0000fff 4K held pref 01:1f.0 +1 x" ∷ []
-unfolding is_region_line is_range is_part is_slot is_register is_told_number words_of
+unfolding is_region_line is_range names_part is_slot is_register is_told_number words_in_line
 told_regions = refl
 
 -- no number, 0, a zero before it, one too many, a register, and the word `pref` twice
 untold_regions : region_lines (codes "  d040-d05f 32 told 00:1f.2 +" ++ 10 ∷ (codes "  d040-d05f 32 told 00:1f.2 +0" ++ 10 ∷ (codes "  d040-d05f 32 told 00:1f.2 +01"
     ++ 10 ∷ (codes "  d040-d05f 32 told 00:1f.2 +4097" ++ 10 ∷ (codes "  d040-d05f 32 told 00:1f.2 20" ++ 10 ∷ codes "  d040-d05f 32 held pref pref 00:1f.2 +1"))))) ≡ []
-unfolding is_region_line is_range is_part is_slot is_register is_told_number words_of
+unfolding is_region_line is_range names_part is_slot is_register is_told_number words_in_line
 untold_regions = refl
 
 -- one blank, a range whose ends fall, a word that is no part, and a slot of other digits
 no_region : region_lines (codes " d040-d05f 32 free" ++ 10 ∷ (codes "  d05f-d040 32 free" ++ 10 ∷ (codes "  d040-d05f 32 used"
     ++ 10 ∷ codes "  d040-d05f 32 rom 00:1F.2 20"))) ≡ []
-unfolding is_region_line is_range is_part is_slot is_register words_of
+unfolding is_region_line is_range names_part is_slot is_register words_in_line
 no_region = refl
 
 -- the title of a region with the name of its function, and that of a fault
 of_region : titled_line (codes "d040-d05f 32 bar 00:1f.2 20" ++ 10 ∷ codes "SATA controller") ≡ codes "d040-d05f 32 bar 00:1f.2 20" ∷ []
-unfolding is_region_line is_range is_part is_slot is_register words_of
+unfolding is_region_line is_range names_part is_slot is_register words_in_line
 of_region = refl
 
 of_fault : titled_line (codes "61 Clash bus 00 io 00000720 00:1f.3 20 00:1f.2 20") ≡ []
-unfolding is_region_line is_range is_part is_slot is_register words_of
+unfolding is_region_line is_range names_part is_slot is_register words_in_line
 of_fault = refl
 
 -- headings: of bus 1f the section of I/O has the number 62, that of memory 63
 of_io : heading_told (codes "bus 1f io") ≡ InSection 62
-unfolding heading_told is_register words_of
+unfolding heading_told is_register words_in_line
 of_io = refl
 
 of_memory : heading_told (codes "bus 1f mem") ≡ InSection 63
-unfolding heading_told is_register words_of
+unfolding heading_told is_register words_in_line
 of_memory = refl
 
 -- a bus in other digits
 of_no_bus : heading_told (codes "bus 1F io") ≡ Off
-unfolding heading_told is_register words_of
+unfolding heading_told is_register words_in_line
 of_no_bus = refl
 
 of_outside : heading_told (codes "outside") ≡ Lost
-unfolding heading_told is_register words_of
+unfolding heading_told is_register words_in_line
 of_outside = refl
 
 of_unreached : heading_told (codes " unreached") ≡ Lost
-unfolding heading_told is_register words_of
+unfolding heading_told is_register words_in_line
 of_unreached = refl
 
 of_off : heading_told (codes "off") ≡ Off
-unfolding heading_told is_register words_of
+unfolding heading_told is_register words_in_line
 of_off = refl
 
 -- a map with a line before its headings, with two sections, and with what is out of place and off
@@ -78,20 +78,20 @@ abbrev headed_map : List ℕ
 headed_map = codes "  a-b 2 free" ++ 10 ∷ (codes "bus 00 io" ++ 10 ∷ (codes "  c-d 2 free" ++ 10 ∷ (codes "bus 00 mem" ++ 10 ∷ (codes "  e-f 2 free"
     ++ 10 ∷ (codes "    0-1 2 free" ++ 10 ∷ (codes "outside" ++ 10 ∷ (codes "  2-3 2 free" ++ 10 ∷ (codes "off" ++ 10 ∷ codes "  4-5 2 free"))))))))
 
-below_io : lines_below (is_section 0) (headed_regions headed_map) ≡ codes "c-d 2 free" ∷ []
-unfolding heading_told is_region_line is_range is_part is_register words_of
+below_io : lines_below_headings (is_section 0) (headed_regions headed_map) ≡ codes "c-d 2 free" ∷ []
+unfolding heading_told is_region_line is_range names_part is_register words_in_line
 below_io = refl
 
-below_memory : lines_below (is_section 1) (headed_regions headed_map) ≡ codes "e-f 2 free" ∷ codes "0-1 2 free" ∷ []
-unfolding heading_told is_region_line is_range is_part is_register words_of
+below_memory : lines_below_headings (is_section 1) (headed_regions headed_map) ≡ codes "e-f 2 free" ∷ codes "0-1 2 free" ∷ []
+unfolding heading_told is_region_line is_range names_part is_register words_in_line
 below_memory = refl
 
-out_of_place : lines_below is_lost (headed_regions headed_map) ≡ codes "2-3 2 free" ∷ []
-unfolding heading_told is_region_line is_range is_part is_register words_of
+out_of_place : lines_below_headings is_lost (headed_regions headed_map) ≡ codes "2-3 2 free" ∷ []
+unfolding heading_told is_region_line is_range names_part is_register words_in_line
 out_of_place = refl
 
-below_none : lines_below is_off (headed_regions headed_map) ≡ codes "a-b 2 free" ∷ codes "4-5 2 free" ∷ []
-unfolding heading_told is_region_line is_range is_part is_register words_of
+below_none : lines_below_headings is_below_no_heading (headed_regions headed_map) ≡ codes "a-b 2 free" ∷ codes "4-5 2 free" ∷ []
+unfolding heading_told is_region_line is_range names_part is_register words_in_line
 below_none = refl
 
 -- two sections of one number are refused

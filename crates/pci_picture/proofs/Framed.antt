@@ -4,10 +4,10 @@ use Rattle.std.specs.List.{All, Any, Contains}
 use Rattle.std.specs.List.Sorted.{IsNonDecreasingBy}
 use Rattle.std.proofs.lemmas.List.{map-append, map_more, take_all}
 use Rattle.std.proofs.lemmas.List.Elements.{All-append, All-cons, All-nil, Contains-get_or}
-use Rattle.pci_picture.specs.Canvases.{Adds, AddsSome}
+use Rattle.pci_picture.specs.Canvases.{AddsToCanvas, AddsSome}
 use Rattle.pci_picture.specs.Drawings.{IsFramed, IsFramedAt, ArePlanned, AreFramed, AreOfSection}
-use Rattle.pci_picture.specs.Maps.{lines_of, regions_at}
-use Rattle.pci_picture.specs.Spots.{Spot, first_address, last_address, spot_at, lines_drawn, IsEndOf, Rise, StandsAt}
+use Rattle.pci_picture.specs.Maps.{lines_of_regions, regions_placed}
+use Rattle.pci_picture.specs.Spots.{BoxSpot, first_address, region_last_address, spot_at, lines_drawn, IsEndOf, Rise, BoxStandsAt}
 use Rattle.pci_picture.specs.Stacked.{height_at}
 use Rattle.pci_picture.specs.declared.canvas.Canvas.{Canvas}
 use Rattle.pci_picture.specs.declared.heights.Run.{Run}
@@ -20,12 +20,12 @@ use Rattle.pci_picture.proofs.Boxes.{then_adds, then_keeps, then_some, unchanged
 
 framed_at : (region : Region) (height_of : ℕ → ℕ) (y height : ℕ) → IsFramed height_of region.first region.last y height
     → IsFramedAt height_of (spot_at y height region.line.now)
-unfolding first_address last_address
+unfolding first_address region_last_address
 framed_at region height_of y height framed =
     let first : region.first ≡ first_address region.line.now = region.ends.first_is in
-    let last : region.last ≡ last_address region.line.now = region.ends.last_is in
+    let last : region.last ≡ region_last_address region.line.now = region.ends.last_is in
     record {
-      rises = subst (λ a. a ≤ last_address region.line.now) first (subst (λ a. region.first ≤ a) last region.ends.rises);
+      rises = subst (λ a. a ≤ region_last_address region.line.now) first (subst (λ a. region.first ≤ a) last region.ends.rises);
       framed = record {
         begins = framed.begins ∙ ap height_of first;
         ends = framed.ends ∙ ap (λ l. height_of (l + 1) - y - 1) last;
@@ -41,16 +41,16 @@ none_framed runs bottom canvas = record {
 
 pub box_more : {A : Type 0} (places : List Placed) (i : ℕ) (placed : Placed) (runs : List Run) (bottom y height : ℕ) (first before between after : Canvas A)
     → i < length places → placed ≡ get_or places i placed
-    → AddsSome (AreFramed (lines_of (regions_at (take i places))) runs bottom) first before
+    → AddsSome (AreFramed (lines_of_regions (regions_placed (take i places))) runs bottom) first before
     → (IsNonDecreasingBy (λ (run : Run). run.begin) runs → IsFramed (height_at runs bottom) placed.region.first placed.region.last y height)
-    → Adds (spot_at y height placed.region.line.now ∷ []) before between → Adds [] between after
-    → AddsSome (AreFramed (lines_of (regions_at (take (i + 1) places))) runs bottom) first after
+    → AddsToCanvas (spot_at y height placed.region.line.now ∷ []) before between → AddsToCanvas [] between after
+    → AddsSome (AreFramed (lines_of_regions (regions_placed (take (i + 1) places))) runs bottom) first after
 box_more places i placed runs bottom y height first before between after inside at done framed one kept =
-    let more : lines_of (regions_at (take (i + 1) places)) ≡ lines_of (regions_at (take i places)) ++ placed.region.line.now ∷ [] =
-    ap lines_of (map_more (λ p. p.region) places i placed inside)
-    ∙ map-append (λ r. r.line.now) (regions_at (take i places)) _
-    ∙ ap (λ p. lines_of (regions_at (take i places)) ++ p.region.line.now ∷ []) (sym at) in
-    let spot : Spot = spot_at y height placed.region.line.now in
+    let more : lines_of_regions (regions_placed (take (i + 1) places)) ≡ lines_of_regions (regions_placed (take i places)) ++ placed.region.line.now ∷ [] =
+    ap lines_of_regions (map_more (λ p. p.region) places i placed inside)
+    ∙ map-append (λ r. r.line.now) (regions_placed (take i places)) _
+    ∙ ap (λ p. lines_of_regions (regions_placed (take i places)) ++ p.region.line.now ∷ []) (sym at) in
+    let spot : BoxSpot = spot_at y height placed.region.line.now in
     record {
       spots = done.spots ++ spot ∷ [];
       hold = record {
@@ -64,36 +64,36 @@ box_more places i placed runs bottom y height first before between after inside 
     }
 
 pub all_framed : {A : Type 0} (places : List Placed) (i : ℕ) (runs : List Run) (bottom : ℕ) (first after : Canvas A) → length places ≤ i
-    → AddsSome (AreFramed (lines_of (regions_at (take i places))) runs bottom) first after
-    → AddsSome (AreFramed (lines_of (regions_at places)) runs bottom) first after
+    → AddsSome (AreFramed (lines_of_regions (regions_placed (take i places))) runs bottom) first after
+    → AddsSome (AreFramed (lines_of_regions (regions_placed places)) runs bottom) first after
 all_framed places i runs bottom first after past done =
-    subst (λ l. AddsSome (AreFramed (lines_of (regions_at l)) runs bottom) first after) (take_all i places past) done
+    subst (λ l. AddsSome (AreFramed (lines_of_regions (regions_placed l)) runs bottom) first after) (take_all i places past) done
 
 -- ---- the boxes of a section stand
 
-pub end_drawn : (address : ℕ) (spots : List Spot) (spot : Spot) → Contains spots spot → IsEndOf address spot.line → Any (IsEndOf address) (lines_drawn spots)
+pub end_drawn : (address : ℕ) (spots : List BoxSpot) (spot : BoxSpot) → Contains spots spot → IsEndOf address spot.line → Any (IsEndOf address) (lines_drawn spots)
 end_drawn address spots spot here end =
     any_mapped (IsEndOf address) (λ s. s.line) spots (any_at (λ s. IsEndOf address s.line) spots spot here end)
 
-stands : (height_of : ℕ → ℕ) (spot : Spot) → height_of (first_address spot.line) < height_of (last_address spot.line + 1)
-    → IsFramedAt height_of spot → StandsAt height_of spot
+stands : (height_of : ℕ → ℕ) (spot : BoxSpot) → height_of (first_address spot.line) < height_of (region_last_address spot.line + 1)
+    → IsFramedAt height_of spot → BoxStandsAt height_of spot
 stands height_of spot less framed =
     let begins : spot.y ≡ height_of (first_address spot.line) = framed.framed.begins in
-    let ends : spot.height ≡ height_of (last_address spot.line + 1) - spot.y - 1 = framed.framed.ends in
+    let ends : spot.height ≡ height_of (region_last_address spot.line + 1) - spot.y - 1 = framed.framed.ends in
     record { begins = begins; ends = omega (arith, less, begins, ends) }
 
-all_stand : (height_of : ℕ → ℕ) (spots : List Spot) → Rise (lines_drawn spots) height_of → All (IsFramedAt height_of) spots
-    → All (StandsAt height_of) spots
+all_stand : (height_of : ℕ → ℕ) (spots : List BoxSpot) → Rise (lines_drawn spots) height_of → All (IsFramedAt height_of) spots
+    → All (BoxStandsAt height_of) spots
 all_stand height_of spots rise framed k d lt =
-    let spot : Spot = get_or spots k d in
+    let spot : BoxSpot = get_or spots k d in
     let here : Contains spots spot = Contains-get_or spots k d lt in
-    let up : first_address spot.line ≤ last_address spot.line = (framed k d lt).rises in
+    let up : first_address spot.line ≤ region_last_address spot.line = (framed k d lt).rises in
     stands height_of spot
-    (rise (first_address spot.line) (last_address spot.line + 1) (end_drawn _ spots spot here (inl refl)) (end_drawn _ spots spot here (inr refl))
+    (rise (first_address spot.line) (region_last_address spot.line + 1) (end_drawn _ spots spot here (inl refl)) (end_drawn _ spots spot here (inr refl))
     (omega (arith, up)))
     (framed k d lt)
 
-of_section : (lines every : List (List ℕ)) (runs : List Run) (bottom end : ℕ) (spots : List Spot) → AreFramed every runs bottom spots → every ≡ lines
+of_section : (lines every : List (List ℕ)) (runs : List Run) (bottom end : ℕ) (spots : List BoxSpot) → AreFramed every runs bottom spots → every ≡ lines
     → bottom ≤ end → (bottom < 2 ^ 64 - 1 → ArePlanned lines runs bottom) → AreOfSection lines end spots
 of_section lines every runs bottom end spots framed is above planned = record {
   drawn = framed.drawn ∙ is;
@@ -109,7 +109,7 @@ of_section lines every runs bottom end spots framed is above planned = record {
 }
 
 pub adds_section : {A : Type 0} (lines every : List (List ℕ)) (runs : List Run) (bottom end : ℕ) (before between after : Canvas A)
-    → Adds [] before between → AddsSome (AreFramed every runs bottom) between after → every ≡ lines
+    → AddsToCanvas [] before between → AddsSome (AreFramed every runs bottom) between after → every ≡ lines
     → bottom ≤ end → (bottom < 2 ^ 64 - 1 → ArePlanned lines runs bottom) → AddsSome (AreOfSection lines end) before after
 adds_section lines every runs bottom end before between after head done is above planned =
     then_some (AreOfSection lines end) before between after head (record {

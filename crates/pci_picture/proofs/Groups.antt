@@ -9,10 +9,10 @@ use Rattle.std.proofs.lemmas.List.Concat.{flat_map-append}
 use Rattle.std.proofs.lemmas.List.Elements.{All-cons, All-head, All-map, All-nil, All-push, All-tail, All-weaker, filter-append, filter_agree}
 use Rattle.std.proofs.lemmas.List.Quantifiers.{all_pairs_push}
 use Rattle.std.proofs.lemmas.List.Sorted.{IsPermutation-append_comm, IsPermutation-append_left, IsPermutation-filter_both, IsPermutation-map, IsPermutation-sym, IsPermutation-trans, length_permutation}
-use Rattle.pci_picture.specs.Drawings.{AreGrouped, AreOfSection, AreOfSections, Group, IsGroup, members_of, sections_of}
-use Rattle.pci_picture.specs.Headings.{AreSectionsOf, Headed, IsSectionOf, is_kept, is_lost, is_off, is_section, lines_below}
-use Rattle.pci_picture.specs.Maps.{AreMembersOf, headed_line, headed_member, lines_of, regions_of, regions_under}
-use Rattle.pci_picture.specs.Spots.{AreStanding, Section, Spot, all_of, lines_drawn}
+use Rattle.pci_picture.specs.Drawings.{AreGrouped, AreOfSection, AreOfSections, Group, IsGroup, members_of_groups, sections_of}
+use Rattle.pci_picture.specs.Headings.{AreSectionsOf, Headed, IsSectionOf, is_below_heading, is_lost, is_below_no_heading, is_section, lines_below_headings}
+use Rattle.pci_picture.specs.Maps.{AreMembersOf, headed_line, headed_member, lines_of_regions, regions_of_members, regions_under}
+use Rattle.pci_picture.specs.Spots.{AreBoxesStanding, Section, BoxSpot, all_of, lines_drawn}
 use Rattle.pci_picture.specs.declared.map.Heading.{Heading}
 use Rattle.pci_picture.specs.declared.map.Heading.TheVariants.{Section as InSection, Lost, Off}
 use Rattle.pci_picture.specs.declared.map.Line.{Line}
@@ -23,39 +23,39 @@ use Rattle.pci_picture.proofs.Filtered.{filter_map, filter_permuted, filter_twic
 -- ---- regions below headings
 
 pub below_permuted : (is_meant : Heading → Bool) (xs ys : List Headed) → IsPermutation xs ys
-    → IsPermutation (lines_below is_meant xs) (lines_below is_meant ys)
+    → IsPermutation (lines_below_headings is_meant xs) (lines_below_headings is_meant ys)
 below_permuted is_meant xs ys moved =
     IsPermutation-map (λ region. region.line) (filter (λ region. is_meant region.heading) xs) (filter (λ region. is_meant region.heading) ys)
     (filter_permuted (λ region. is_meant region.heading) xs ys moved)
 
 pub below_both : (is_meant : Heading → Bool) (some more : List Headed)
-    → lines_below is_meant (some ++ more) ≡ lines_below is_meant some ++ lines_below is_meant more
+    → lines_below_headings is_meant (some ++ more) ≡ lines_below_headings is_meant some ++ lines_below_headings is_meant more
 below_both is_meant some more =
     ap (map (λ region. region.line)) (filter-append (λ region. is_meant region.heading) some more)
     ∙ map-append (λ region. region.line) (filter (λ region. is_meant region.heading) some) (filter (λ region. is_meant region.heading) more)
 
 -- what is meant is not off, so nothing of it is left out of what is kept
-below_kept : (is_meant : Heading → Bool) → ((heading : Heading) → (is_meant heading && not (is_off heading)) ≡ is_meant heading) → (regions : List Headed)
-    → lines_below is_meant (filter is_kept regions) ≡ lines_below is_meant regions
+below_kept : (is_meant : Heading → Bool) → ((heading : Heading) → (is_meant heading && not (is_below_no_heading heading)) ≡ is_meant heading) → (regions : List Headed)
+    → lines_below_headings is_meant (filter is_below_heading regions) ≡ lines_below_headings is_meant regions
 below_kept is_meant same regions =
     ap (map (λ region. region.line))
-    (filter_twice (λ region. is_meant region.heading) is_kept regions
-    ∙ filter_agree (λ region. is_meant region.heading && is_kept region) (λ region. is_meant region.heading) (λ region. same region.heading) regions)
+    (filter_twice (λ region. is_meant region.heading) is_below_heading regions
+    ∙ filter_agree (λ region. is_meant region.heading && is_below_heading region) (λ region. is_meant region.heading) (λ region. same region.heading) regions)
 
-section_kept : (n : ℕ) (heading : Heading) → (is_section n heading && not (is_off heading)) ≡ is_section n heading
+section_kept : (n : ℕ) (heading : Heading) → (is_section n heading && not (is_below_no_heading heading)) ≡ is_section n heading
 section_kept n (InSection m) = elim (m == n) as (λ b. (b && true) ≡ b) [ true ↦ refl | false ↦ refl ]
 section_kept n Lost = refl
 section_kept n Off = refl
 
-lost_kept : (heading : Heading) → (is_lost heading && not (is_off heading)) ≡ is_lost heading
+lost_kept : (heading : Heading) → (is_lost heading && not (is_below_no_heading heading)) ≡ is_lost heading
 lost_kept (InSection m) = refl
 lost_kept Lost = refl
 lost_kept Off = refl
 
-pub sections_of_all : (regions : List Headed) (sections : List Section) → AreSectionsOf (filter is_kept regions) sections → AreSectionsOf regions sections
+pub sections_of_all : (regions : List Headed) (sections : List Section) → AreSectionsOf (filter is_below_heading regions) sections → AreSectionsOf regions sections
 sections_of_all regions sections are = record {
   rise = are.rise;
-  each = All-weaker (IsSectionOf (filter is_kept regions)) (IsSectionOf regions) (λ section is.
+  each = All-weaker (IsSectionOf (filter is_below_heading regions)) (IsSectionOf regions) (λ section is.
       subst (λ l. IsPermutation (l ++ section.lost) (lines_drawn section.spots))
       (below_kept (is_section section.number) (section_kept section.number) regions) is) sections are.each;
   all = λ number. subst (λ l. Any (λ section. section.number ≡ number) sections ⊎ (l ≡ []))
@@ -86,13 +86,13 @@ filter_other number other (member ∷ members) apart alike =
 
 -- no member is in a section of a lower number
 filter_later : (number : ℕ) (groups : List Group) → All (λ section. number < section.number) (sections_of groups) → All IsGroup groups
-    → filter (is_in number) (members_of groups) ≡ []
+    → filter (is_in number) (members_of_groups groups) ≡ []
 filter_later number [] later each = refl
 filter_later number (group ∷ groups) later each =
     let less : number < group.section.number = All-head (λ section. number < section.number) group.section (sections_of groups) later in
     let one : IsGroup group = All-head IsGroup group groups each in
-    filter-append (is_in number) group.members (members_of groups)
-    ∙ ap (λ l. l ++ filter (is_in number) (members_of groups))
+    filter-append (is_in number) group.members (members_of_groups groups)
+    ∙ ap (λ l. l ++ filter (is_in number) (members_of_groups groups))
     (filter_other number group.section.number group.members (λ same. omega (arith, less, same)) one.alike)
     ∙ filter_later number groups (All-tail (λ section. number < section.number) group.section (sections_of groups) later) (All-tail IsGroup group groups each)
 
@@ -125,7 +125,7 @@ pairs_tail R x xs pairs i j d less inside = pairs (suc i) (suc j) d (omega (arit
 abbrev Rises : List Section → Type 0
 Rises sections = AllPairs (λ one other. one.number < other.number) sections
 
-all_members : (groups : List Group) → Rises (sections_of groups) → All IsGroup groups → All (HasMembers (members_of groups)) groups
+all_members : (groups : List Group) → Rises (sections_of groups) → All IsGroup groups → All (HasMembers (members_of_groups groups)) groups
 all_members [] rise each = All-nil (HasMembers [])
 all_members (group ∷ groups) rise each =
     let one : IsGroup group = All-head IsGroup group groups each in
@@ -133,12 +133,12 @@ all_members (group ∷ groups) rise each =
     let later : All (λ section. group.section.number < section.number) (sections_of groups) =
     pairs_head (λ one other. one.number < other.number) group.section (sections_of groups) rise in
     let rest : Rises (sections_of groups) = pairs_tail (λ one other. one.number < other.number) group.section (sections_of groups) rise in
-    All-cons (HasMembers (members_of (group ∷ groups))) group groups
-    (filter-append (is_in group.section.number) group.members (members_of groups)
-    ∙ ap (λ l. l ++ filter (is_in group.section.number) (members_of groups)) (filter_alike group.section.number group.members one.alike)
+    All-cons (HasMembers (members_of_groups (group ∷ groups))) group groups
+    (filter-append (is_in group.section.number) group.members (members_of_groups groups)
+    ∙ ap (λ l. l ++ filter (is_in group.section.number) (members_of_groups groups)) (filter_alike group.section.number group.members one.alike)
     ∙ ap (λ l. group.members ++ l) (filter_later group.section.number groups later others)
     ∙ append-nil group.members)
-    (later_groups group groups (members_of groups) one groups later (all_members groups rest others))
+    (later_groups group groups (members_of_groups groups) one groups later (all_members groups rest others))
 
 -- ---- the lines of a section
 
@@ -148,8 +148,8 @@ seat_of true number n = refl
 seat_of false number n = refl
 
 lines_in : (n : ℕ) (members : List Member)
-    → lines_below (is_section n) (map headed_member members)
-    ≡ lines_below (λ heading. not (is_lost heading)) (map headed_member (filter (is_in n) members))
+    → lines_below_headings (is_section n) (map headed_member members)
+    ≡ lines_below_headings (λ heading. not (is_lost heading)) (map headed_member (filter (is_in n) members))
 lines_in n members =
     let seated : List Member → List Headed = map headed_member in
     ap (map (λ region. region.line))
@@ -160,13 +160,13 @@ lines_in n members =
     ∙ ap seated (sym (filter_twice (λ m. not (is_lost ((headed_member m).heading))) (is_in n) members))
     ∙ sym (filter_map (λ region. not (is_lost region.heading)) headed_member (filter (is_in n) members)))
 
-lines_of_members : (members : List Member) → map (λ region. region.line) (map headed_member members) ≡ lines_of (regions_of members)
+lines_of_members : (members : List Member) → map (λ region. region.line) (map headed_member members) ≡ lines_of_regions (regions_of_members members)
 lines_of_members [] = refl
 lines_of_members (member ∷ members) = ap (λ l. member.region.line.now ∷ l) (lines_of_members members)
 
 -- those below the heading and those that are lost are all
 both_kinds : (regions : List Headed)
-    → IsPermutation (lines_below (λ heading. not (is_lost heading)) regions ++ lines_below is_lost regions) (map (λ region. region.line) regions)
+    → IsPermutation (lines_below_headings (λ heading. not (is_lost heading)) regions ++ lines_below_headings is_lost regions) (map (λ region. region.line) regions)
 both_kinds regions =
     let lost : List Headed = filter (λ region. is_lost region.heading) regions in
     let others : List Headed = filter (λ region. not (is_lost region.heading)) regions in
@@ -181,19 +181,19 @@ section_of : (regions : List Headed) (members : List Member) (group : Group) →
 section_of regions members group moved is has =
     let n : ℕ = group.section.number in
     let seats : List Headed = map headed_member group.members in
-    let same : lines_below (is_section n) (map headed_member members) ≡ lines_below (λ heading. not (is_lost heading)) seats =
-    lines_in n members ∙ ap (λ l. lines_below (λ heading. not (is_lost heading)) (map headed_member l)) has in
-    let below : IsPermutation (lines_below (is_section n) regions) (lines_below (λ heading. not (is_lost heading)) seats) =
-    subst (λ l. IsPermutation (lines_below (is_section n) regions) l) same (below_permuted (is_section n) regions (map headed_member members) moved) in
-    let all : IsPermutation (lines_below (is_section n) regions ++ lines_below is_lost seats) (lines_of (regions_of group.members)) =
-    subst (λ l. IsPermutation (lines_below (is_section n) regions ++ lines_below is_lost seats) l) (lines_of_members group.members)
-    (IsPermutation-trans _ _ _ (IsPermutation-append_left (lines_below is_lost seats) (lines_below (is_section n) regions) _ below) (both_kinds seats)) in
-    subst (λ l. IsPermutation (lines_below (is_section n) regions ++ l) (lines_drawn group.section.spots)) (sym is.lost)
-    (subst (λ l. IsPermutation (lines_below (is_section n) regions ++ lines_below is_lost seats) l) (sym is.drawn) all)
+    let same : lines_below_headings (is_section n) (map headed_member members) ≡ lines_below_headings (λ heading. not (is_lost heading)) seats =
+    lines_in n members ∙ ap (λ l. lines_below_headings (λ heading. not (is_lost heading)) (map headed_member l)) has in
+    let below : IsPermutation (lines_below_headings (is_section n) regions) (lines_below_headings (λ heading. not (is_lost heading)) seats) =
+    subst (λ l. IsPermutation (lines_below_headings (is_section n) regions) l) same (below_permuted (is_section n) regions (map headed_member members) moved) in
+    let all : IsPermutation (lines_below_headings (is_section n) regions ++ lines_below_headings is_lost seats) (lines_of_regions (regions_of_members group.members)) =
+    subst (λ l. IsPermutation (lines_below_headings (is_section n) regions ++ lines_below_headings is_lost seats) l) (lines_of_members group.members)
+    (IsPermutation-trans _ _ _ (IsPermutation-append_left (lines_below_headings is_lost seats) (lines_below_headings (is_section n) regions) _ below) (both_kinds seats)) in
+    subst (λ l. IsPermutation (lines_below_headings (is_section n) regions ++ l) (lines_drawn group.section.spots)) (sym is.lost)
+    (subst (λ l. IsPermutation (lines_below_headings (is_section n) regions ++ lines_below_headings is_lost seats) l) (sym is.drawn) all)
 
 -- each number has a section or no line
 section_or_none : (number : ℕ) (groups : List Group) → All IsGroup groups
-    → Any (λ section. section.number ≡ number) (sections_of groups) ⊎ (filter (is_in number) (members_of groups) ≡ [])
+    → Any (λ section. section.number ≡ number) (sections_of groups) ⊎ (filter (is_in number) (members_of_groups groups) ≡ [])
 section_or_none number [] each = inr refl
 section_or_none number (group ∷ groups) each =
     let one : IsGroup group = All-head IsGroup group groups each in
@@ -201,41 +201,41 @@ section_or_none number (group ∷ groups) each =
       | inl same ↦ inl (any_at (λ section. section.number ≡ number) (sections_of (group ∷ groups)) group.section (0, omega arith, refl) same.1)
       | inr apart ↦ elim (section_or_none number groups (All-tail IsGroup group groups each)) [
         | inl found ↦ inl (any_next (λ section. section.number ≡ number) group.section (sections_of groups) found)
-        | inr none ↦ inr (filter-append (is_in number) group.members (members_of groups)
-            ∙ ap (λ l. l ++ filter (is_in number) (members_of groups)) (filter_other number group.section.number group.members apart.1 one.alike)
+        | inr none ↦ inr (filter-append (is_in number) group.members (members_of_groups groups)
+            ∙ ap (λ l. l ++ filter (is_in number) (members_of_groups groups)) (filter_other number group.section.number group.members apart.1 one.alike)
             ∙ none)
       ]
     ]
 
 no_lines : (regions : List Headed) (members : List Member) (number : ℕ) → IsPermutation regions (map headed_member members)
-    → filter (is_in number) members ≡ [] → lines_below (is_section number) regions ≡ []
+    → filter (is_in number) members ≡ [] → lines_below_headings (is_section number) regions ≡ []
 no_lines regions members number moved none =
-    let below : List (List ℕ) = lines_below (is_section number) (map headed_member members) in
+    let below : List (List ℕ) = lines_below_headings (is_section number) (map headed_member members) in
     let nothing : below ≡ [] =
-    lines_in number members ∙ ap (λ l. lines_below (λ heading. not (is_lost heading)) (map headed_member l)) none in
-    let long = length_permutation (lines_below (is_section number) regions) below (below_permuted (is_section number) regions (map headed_member members) moved) in
+    lines_in number members ∙ ap (λ l. lines_below_headings (λ heading. not (is_lost heading)) (map headed_member l)) none in
+    let long = length_permutation (lines_below_headings (is_section number) regions) below (below_permuted (is_section number) regions (map headed_member members) moved) in
     let short : length below ≡ 0 = ap length nothing in
-    nil_from_length (lines_below (is_section number) regions) (omega (arith, long, short))
+    nil_from_length (lines_below_headings (is_section number) regions) (omega (arith, long, short))
 
 all_lost : (groups : List Group) → All IsGroup groups
-    → lines_below is_lost (map headed_member (members_of groups)) ≡ flat_map (λ section. section.lost) (sections_of groups)
+    → lines_below_headings is_lost (map headed_member (members_of_groups groups)) ≡ flat_map (λ section. section.lost) (sections_of groups)
 all_lost [] each = refl
 all_lost (group ∷ groups) each =
     let one : IsGroup group = All-head IsGroup group groups each in
-    ap (lines_below is_lost) (map-append headed_member group.members (members_of groups))
-    ∙ below_both is_lost (map headed_member group.members) (map headed_member (members_of groups))
-    ∙ ap (λ l. l ++ lines_below is_lost (map headed_member (members_of groups))) (sym one.lost)
+    ap (lines_below_headings is_lost) (map-append headed_member group.members (members_of_groups groups))
+    ∙ below_both is_lost (map headed_member group.members) (map headed_member (members_of_groups groups))
+    ∙ ap (λ l. l ++ lines_below_headings is_lost (map headed_member (members_of_groups groups))) (sym one.lost)
     ∙ ap (λ l. group.section.lost ++ l) (all_lost groups (All-tail IsGroup group groups each))
 
-all_drawn : (groups : List Group) → All IsGroup groups → lines_drawn (all_of (sections_of groups)) ≡ lines_of (regions_of (members_of groups))
+all_drawn : (groups : List Group) → All IsGroup groups → lines_drawn (all_of (sections_of groups)) ≡ lines_of_regions (regions_of_members (members_of_groups groups))
 all_drawn [] each = refl
 all_drawn (group ∷ groups) each =
     let one : IsGroup group = All-head IsGroup group groups each in
     map-append (λ s. s.line) group.section.spots (all_of (sections_of groups))
     ∙ ap (λ l. l ++ lines_drawn (all_of (sections_of groups))) one.drawn
-    ∙ ap (λ l. lines_of (regions_of group.members) ++ l) (all_drawn groups (All-tail IsGroup group groups each))
-    ∙ sym (ap lines_of (map-append (λ m. m.region) group.members (members_of groups))
-    ∙ map-append (λ r. r.line.now) (regions_of group.members) (regions_of (members_of groups)))
+    ∙ ap (λ l. lines_of_regions (regions_of_members group.members) ++ l) (all_drawn groups (All-tail IsGroup group groups each))
+    ∙ sym (ap lines_of_regions (map-append (λ m. m.region) group.members (members_of_groups groups))
+    ∙ map-append (λ r. r.line.now) (regions_of_members group.members) (regions_of_members (members_of_groups groups)))
 
 -- ---- one group more, and all
 
@@ -251,18 +251,18 @@ no_group members y = record {
   each = All-nil IsGroup;
   rise = λ i j d less inside. absurd (omega (arith, inside));
   below = λ d inside. All-nil (λ section. section.number < (get_or members 0 d).section);
-  stand = λ small. All-nil (λ section. AreStanding section.spots);
+  stand = λ small. All-nil (λ section. AreBoxesStanding section.spots);
 }
 
-pub group_more : (members part : List Member) (begin end y bottom number : ℕ) (spots more : List Spot) (done : AreGrouped members begin y spots)
+pub group_more : (members part : List Member) (begin end y bottom number : ℕ) (spots more : List BoxSpot) (done : AreGrouped members begin y spots)
     → take end members ≡ take begin members ++ part → y ≤ bottom
     → All (λ member. member.section ≡ number) part
     → All (λ section. section.number < number) (sections_of done.groups)
     → ((d : Member) → end < length members → number < (get_or members end d).section)
-    → AreOfSection (lines_of (regions_of part)) bottom more
+    → AreOfSection (lines_of_regions (regions_of_members part)) bottom more
     → AreGrouped members end bottom (spots ++ more)
 group_more members part begin end y bottom number spots more done joined down alike less next last =
-    let section : Section = record { number = number; spots = more; lost = lines_below is_lost (map headed_member part) } in
+    let section : Section = record { number = number; spots = more; lost = lines_below_headings is_lost (map headed_member part) } in
     let group : Group = record { section = section; members = part } in
     let before : List Section = sections_of done.groups in
     let behind : sections_of (done.groups ++ group ∷ []) ≡ before ++ section ∷ [] = map-append (λ g. g.section) done.groups (group ∷ []) in
@@ -271,7 +271,7 @@ group_more members part begin end y bottom number spots more done joined down al
       joined = ap all_of behind ∙ all_more before section ∙ ap (λ l. l ++ more) done.joined;
       taken =
           flat_map-append (λ g. g.members) done.groups (group ∷ [])
-          ∙ ap (λ l. members_of done.groups ++ l) (append-nil part) ∙ ap (λ l. l ++ part) done.taken ∙ sym joined;
+          ∙ ap (λ l. members_of_groups done.groups ++ l) (append-nil part) ∙ ap (λ l. l ++ part) done.taken ∙ sym joined;
       each = All-push IsGroup done.groups group done.each (record { drawn = last.drawn; lost = refl; alike = alike });
       rise =
           subst Rises (sym behind)
@@ -283,25 +283,25 @@ group_more members part begin end y bottom number spots more done joined down al
           (All-weaker (λ s. s.number < number) (λ s. s.number < (get_or members end d).section) (λ s low. omega (arith, low, above)) before less)
           above);
       stand = λ small.
-          subst (All (λ s. AreStanding s.spots)) (sym behind)
-          (All-push (λ s. AreStanding s.spots) before section (done.stand (omega (arith, down, small))) (last.stand small));
+          subst (All (λ s. AreBoxesStanding s.spots)) (sym behind)
+          (All-push (λ s. AreBoxesStanding s.spots) before section (done.stand (omega (arith, down, small))) (last.stand small));
     }
 
-pub grouped : (lines : List Line) (members : List Member) (count end : ℕ) (spots : List Spot) → length members ≤ count → AreMembersOf lines members
+pub grouped : (lines : List Line) (members : List Member) (count end : ℕ) (spots : List BoxSpot) → length members ≤ count → AreMembersOf lines members
     → AreGrouped members count end spots → AreOfSections lines end spots
 grouped lines members count end spots past are done =
     let regions : List Headed = map headed_line lines in
-    let taken : members_of done.groups ≡ members = done.taken ∙ take_all count members past in
-    let drawn : lines_of (regions_of members) ≡ lines_drawn spots =
-    sym (ap (λ l. lines_of (regions_of l)) taken) ∙ sym (all_drawn done.groups done.each) ∙ ap lines_drawn done.joined in
+    let taken : members_of_groups done.groups ≡ members = done.taken ∙ take_all count members past in
+    let drawn : lines_of_regions (regions_of_members members) ≡ lines_drawn spots =
+    sym (ap (λ l. lines_of_regions (regions_of_members l)) taken) ∙ sym (all_drawn done.groups done.each) ∙ ap lines_drawn done.joined in
     let has : All (HasMembers members) done.groups =
     subst (λ l. All (HasMembers l) done.groups) taken (all_members done.groups done.rise done.each) in
     record {
       sections = sections_of done.groups;
       joined = done.joined;
       each_once =
-          subst (λ l. IsPermutation (lines_of (regions_under lines)) l) drawn
-          (IsPermutation-map (λ r. r.line.now) (regions_under lines) (regions_of members) are.moved);
+          subst (λ l. IsPermutation (lines_of_regions (regions_under lines)) l) drawn
+          (IsPermutation-map (λ r. r.line.now) (regions_under lines) (regions_of_members members) are.moved);
       below_headings = record {
         rise = done.rise;
         each =
@@ -312,8 +312,8 @@ grouped lines members count end spots past are done =
           | inr none ↦ inr (no_lines regions members number are.seated (ap (filter (is_in number)) (sym taken) ∙ none))
         ];
         lost =
-            subst (λ l. IsPermutation (lines_below is_lost regions) l)
-            (ap (λ ms. lines_below is_lost (map headed_member ms)) (sym taken) ∙ all_lost done.groups done.each)
+            subst (λ l. IsPermutation (lines_below_headings is_lost regions) l)
+            (ap (λ ms. lines_below_headings is_lost (map headed_member ms)) (sym taken) ∙ all_lost done.groups done.each)
             (below_permuted is_lost regions (map headed_member members) are.seated);
       };
       stand = done.stand;

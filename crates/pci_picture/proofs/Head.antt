@@ -3,7 +3,7 @@ use Rattle.std.proofs.Common.{◌≡◌, ℕ, Bool, true, false, IsTrue, List, [
 use Rattle.std.proofs.lemmas.Bool.{and_parts}
 use Rattle.std.specs.Fmt.{decimal}
 use Rattle.std.specs.List.{list_all}
-use Rattle.pci_picture.specs.Xml.{is_plain, is_unquoted, IsName, AreCharacters, no_character, character, AreAttributes, no_attribute, attribute, IsContent, nothing, IsDocument, element}
+use Rattle.pci_picture.specs.Xml.{is_plain_character, is_unquoted, IsXmlName, AreCharacters, no_character, character, AreAttributes, no_attribute, attribute, IsContent, nothing, IsDocument, element}
 use Rattle.pci_picture.specs.Whole.{hatch_text, pair_text, view_value, view_box, svg_attributes, ground_text, style_text, line_text, head_text, colours_text, picture_text}
 use Rattle.pci_picture.specs.declared.style.TheConstants.{STYLE, HATCH, COLOURS}
 use Rattle.pci_picture.proofs.Contents.{characters_append, attributes_append, content_append, content_of, element_content, attribute_lawful}
@@ -17,7 +17,7 @@ all_characters allowed (c ∷ cs) all =
     let parts = and_parts (allowed c) (list_all allowed cs) all in
     character c cs parts.0 (all_characters allowed cs parts.1)
 
-fixed : (name value : List ℕ) → IsName name → IsTrue (list_all is_unquoted value) → AreAttributes (attribute name value)
+fixed : (name value : List ℕ) → IsXmlName name → IsTrue (list_all is_unquoted value) → AreAttributes (attribute name value)
 fixed name value named all = attribute_lawful name value named (all_characters is_unquoted value all)
 
 view_lawful : (width height : ℕ) → width < 2 ^ 64 → height < 2 ^ 64 → AreAttributes (view_box width height)
@@ -72,7 +72,7 @@ unfolding style_text
 style_content =
     content_append (10 ∷ []) _ feed
     (content_append _ _
-    (element_content (codes "style") [] STYLE.now refl no_attribute (content_of STYLE.now (all_characters is_plain STYLE.now refl)))
+    (element_content (codes "style") [] STYLE.now refl no_attribute (content_of STYLE.now (all_characters is_plain_character STYLE.now refl)))
     feed)
 
 -- the style sheet of told ranges
@@ -86,7 +86,7 @@ colours_content : (is_told : Bool) → IsContent (colours_text is_told)
 colours_content true =
     subst IsContent (sym colours_are)
     (content_append _ _
-    (element_content (codes "style") [] colours_sheet refl no_attribute (content_of colours_sheet (all_characters is_plain colours_sheet refl)))
+    (element_content (codes "style") [] colours_sheet refl no_attribute (content_of colours_sheet (all_characters is_plain_character colours_sheet refl)))
     feed)
 colours_content false = nothing
 

@@ -6,7 +6,7 @@ use Rattle.std.proofs.lemmas.Bool.{cases_Bool}
 use Rattle.std.proofs.Math.Pow.{pow_mono}
 use Rattle.std.proofs.Math.Seq.{drop-cons}
 use Rattle.std.proofs.lemmas.Nat.{pow-add}
-use Rattle.pci_picture.specs.Lines.{next_value, digit_value, digit_of, is_digit}
+use Rattle.pci_picture.specs.Lines.{next_hex, hex_digit_value, digit_of, is_digit}
 
 -- one digit more is four bits more
 pub digit_bound : (number value digits : ℕ) → number < 2 ^ (4 * digits) → value < 16 → number * 16 + value < 2 ^ (4 * (digits + 1))
@@ -20,22 +20,22 @@ digit_fits number value digits low small few =
     let most : 2 ^ (4 * (digits + 1)) ≤ 2 ^ 64 = pow_mono {i = 4 * (digits + 1)} {j = 64} (omega arith) in
     omega (arith, digit_bound number value digits low small, most)
 
-is_value : (digit value : ℕ) → digit_of digit ≡ Some value → (is_digit digit ≡ true) × (value ≡ digit_value digit)
+is_value : (digit value : ℕ) → digit_of digit ≡ Some value → (is_digit digit ≡ true) × (value ≡ hex_digit_value digit)
 is_value digit value is =
     elim (cases_Bool (is_digit digit)) [
-      | inl holds ↦ let e : digit_of digit ≡ Some (digit_value digit) = rw holds refl in (holds, cc)
+      | inl holds ↦ let e : digit_of digit ≡ Some (hex_digit_value digit) = rw holds refl in (holds, cc)
       | inr fails ↦ let e : digit_of digit ≡ None = rw fails refl in absurd (cc)
     ]
 
 -- the value of all digits, after one digit more
 pub value_kept : (digits : List ℕ) (i number value total : ℕ) → i < length digits → digit_of (get_or digits i 0) ≡ Some value
-    → fold next_value number (drop i digits) ≡ total → fold next_value (number * 16 + value) (drop (i + 1) digits) ≡ total
+    → fold next_hex number (drop i digits) ≡ total → fold next_hex (number * 16 + value) (drop (i + 1) digits) ≡ total
 value_kept digits i number value total inside is before =
     let digit = get_or digits i 0 in
-    let step : fold next_value number (drop i digits) ≡ fold next_value (next_value number digit) (drop (suc i) digits) =
-    ap (λ l. fold next_value number l) (drop-cons digits i 0 inside) in
-    ap (λ v. fold next_value (number * 16 + v) (drop (i + 1) digits)) ((is_value digit value is).1)
-    ∙ ap (λ k. fold next_value (next_value number digit) (drop k digits)) (add-one i)
+    let step : fold next_hex number (drop i digits) ≡ fold next_hex (next_hex number digit) (drop (suc i) digits) =
+    ap (λ l. fold next_hex number l) (drop-cons digits i 0 inside) in
+    ap (λ v. fold next_hex (number * 16 + v) (drop (i + 1) digits)) ((is_value digit value is).1)
+    ∙ ap (λ k. fold next_hex (next_hex number digit) (drop k digits)) (add-one i)
     ∙ sym step ∙ before
 
 -- whether all are digits, after one digit more

@@ -8,8 +8,8 @@ use Rattle.std.proofs.lemmas.List.{append_assoc, map-append}
 use Rattle.std.proofs.lemmas.List.Elements.{All-head, All-tail}
 use Rattle.std.proofs.lemmas.List.Sorted.{IsPermutation-append, IsPermutation-append_comm, IsPermutation-append_left, IsPermutation-append_right, IsPermutation-cons, IsPermutation-middle, IsPermutation-refl, IsPermutation-sym, IsPermutation-trans}
 use Rattle.pci_picture.specs.Boxes.{EachRegionOnce}
-use Rattle.pci_picture.specs.Headings.{Headed, IsSectionOf, headed, headed_lines, headed_regions, is_lost, is_off, is_section, lines_below, next_heading}
-use Rattle.pci_picture.specs.Lines.{is_feed, told_line}
+use Rattle.pci_picture.specs.Headings.{Headed, IsSectionOf, headed, headed_lines, headed_regions, is_lost, is_below_no_heading, is_section, lines_below_headings, next_heading}
+use Rattle.pci_picture.specs.Lines.{is_feed, indented_if_region}
 use Rattle.pci_picture.specs.Spots.{Section, all_of, lines_drawn}
 use Rattle.pci_picture.specs.declared.map.Heading.{Heading}
 use Rattle.pci_picture.specs.declared.map.Heading.TheVariants.{Section as InSection, Lost, Off}
@@ -22,17 +22,17 @@ map_headed : (heading : Heading) (lines : List (List ℕ)) → lines_in (map (he
 map_headed heading [] = refl
 map_headed heading (line ∷ lines) = ap (λ l. line ∷ l) (map_headed heading lines)
 
-lines_headed : (heading : Heading) (lines : List (List ℕ)) → lines_in (headed_lines heading lines) ≡ flat_map told_line lines
+lines_headed : (heading : Heading) (lines : List (List ℕ)) → lines_in (headed_lines heading lines) ≡ flat_map indented_if_region lines
 lines_headed heading [] = refl
 lines_headed heading (line ∷ lines) =
-    map-append (λ region. region.line) (map (headed heading) (told_line line)) (headed_lines (next_heading heading line) lines)
-    ∙ ap (λ l. l ++ lines_in (headed_lines (next_heading heading line) lines)) (map_headed heading (told_line line))
-    ∙ ap (λ l. told_line line ++ l) (lines_headed (next_heading heading line) lines)
+    map-append (λ region. region.line) (map (headed heading) (indented_if_region line)) (headed_lines (next_heading heading line) lines)
+    ∙ ap (λ l. l ++ lines_in (headed_lines (next_heading heading line) lines)) (map_headed heading (indented_if_region line))
+    ∙ ap (λ l. indented_if_region line ++ l) (lines_headed (next_heading heading line) lines)
 
 -- ---- regions by sections
 
 abbrev below : List Headed → Section → List (List ℕ)
-below regions section = lines_below (is_section section.number) regions
+below regions section = lines_below_headings (is_section section.number) regions
 
 abbrev in_sections : List Section → List Headed → List (List ℕ)
 in_sections sections regions = flat_map (below regions) sections
@@ -80,7 +80,7 @@ one_of_them (section ∷ sections) n line regions rise found =
 -- ---- all regions
 
 abbrev parts : List Section → List Headed → List (List ℕ)
-parts sections regions = in_sections sections regions ++ (lines_below is_lost regions ++ lines_below is_off regions)
+parts sections regions = in_sections sections regions ++ (lines_below_headings is_lost regions ++ lines_below_headings is_below_no_heading regions)
 
 none_below : (sections : List Section) → in_sections sections [] ≡ []
 none_below [] = refl
@@ -90,20 +90,20 @@ one_more : (sections : List Section) (heading : Heading) (line : List ℕ) (regi
     → ((n : ℕ) → heading ≡ InSection n → Any (λ section. section.number ≡ n) sections)
     → IsPermutation (line ∷ parts sections regions) (parts sections (headed heading line ∷ regions))
 one_more sections (InSection n) line regions rise found =
-    IsPermutation-append_left (lines_below is_lost regions ++ lines_below is_off regions) (line ∷ in_sections sections regions) _
+    IsPermutation-append_left (lines_below_headings is_lost regions ++ lines_below_headings is_below_no_heading regions) (line ∷ in_sections sections regions) _
     (one_of_them sections n line regions rise (found n refl))
 one_more sections Lost line regions rise found =
-    IsPermutation-sym _ _ (IsPermutation-middle (in_sections sections regions) line (lines_below is_lost regions ++ lines_below is_off regions))
+    IsPermutation-sym _ _ (IsPermutation-middle (in_sections sections regions) line (lines_below_headings is_lost regions ++ lines_below_headings is_below_no_heading regions))
 one_more sections Off line regions rise found =
-    let sections_and_lost = in_sections sections regions ++ lines_below is_lost regions in
-    subst (λ l. IsPermutation (line ∷ l) (in_sections sections regions ++ (lines_below is_lost regions ++ line ∷ lines_below is_off regions)))
-    (append_assoc (in_sections sections regions) (lines_below is_lost regions) (lines_below is_off regions))
-    (subst (λ l. IsPermutation (line ∷ (sections_and_lost ++ lines_below is_off regions)) l)
-    (append_assoc (in_sections sections regions) (lines_below is_lost regions) (line ∷ lines_below is_off regions))
-    (IsPermutation-sym _ _ (IsPermutation-middle sections_and_lost line (lines_below is_off regions))))
+    let sections_and_lost = in_sections sections regions ++ lines_below_headings is_lost regions in
+    subst (λ l. IsPermutation (line ∷ l) (in_sections sections regions ++ (lines_below_headings is_lost regions ++ line ∷ lines_below_headings is_below_no_heading regions)))
+    (append_assoc (in_sections sections regions) (lines_below_headings is_lost regions) (lines_below_headings is_below_no_heading regions))
+    (subst (λ l. IsPermutation (line ∷ (sections_and_lost ++ lines_below_headings is_below_no_heading regions)) l)
+    (append_assoc (in_sections sections regions) (lines_below_headings is_lost regions) (line ∷ lines_below_headings is_below_no_heading regions))
+    (IsPermutation-sym _ _ (IsPermutation-middle sections_and_lost line (lines_below_headings is_below_no_heading regions))))
 
 abbrev Covers : List Section → List Headed → Type 0
-Covers sections regions = (number : ℕ) → Any (λ section. section.number ≡ number) sections ⊎ (lines_below (is_section number) regions ≡ [])
+Covers sections regions = (number : ℕ) → Any (λ section. section.number ≡ number) sections ⊎ (lines_below_headings (is_section number) regions ≡ [])
 
 found_for : (sections : List Section) (regions : List Headed) (line : List ℕ) (heading : Heading) → Covers sections (headed heading line ∷ regions)
     → (n : ℕ) → heading ≡ InSection n → Any (λ section. section.number ≡ n) sections
@@ -111,9 +111,9 @@ found_for sections regions line heading covers n is =
     elim (covers n) [
       | inl found ↦ found
       | inr none ↦
-          let some : lines_below (is_section n) (headed heading line ∷ regions) ≡ line ∷ lines_below (is_section n) regions =
-          ap (λ h. lines_below (is_section n) (headed h line ∷ regions)) is ∙ rw (eq-eqb n n refl) refl in
-          let long : suc (length (lines_below (is_section n) regions)) ≡ 0 = ap length (sym some ∙ none) in
+          let some : lines_below_headings (is_section n) (headed heading line ∷ regions) ≡ line ∷ lines_below_headings (is_section n) regions =
+          ap (λ h. lines_below_headings (is_section n) (headed h line ∷ regions)) is ∙ rw (eq-eqb n n refl) refl in
+          let long : suc (length (lines_below_headings (is_section n) regions)) ≡ 0 = ap length (sym some ∙ none) in
           absurd (omega (arith, long))
     ]
 
@@ -160,12 +160,12 @@ pub each_once : EachRegionOnce
 each_once map sections spots are rest =
     let regions : List Headed = headed_regions map in
     let inside : List (List ℕ) = in_sections sections regions in
-    let off : List (List ℕ) = lines_below is_off regions in
+    let off : List (List ℕ) = lines_below_headings is_below_no_heading regions in
     subst (λ l. IsPermutation l (lines_drawn (all_of sections ++ spots))) (lines_headed Off (slice_split is_feed map))
     (subst (λ l. IsPermutation (lines_in regions) l) (sym (map-append (λ spot. spot.line) (all_of sections) spots))
     (subst (λ l. IsPermutation (lines_in regions) (lines_drawn (all_of sections) ++ l)) (sym rest)
     (IsPermutation-trans _ _ _ (parted sections regions are.rise are.all)
-    (subst (λ l. IsPermutation l (lines_drawn (all_of sections) ++ off)) (append_assoc inside (lines_below is_lost regions) off)
-    (IsPermutation-append_left off (inside ++ lines_below is_lost regions) (lines_drawn (all_of sections))
-    (IsPermutation-trans _ _ _ (IsPermutation-append_right inside (lines_below is_lost regions) (lost_in sections) are.lost)
+    (subst (λ l. IsPermutation l (lines_drawn (all_of sections) ++ off)) (append_assoc inside (lines_below_headings is_lost regions) off)
+    (IsPermutation-append_left off (inside ++ lines_below_headings is_lost regions) (lines_drawn (all_of sections))
+    (IsPermutation-trans _ _ _ (IsPermutation-append_right inside (lines_below_headings is_lost regions) (lost_in sections) are.lost)
     (section_by_section regions sections are.each)))))))

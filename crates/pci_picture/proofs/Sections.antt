@@ -6,12 +6,12 @@ use Rattle.std.proofs.lemmas.Bool.{cases_lt, eqb-true}
 use Rattle.std.proofs.lemmas.List.{append_assoc, map-append, map_more, take_more, take-append-drop, take-take, drop-take, take_all, length-take, length-drop, get_or-take, get_or-drop, get_or_default}
 use Rattle.std.proofs.lemmas.List.Sorted.{IsPermutation-trans, IsPermutation-append_left, IsPermutation-map}
 use Rattle.pci_picture.specs.Boxes.{IsDrawnOf, IsPictureOf}
-use Rattle.pci_picture.specs.Canvases.{Adds, AddsSome, HasDrawn}
+use Rattle.pci_picture.specs.Canvases.{AddsToCanvas, AddsSome, HasDrawn}
 use Rattle.pci_picture.specs.Drawings.{AreGrouped, AreOfSection, AreOfSections, IsRunOfSection, sections_of}
 use Rattle.pci_picture.specs.Headings.{AreSectionsOf, headed_regions}
 use Rattle.pci_picture.specs.Lines.{is_feed, region_lines}
-use Rattle.pci_picture.specs.Maps.{AreMembersOf, IsReadOf, lines_of, regions_under, regions_of, regions_at, lines_read}
-use Rattle.pci_picture.specs.Spots.{Spot, spot_at, lines_drawn, all_of}
+use Rattle.pci_picture.specs.Maps.{AreMembersOf, IsReadOf, lines_of_regions, regions_under, regions_of_members, regions_placed, lines_read}
+use Rattle.pci_picture.specs.Spots.{BoxSpot, spot_at, lines_drawn, all_of}
 use Rattle.pci_picture.specs.declared.canvas.Canvas.{Canvas}
 use Rattle.pci_picture.specs.declared.map.Line.{Line}
 use Rattle.pci_picture.specs.declared.map.Map.{Map}
@@ -30,56 +30,56 @@ take_both m n xs =
 -- ---- lists of regions, one more
 
 pub member_more : (members : List Member) (i : ℕ) (member : Member) (before after : List Region) → i < length members → member ≡ get_or members i member
-    → before ≡ regions_of (take i members) → after ≡ before ++ member.region ∷ [] → after ≡ regions_of (take (i + 1) members)
+    → before ≡ regions_of_members (take i members) → after ≡ before ++ member.region ∷ [] → after ≡ regions_of_members (take (i + 1) members)
 member_more members i member before after inside at is new =
-    new ∙ ap (λ l. l ++ member.region ∷ []) is ∙ ap (λ m. regions_of (take i members) ++ m.region ∷ []) at
+    new ∙ ap (λ l. l ++ member.region ∷ []) is ∙ ap (λ m. regions_of_members (take i members) ++ m.region ∷ []) at
     ∙ sym (map_more (λ m. m.region) members i member inside)
 
 pub line_more : (lines : List Line) (i : ℕ) (line : Line) (before after : List Member) (member : Member) → i < length lines → line ≡ get_or lines i line
-    → regions_of before ≡ regions_under (take i lines) → member.region ≡ line.region → after ≡ before ++ member ∷ []
-    → regions_of after ≡ regions_under (take (i + 1) lines)
+    → regions_of_members before ≡ regions_under (take i lines) → member.region ≡ line.region → after ≡ before ++ member ∷ []
+    → regions_of_members after ≡ regions_under (take (i + 1) lines)
 line_more lines i line before after member inside at is same new =
-    ap regions_of new ∙ map-append (λ m. m.region) before (member ∷ [])
+    ap regions_of_members new ∙ map-append (λ m. m.region) before (member ∷ [])
     ∙ ap (λ l. l ++ member.region ∷ []) is
     ∙ ap (λ r. regions_under (take i lines) ++ r ∷ []) (same ∙ ap (λ l. l.region) at)
     ∙ sym (map_more (λ l. l.region) lines i line inside)
 
 pub place_more : (old : List Region) (regions : List Region) (i : ℕ) (region : Region) (before after : List Placed) (placed : Placed)
     → i < length regions → region ≡ get_or regions i region
-    → regions_at before ≡ old ++ take i regions → placed.region ≡ region → after ≡ before ++ placed ∷ []
-    → regions_at after ≡ old ++ take (i + 1) regions
+    → regions_placed before ≡ old ++ take i regions → placed.region ≡ region → after ≡ before ++ placed ∷ []
+    → regions_placed after ≡ old ++ take (i + 1) regions
 place_more old regions i region before after placed inside at is same new =
-    ap regions_at new ∙ map-append (λ p. p.region) before (placed ∷ [])
+    ap regions_placed new ∙ map-append (λ p. p.region) before (placed ∷ [])
     ∙ ap (λ l. l ++ placed.region ∷ []) is
     ∙ ap (λ r. (old ++ take i regions) ++ r ∷ []) (same ∙ at)
     ∙ append_assoc old (take i regions) (get_or regions i region ∷ [])
     ∙ ap (λ l. old ++ l) (sym (take_more regions i region inside))
 
 pub both_places : (regions front back : List Region) (n : ℕ) (none some all : List Placed) → none ≡ [] → front ≡ take n regions → back ≡ drop n regions
-    → regions_at some ≡ regions_at none ++ front → regions_at all ≡ regions_at some ++ back → regions_at all ≡ regions
+    → regions_placed some ≡ regions_placed none ++ front → regions_placed all ≡ regions_placed some ++ back → regions_placed all ≡ regions
 both_places regions front back n none some all empty is_front is_back first second =
-    second ∙ ap (λ l. l ++ back) (first ∙ ap (λ l. regions_at l ++ front) empty)
+    second ∙ ap (λ l. l ++ back) (first ∙ ap (λ l. regions_placed l ++ front) empty)
     ∙ ap (λ l. l ++ back) is_front ∙ ap (λ l. take n regions ++ l) is_back ∙ take-append-drop n regions
 
 -- ---- one row of what is off more
 
 pub none_off : {A : Type 0} (regions : List Region) (canvas : Canvas A) → (length regions == 0) ≡ true
-    → AddsSome (λ spots. lines_drawn spots ≡ lines_of regions) canvas canvas
+    → AddsSome (λ spots. lines_drawn spots ≡ lines_of_regions regions) canvas canvas
 none_off [] canvas is = record { spots = []; hold = refl; adds = unchanged canvas }
 none_off (region ∷ regions) canvas is = let l : length (region ∷ regions) ≡ 0 = eqb-true _ 0 is in absurd (omega (arith, l))
 
-pub no_rows : {A : Type 0} (canvas : Canvas A) → AddsSome (λ spots. lines_drawn spots ≡ lines_of []) canvas canvas
+pub no_rows : {A : Type 0} (canvas : Canvas A) → AddsSome (λ spots. lines_drawn spots ≡ lines_of_regions []) canvas canvas
 no_rows canvas = record { spots = []; hold = refl; adds = unchanged canvas }
 
 pub row_more : {A : Type 0} (regions : List Region) (i : ℕ) (region : Region) (y : ℕ) (first before after : Canvas A) → i < length regions
     → region ≡ get_or regions i region
-    → AddsSome (λ spots. lines_drawn spots ≡ lines_of (take i regions)) first before → Adds (spot_at y 13 region.line.now ∷ []) before after
-    → AddsSome (λ spots. lines_drawn spots ≡ lines_of (take (i + 1) regions)) first after
+    → AddsSome (λ spots. lines_drawn spots ≡ lines_of_regions (take i regions)) first before → AddsToCanvas (spot_at y 13 region.line.now ∷ []) before after
+    → AddsSome (λ spots. lines_drawn spots ≡ lines_of_regions (take (i + 1) regions)) first after
 row_more regions i region y first before after inside at done one =
-    let more : lines_of (take (i + 1) regions) ≡ lines_of (take i regions) ++ region.line.now ∷ [] =
+    let more : lines_of_regions (take (i + 1) regions) ≡ lines_of_regions (take i regions) ++ region.line.now ∷ [] =
     map_more (λ r. r.line.now) regions i region inside
-    ∙ ap (λ r. lines_of (take i regions) ++ r.line.now ∷ []) (sym at) in
-    let spot : Spot = spot_at y 13 region.line.now in
+    ∙ ap (λ r. lines_of_regions (take i regions) ++ r.line.now ∷ []) (sym at) in
+    let spot : BoxSpot = spot_at y 13 region.line.now in
     record {
       spots = done.spots ++ spot ∷ [];
       hold = map-append (λ s. s.line) done.spots (spot ∷ []) ∙ ap (λ l. l ++ region.line.now ∷ []) done.hold ∙ sym more;
@@ -87,15 +87,15 @@ row_more regions i region y first before after inside at done one =
     }
 
 pub all_rows : {A : Type 0} (regions every : List Region) (i : ℕ) (first before after : Canvas A) → length regions ≤ i → regions ≡ every
-    → Adds [] first before → AddsSome (λ spots. lines_drawn spots ≡ lines_of (take i regions)) before after
-    → AddsSome (λ spots. lines_drawn spots ≡ lines_of every) first after
+    → AddsToCanvas [] first before → AddsSome (λ spots. lines_drawn spots ≡ lines_of_regions (take i regions)) before after
+    → AddsSome (λ spots. lines_drawn spots ≡ lines_of_regions every) first after
 all_rows regions every i first before after past is head done =
-    then_some (λ spots. lines_drawn spots ≡ lines_of every) first before after head
-    (subst (λ l. AddsSome (λ spots. lines_drawn spots ≡ lines_of l) before after) (take_all i regions past ∙ is) done)
+    then_some (λ spots. lines_drawn spots ≡ lines_of_regions every) first before after head
+    (subst (λ l. AddsSome (λ spots. lines_drawn spots ≡ lines_of_regions l) before after) (take_all i regions past ∙ is) done)
 
 pub same_rows : {A : Type 0} (regions every : List Region) (first after : Canvas A) → regions ≡ every
-    → AddsSome (λ spots. lines_drawn spots ≡ lines_of regions) first after → AddsSome (λ spots. lines_drawn spots ≡ lines_of every) first after
-same_rows regions every first after is done = subst (λ l. AddsSome (λ spots. lines_drawn spots ≡ lines_of l) first after) is done
+    → AddsSome (λ spots. lines_drawn spots ≡ lines_of_regions regions) first after → AddsSome (λ spots. lines_drawn spots ≡ lines_of_regions every) first after
+same_rows regions every first after is done = subst (λ l. AddsSome (λ spots. lines_drawn spots ≡ lines_of_regions l) first after) is done
 
 -- ---- one section more
 
@@ -122,7 +122,7 @@ pub section_more : {A : Type 0} (members part : List Member) (begin end y bottom
     → end ≤ length members → member ≡ get_or members begin member → part ≡ take (end - begin) (drop begin members) → y ≤ bottom
     → IsNonDecreasingBy (λ (m : Member). m.section) members → IsRunOfSection members begin end
     → AddsSome (AreGrouped members begin y) first before
-    → AddsSome (AreOfSection (lines_of (regions_of part)) bottom) before after
+    → AddsSome (AreOfSection (lines_of_regions (regions_of_members part)) bottom) before after
     → AddsSome (AreGrouped members end bottom) first after
 section_more members part begin end y bottom member first before after up within at is down sorted run done adds =
     let joined : take end members ≡ take begin members ++ part =
@@ -150,23 +150,23 @@ all_sections lines members begin y first after past are done = record {
   adds = done.adds;
 }
 
-pub sorted_members : (lines : List Line) (before after : List Member) → regions_of before ≡ regions_under lines → IsPermutation before after
-    → IsPermutation (regions_under lines) (regions_of after)
+pub sorted_members : (lines : List Line) (before after : List Member) → regions_of_members before ≡ regions_under lines → IsPermutation before after
+    → IsPermutation (regions_under lines) (regions_of_members after)
 sorted_members lines before after is moved =
-    subst (λ l. IsPermutation l (regions_of after)) is (IsPermutation-map (λ m. m.region) before after moved)
+    subst (λ l. IsPermutation l (regions_of_members after)) is (IsPermutation-map (λ m. m.region) before after moved)
 
 -- ---- the whole
 
 pub whole_picture : {A T E : Type 0} (map : List ℕ) (read : Map A) (new before between last : Canvas A) (y height : ℕ) (result : Result T E) (bytes : T → List ℕ)
     → IsReadOf (slice_split is_feed map) read → y ≤ height
-    → HasDrawn [] new → Adds [] new before → AddsSome (AreOfSections read.lines.items y) before between
-    → AddsSome (λ spots. lines_drawn spots ≡ lines_of read.off.items) between last
-    → ((spots : List Spot) → HasDrawn spots last → IfOk result (λ text. IsDrawnOf spots height (bytes text)))
+    → HasDrawn [] new → AddsToCanvas [] new before → AddsSome (AreOfSections read.lines.items y) before between
+    → AddsSome (λ spots. lines_drawn spots ≡ lines_of_regions read.off.items) between last
+    → ((spots : List BoxSpot) → HasDrawn spots last → IfOk result (λ text. IsDrawnOf spots height (bytes text)))
     → IfOk result (λ text. IsPictureOf map (bytes text))
 whole_picture map read new before between last y height (Err e) bytes told down none kept some off finished = tt
 whole_picture map read new before between last y height (Ok text) bytes told down none kept some off finished =
     let joined : some.spots ++ off.spots ≡ all_of some.hold.sections ++ off.spots = ap (λ l. l ++ off.spots) (sym some.hold.joined) in
-    let both : lines_drawn (some.spots ++ off.spots) ≡ lines_drawn some.spots ++ lines_of read.off.items =
+    let both : lines_drawn (some.spots ++ off.spots) ≡ lines_drawn some.spots ++ lines_of_regions read.off.items =
     map-append (λ s. s.line) some.spots off.spots ∙ ap (λ l. lines_drawn some.spots ++ l) off.hold in
     record {
       sections = some.hold.sections;
@@ -174,8 +174,8 @@ whole_picture map read new before between last y height (Ok text) bytes told dow
       each_once =
           subst (λ l. IsPermutation (region_lines map) (lines_drawn l)) joined
           (subst (λ l. IsPermutation (region_lines map) l) (sym both)
-          (IsPermutation-trans (region_lines map) (lines_read read) (lines_drawn some.spots ++ lines_of read.off.items) told.each_once
-          (IsPermutation-append_left (lines_of read.off.items) (lines_of (regions_under read.lines.items)) (lines_drawn some.spots) some.hold.each_once)));
+          (IsPermutation-trans (region_lines map) (lines_read read) (lines_drawn some.spots ++ lines_of_regions read.off.items) told.each_once
+          (IsPermutation-append_left (lines_of_regions read.off.items) (lines_of_regions (regions_under read.lines.items)) (lines_drawn some.spots) some.hold.each_once)));
       below_headings =
           sections_of_all (headed_regions map) some.hold.sections
           (subst (λ l. AreSectionsOf l some.hold.sections) told.kept some.hold.below_headings);

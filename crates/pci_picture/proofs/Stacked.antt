@@ -7,7 +7,7 @@ use Rattle.std.specs.List.{slice_index_or}
 use Rattle.std.specs.List.Sorted.{IsNonDecreasingBy, IsPartitionPoint}
 use Rattle.pci_picture.specs.declared.heights.Cut.{Cut}
 use Rattle.pci_picture.specs.declared.heights.Run.{Run}
-use Rattle.pci_picture.specs.Stacked.{height_at, AreHeights, CutsRise, IsRunAt, IsAdded}
+use Rattle.pci_picture.specs.Stacked.{height_at, AreHeights, CutsRise, IsRunAt, IsRunAdded}
 
 -- runs one behind the other, from an address and a height on, up to the end of the last one
 abbrev pub AreStacked : ℕ → ℕ → List Run → ℕ → ℕ → Type 0
@@ -112,7 +112,7 @@ begins_last : (runs : List Run) (run : Run) (address : ℕ) → run.begin ≡ ad
 begins_last [] run address at = inl at
 begins_last (first ∷ runs) run address at = inr (begins_last runs run address at)
 
-placed_added : (runs new : List Run) (begin bottom end below address : ℕ) → IsAdded runs begin bottom end new below
+placed_added : (runs new : List Run) (begin bottom end below address : ℕ) → IsRunAdded runs begin bottom end new below
     → Begins runs address ⊎ (address ≡ begin) → Begins new address
 placed_added runs new begin bottom end below address add (inl b) =
     subst (λ (r : List Run). Begins r address) (sym add.added) (begins_more runs (add.run ∷ []) address b)
@@ -121,7 +121,7 @@ placed_added runs new begin bottom end below address add (inr e) =
     (begins_last runs add.run address (subst (λ (b : ℕ). add.run.begin ≡ b) (sym e) add.stands.begins))
 
 stacked_added : (from top begin bottom end below : ℕ) (runs new : List Run) → AreStacked from top runs begin bottom
-    → IsAdded runs begin bottom end new below → AreStacked from top new end below
+    → IsRunAdded runs begin bottom end new below → AreStacked from top new end below
 stacked_added from top begin bottom end below runs new stacked add =
     subst (λ (r : List Run). AreStacked from top r end below) (sym add.added)
     (subst (λ (b : ℕ). AreStacked from top (runs ++ (add.run ∷ [])) end b) (sym add.below)
@@ -137,7 +137,7 @@ at_index cuts k index d cut e is =
 more_added : (cuts : List Cut) (index from top begin bottom below : ℕ) (runs new : List Run) (cut : Cut)
     → IsUpTo cuts index from top begin bottom runs → IsNonDecreasingBy (λ (c : Cut). c.at) cuts
     → ((e : Cut) → slice_index_or cuts index e ≡ cut)
-    → IsAdded runs begin bottom cut.at new below → IsUpTo cuts (index + 1) from top cut.at below new
+    → IsRunAdded runs begin bottom cut.at new below → IsUpTo cuts (index + 1) from top cut.at below new
 more_added cuts index from top begin bottom below runs new cut up sorted is add = record {
   stacked = stacked_added from top begin bottom cut.at below runs new up.stacked add;
   is_low = omega (arith, up.is_low, add.below, add.is_low);
@@ -171,7 +171,7 @@ pub more : (cuts : List Cut) (index from top begin bottom next below : ℕ) (run
     → IsUpTo cuts index from top begin bottom runs → IsNonDecreasingBy (λ (c : Cut). c.at) cuts → index < length cuts
     → next ≡ max begin (slice_index_or cuts index d).at
     → ((slice_index_or cuts index d).at ≤ begin → (new ≡ runs) × (below ≡ bottom))
-    → (begin < (slice_index_or cuts index d).at → IsAdded runs begin bottom (slice_index_or cuts index d).at new below)
+    → (begin < (slice_index_or cuts index d).at → IsRunAdded runs begin bottom (slice_index_or cuts index d).at new below)
     → IsUpTo cuts (index + 1) from top next below new
 more cuts index from top begin bottom next below runs new d up sorted inside is same added =
     let cut : Cut = slice_index_or cuts index d in

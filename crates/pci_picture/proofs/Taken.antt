@@ -8,8 +8,8 @@ use Rattle.std.proofs.lemmas.List.Concat.{flat_map-append}
 use Rattle.std.proofs.lemmas.List.Elements.{All-head, All-tail, All-cons, All-nil, All-get_or}
 use Rattle.std.proofs.lemmas.List.Sorted.{IsPermutation-refl, IsPermutation-trans, IsPermutation-append_left, IsPermutation-append_right, IsPermutation-append_comm}
 use Rattle.std.proofs.lemmas.List.Splits.{slice_split-cons_yes, slice_split-cons_no}
-use Rattle.pci_picture.specs.Lines.{is_feed, is_one_line, indent_of, content_of, told_line}
-use Rattle.pci_picture.specs.Maps.{lines_of, regions_under}
+use Rattle.pci_picture.specs.Lines.{is_feed, is_one_line, leading_blanks, unindented_line, indented_if_region}
+use Rattle.pci_picture.specs.Maps.{lines_of_regions, regions_under}
 use Rattle.pci_picture.specs.declared.map.Line.{Line}
 use Rattle.pci_picture.specs.declared.region.Region.{Region}
 
@@ -20,9 +20,9 @@ all_drop p zero line all = all
 all_drop p (suc n) [] all = refl
 all_drop p (suc n) (b ∷ line) all = all_drop p n line ((and_parts (p b) (list_all p line) all).1)
 
-pub content_one_line : (line content : List ℕ) → IsTrue (is_one_line line) → content ≡ content_of line → IsTrue (is_one_line content)
+pub content_one_line : (line content : List ℕ) → IsTrue (is_one_line line) → content ≡ unindented_line line → IsTrue (is_one_line content)
 content_one_line line content one is =
-    subst (λ l. IsTrue (is_one_line l)) (sym is) (all_drop (λ b. not (is_feed b)) (indent_of line) line one)
+    subst (λ l. IsTrue (is_one_line l)) (sym is) (all_drop (λ b. not (is_feed b)) (leading_blanks line) line one)
 
 abbrev IsOneLine : List ℕ → Type 0
 IsOneLine line = IsTrue (is_one_line line)
@@ -47,16 +47,16 @@ part_one_line text line k at =
 
 -- ---- one more region
 
-more_line : (lines : List Line) (line : Line) → lines_of (regions_under (lines ++ line ∷ [])) ≡ lines_of (regions_under lines) ++ line.region.line.now ∷ []
+more_line : (lines : List Line) (line : Line) → lines_of_regions (regions_under (lines ++ line ∷ [])) ≡ lines_of_regions (regions_under lines) ++ line.region.line.now ∷ []
 more_line lines line =
-    ap lines_of (map-append (λ l. l.region) lines (line ∷ [])) ∙ map-append (λ r. r.line.now) (regions_under lines) (line.region ∷ [])
+    ap lines_of_regions (map-append (λ l. l.region) lines (line ∷ [])) ∙ map-append (λ r. r.line.now) (regions_under lines) (line.region ∷ [])
 
 pub put_line : (lines new : List Line) (off : List (List ℕ)) (line : Line) → new ≡ lines ++ line ∷ []
-    → IsPermutation ((lines_of (regions_under lines) ++ off) ++ line.region.line.now ∷ []) (lines_of (regions_under new) ++ off)
+    → IsPermutation ((lines_of_regions (regions_under lines) ++ off) ++ line.region.line.now ∷ []) (lines_of_regions (regions_under new) ++ off)
 put_line lines new off line is =
-    let before = lines_of (regions_under lines) in
+    let before = lines_of_regions (regions_under lines) in
     let one = line.region.line.now ∷ [] in
-    subst (λ l. IsPermutation ((before ++ off) ++ one) (l ++ off)) (sym (ap (λ l. lines_of (regions_under l)) is ∙ more_line lines line))
+    subst (λ l. IsPermutation ((before ++ off) ++ one) (l ++ off)) (sym (ap (λ l. lines_of_regions (regions_under l)) is ∙ more_line lines line))
     (subst (λ l. IsPermutation l ((before ++ one) ++ off)) (sym (append_assoc before off one))
     (subst (λ l. IsPermutation (before ++ (off ++ one)) l) (sym (append_assoc before one off))
     (IsPermutation-append_right before (off ++ one) (one ++ off) (IsPermutation-append_comm off one))))
@@ -64,19 +64,19 @@ put_line lines new off line is =
 -- ---- one more line
 
 pub more_told : {X : Type 0} (now : X → List ℕ) (lines : List X) (line : X) (bytes : List ℕ) (old new : List (List ℕ)) → bytes ≡ now line
-    → IsPermutation (flat_map told_line (map now lines)) old → IsPermutation (old ++ told_line bytes) new
-    → IsPermutation (flat_map told_line (map now (lines ++ line ∷ []))) new
+    → IsPermutation (flat_map indented_if_region (map now lines)) old → IsPermutation (old ++ indented_if_region bytes) new
+    → IsPermutation (flat_map indented_if_region (map now (lines ++ line ∷ []))) new
 more_told now lines line bytes old new same before step =
-    let told = flat_map told_line (map now lines) in
-    let split : flat_map told_line (map now (lines ++ line ∷ [])) ≡ told ++ told_line bytes =
-    ap (flat_map told_line) (map-append now lines (line ∷ []))
-    ∙ flat_map-append told_line (map now lines) (now line ∷ [])
-    ∙ ap (λ l. told ++ l) (append-nil (told_line (now line)) ∙ ap told_line (sym same)) in
+    let told = flat_map indented_if_region (map now lines) in
+    let split : flat_map indented_if_region (map now (lines ++ line ∷ [])) ≡ told ++ indented_if_region bytes =
+    ap (flat_map indented_if_region) (map-append now lines (line ∷ []))
+    ∙ flat_map-append indented_if_region (map now lines) (now line ∷ [])
+    ∙ ap (λ l. told ++ l) (append-nil (indented_if_region (now line)) ∙ ap indented_if_region (sym same)) in
     subst (λ l. IsPermutation l new) (sym split)
-    (IsPermutation-trans (told ++ told_line bytes) (old ++ told_line bytes) new
-    (IsPermutation-append_left (told_line bytes) told old before) step)
+    (IsPermutation-trans (told ++ indented_if_region bytes) (old ++ indented_if_region bytes) new
+    (IsPermutation-append_left (indented_if_region bytes) told old before) step)
 
-pub none_read : (lines : List Line) (off : List Region) → lines ≡ [] → off ≡ [] → IsPermutation [] (lines_of (regions_under lines) ++ lines_of off)
+pub none_read : (lines : List Line) (off : List Region) → lines ≡ [] → off ≡ [] → IsPermutation [] (lines_of_regions (regions_under lines) ++ lines_of_regions off)
 none_read lines off none nothing =
-    subst (λ l. IsPermutation [] (lines_of (regions_under l) ++ lines_of off)) (sym none)
-    (subst (λ o. IsPermutation [] (lines_of o)) (sym nothing) (IsPermutation-refl []))
+    subst (λ l. IsPermutation [] (lines_of_regions (regions_under l) ++ lines_of_regions off)) (sym none)
+    (subst (λ o. IsPermutation [] (lines_of_regions o)) (sym nothing) (IsPermutation-refl []))

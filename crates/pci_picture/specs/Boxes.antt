@@ -3,9 +3,9 @@ use Rattle.std.specs.Prelude.{◌≡◌, ℕ, Bool, List, [], ◌∷◌, ◌++�
 use Rattle.std.specs.List.{flat_map}
 use Rattle.std.specs.List.Sorted.{IsPermutation}
 use Rattle.pci_picture.specs.Elements.{box_text, words_text, axis_text, tick_text, gap_text}
-use Rattle.pci_picture.specs.Headings.{AreSectionsOf, headed_regions, is_off, lines_below}
-use Rattle.pci_picture.specs.Lines.{is_feed, region_line, region_lines}
-use Rattle.pci_picture.specs.Spots.{Section, Spot, spot_at, lines_drawn, all_of, EachStands}
+use Rattle.pci_picture.specs.Headings.{AreSectionsOf, headed_regions, is_below_no_heading, lines_below_headings}
+use Rattle.pci_picture.specs.Lines.{is_feed, line_if_region, region_lines}
+use Rattle.pci_picture.specs.Spots.{Section, BoxSpot, spot_at, lines_drawn, all_of, EachStands}
 use Rattle.pci_picture.specs.Whole.{picture_text}
 
 -- a box by its title, its top and its height
@@ -32,31 +32,31 @@ pub data HasTitles : List Titled → List ℕ → Type 0 where
       → HasTitles boxes (gap_text x y to ++ rest)
 
 -- the bytes before the first line feed
-abbrev pub first_line : List ℕ → List ℕ
-first_line [] = []
-first_line (b ∷ title) = if is_feed b then [] else b ∷ first_line title
+abbrev pub first_title_line : List ℕ → List ℕ
+first_title_line [] = []
+first_title_line (b ∷ title) = if is_feed b then [] else b ∷ first_title_line title
 
 -- the first line of a title, where it is a region of a map
 abbrev pub titled_line : List ℕ → List (List ℕ)
-titled_line title = region_line (first_line title)
+titled_line title = line_if_region (first_title_line title)
 
 -- the same, with where the box stands
-abbrev pub titled_spot : Titled → List Spot
+abbrev pub titled_spot : Titled → List BoxSpot
 titled_spot box = map (spot_at box.y box.height) (titled_line box.title)
 
 -- a text has these regions of a map as first lines of its titles, in their order and with their places, and no others
-pub record HasSpots (spots : List Spot) (text : List ℕ) : Type 0 where
+pub record HasSpots (spots : List BoxSpot) (text : List ℕ) : Type 0 where
   pub boxes : List Titled
   pub has : HasTitles boxes text
   pub first : flat_map titled_spot boxes ≡ spots
 
 -- boxes that have these regions, and words that have no box
-pub record AreDrawn (spots : List Spot) (boxes words : List ℕ) : Type 0 where
+pub record AreDrawn (spots : List BoxSpot) (boxes words : List ℕ) : Type 0 where
   pub in_boxes : HasSpots spots boxes
   pub in_words : HasTitles [] words
 
 -- a picture with these regions, and with this height
-pub record IsDrawnOf (spots : List Spot) (height : ℕ) (text : List ℕ) : Type 0 where
+pub record IsDrawnOf (spots : List BoxSpot) (height : ℕ) (text : List ℕ) : Type 0 where
   pub is_told : Bool
   pub boxes : List ℕ
   pub words : List ℕ
@@ -70,10 +70,10 @@ pub record IsDrawnOf (spots : List Spot) (height : ℕ) (text : List ℕ) : Type
 -- heights that rise with addresses, where the height of the picture was not cut off at 64 bits
 pub record IsPictureOf (map text : List ℕ) : Type 0 where
   pub sections : List Section
-  pub off : List Spot
+  pub off : List BoxSpot
   pub each_once : IsPermutation (region_lines map) (lines_drawn (all_of sections ++ off))
   pub below_headings : AreSectionsOf (headed_regions map) sections
-  pub below_none : lines_drawn off ≡ lines_below is_off (headed_regions map)
+  pub below_none : lines_drawn off ≡ lines_below_headings is_below_no_heading (headed_regions map)
   pub height : ℕ
   pub drawn : IsDrawnOf (all_of sections ++ off) height text
   pub stand : EachStands height sections
@@ -81,6 +81,6 @@ pub record IsPictureOf (map text : List ℕ) : Type 0 where
 -- sections that have what stands below their headings and what is out of place, and a list of what is off, have each region of
 -- the map exactly once, as often as it stands there
 abbrev pub EachRegionOnce : Type 0
-EachRegionOnce = (map : List ℕ) (sections : List Section) (off : List Spot) → AreSectionsOf (headed_regions map) sections
-    → lines_drawn off ≡ lines_below is_off (headed_regions map)
+EachRegionOnce = (map : List ℕ) (sections : List Section) (off : List BoxSpot) → AreSectionsOf (headed_regions map) sections
+    → lines_drawn off ≡ lines_below_headings is_below_no_heading (headed_regions map)
     → IsPermutation (region_lines map) (lines_drawn (all_of sections ++ off))

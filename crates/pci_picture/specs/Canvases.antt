@@ -2,19 +2,19 @@
 use Rattle.std.specs.Prelude.{List, ◌++◌}
 use Rattle.std.specs.String.{string_bytes}
 use Rattle.pci_picture.specs.Boxes.{AreDrawn}
-use Rattle.pci_picture.specs.Spots.{Spot}
+use Rattle.pci_picture.specs.Spots.{BoxSpot}
 use Rattle.pci_picture.specs.declared.canvas.Canvas.{Canvas}
 
 -- a canvas has these lines of a map as first lines of titles, in their order and with their places, and no others
-abbrev pub HasDrawn : {A : Type 0} → List Spot → Canvas A → Type 0
+abbrev pub HasDrawn : {A : Type 0} → List BoxSpot → Canvas A → Type 0
 HasDrawn spots canvas = AreDrawn spots (string_bytes canvas.boxes) (string_bytes canvas.words)
 
 -- these are added behind those that a canvas has
-pub record Adds {A : Type 0} (more : List Spot) (before after : Canvas A) : Type 0 where
-  pub behind : (spots : List Spot) → HasDrawn spots before → HasDrawn (spots ++ more) after
+pub record AddsToCanvas {A : Type 0} (more : List BoxSpot) (before after : Canvas A) : Type 0 where
+  pub behind : (spots : List BoxSpot) → HasDrawn spots before → HasDrawn (spots ++ more) after
 
 -- some are added of which this holds
-pub record AddsSome {A : Type 0} (Hold : List Spot → Type 0) (before after : Canvas A) : Type 0 where
-  pub spots : List Spot
+pub record AddsSome {A : Type 0} (Hold : List BoxSpot → Type 0) (before after : Canvas A) : Type 0 where
+  pub spots : List BoxSpot
   pub hold : Hold spots
-  pub adds : Adds spots before after
+  pub adds : AddsToCanvas spots before after

@@ -7,28 +7,28 @@ use Rattle.pci_picture.specs.declared.region.Part.TheVariants.{Bar, Prefetchable
 use Rattle.pci_picture.specs.declared.region.Region.{Region}
 
 -- an address is a cut
-abbrev pub HasCut : List Cut → ℕ → Type 0
-HasCut cuts address = Any (λ cut. cut.at ≡ address) cuts
+abbrev pub HasCutAt : List Cut → ℕ → Type 0
+HasCutAt cuts address = Any (λ cut. cut.at ≡ address) cuts
 
 -- what is a cut stays one
 abbrev pub KeepsCuts : List Cut → List Cut → Type 0
-KeepsCuts old new = (address : ℕ) → HasCut old address → HasCut new address
+KeepsCuts old new = (address : ℕ) → HasCutAt old address → HasCutAt new address
 
 -- the first address of a region and the one past its last are cuts
-pub record IsCut (cuts : List Cut) (region : Region) : Type 0 where
-  pub begins : HasCut cuts region.first
-  pub ends : HasCut cuts (region.last + 1)
+pub record IsRegionCut (cuts : List Cut) (region : Region) : Type 0 where
+  pub begins : HasCutAt cuts region.first
+  pub ends : HasCutAt cuts (region.last + 1)
 
-abbrev pub is_window : Part → Bool
-is_window Bar = false
-is_window Prefetchable = false
-is_window Rom = false
-is_window Window = true
-is_window Told = false
-is_window Held = false
-is_window Free = false
+abbrev pub is_window_part : Part → Bool
+is_window_part Bar = false
+is_window_part Prefetchable = false
+is_window_part Rom = false
+is_window_part Window = true
+is_window_part Told = false
+is_window_part Held = false
+is_window_part Free = false
 
 -- the addresses past the last ones of windows, or of all others, became cuts
 pub record AddsEnds (of_windows : Bool) (regions : List Region) (old new : List Cut) : Type 0 where
   pub kept : KeepsCuts old new
-  pub ends : All (λ region. is_window region.part ≡ of_windows → HasCut new (region.last + 1)) regions
+  pub ends : All (λ region. is_window_part region.part ≡ of_windows → HasCutAt new (region.last + 1)) regions

@@ -2,9 +2,9 @@
 use Rattle.std.specs.Prelude.{◌≡◌, ◌<◌, ◌≤◌, ◌+◌, ◌-◌, ◌^◌, ℕ, List, map, take, length, slice_index_or}
 use Rattle.std.specs.List.{All, AllPairs, flat_map}
 use Rattle.std.specs.List.Sorted.{IsPermutation, IsNonDecreasingBy}
-use Rattle.pci_picture.specs.Headings.{AreSectionsOf, is_lost, lines_below}
-use Rattle.pci_picture.specs.Maps.{headed_line, headed_member, lines_of, regions_of, regions_under}
-use Rattle.pci_picture.specs.Spots.{Section, Spot, first_address, last_address, lines_drawn, all_of, Rise, AreStanding, EachStands}
+use Rattle.pci_picture.specs.Headings.{AreSectionsOf, is_lost, lines_below_headings}
+use Rattle.pci_picture.specs.Maps.{headed_line, headed_member, lines_of_regions, regions_of_members, regions_under}
+use Rattle.pci_picture.specs.Spots.{Section, BoxSpot, first_address, region_last_address, lines_drawn, all_of, Rise, AreBoxesStanding, EachStands}
 use Rattle.pci_picture.specs.Stacked.{height_at}
 use Rattle.pci_picture.specs.declared.heights.Run.{Run}
 use Rattle.pci_picture.specs.declared.map.Line.{Line}
@@ -16,9 +16,9 @@ pub record IsFramed (height_of : ℕ → ℕ) (first last y height : ℕ) : Type
   pub ends : height ≡ height_of (last + 1) - y - 1
 
 -- a box stands so, and its region ends behind its beginning
-pub record IsFramedAt (height_of : ℕ → ℕ) (spot : Spot) : Type 0 where
-  pub rises : first_address spot.line ≤ last_address spot.line
-  pub framed : IsFramed height_of (first_address spot.line) (last_address spot.line) spot.y spot.height
+pub record IsFramedAt (height_of : ℕ → ℕ) (spot : BoxSpot) : Type 0 where
+  pub rises : first_address spot.line ≤ region_last_address spot.line
+  pub framed : IsFramed height_of (first_address spot.line) (region_last_address spot.line) spot.y spot.height
 
 -- heights by which regions can be drawn: the runs stand in their order, and the ends of the regions rise
 pub record ArePlanned (lines : List (List ℕ)) (runs : List Run) (bottom : ℕ) : Type 0 where
@@ -26,15 +26,15 @@ pub record ArePlanned (lines : List (List ℕ)) (runs : List Run) (bottom : ℕ)
   pub rise : Rise lines (height_at runs bottom)
 
 -- the boxes of regions whose places are those of their addresses, where the runs stand in their order
-pub record AreFramed (lines : List (List ℕ)) (runs : List Run) (bottom : ℕ) (spots : List Spot) : Type 0 where
+pub record AreFramed (lines : List (List ℕ)) (runs : List Run) (bottom : ℕ) (spots : List BoxSpot) : Type 0 where
   pub drawn : lines_drawn spots ≡ lines
   pub framed : IsNonDecreasingBy (λ (run : Run). run.begin) runs
       → All (IsFramedAt (height_at runs bottom)) spots
 
 -- the boxes of the regions of a section that ends at a height
-pub record AreOfSection (lines : List (List ℕ)) (end : ℕ) (spots : List Spot) : Type 0 where
+pub record AreOfSection (lines : List (List ℕ)) (end : ℕ) (spots : List BoxSpot) : Type 0 where
   pub drawn : lines_drawn spots ≡ lines
-  pub stand : end < 2 ^ 64 - 1 → AreStanding spots
+  pub stand : end < 2 ^ 64 - 1 → AreBoxesStanding spots
 
 -- ---- members by sections
 
@@ -51,21 +51,21 @@ pub record Group : Type 0 where
   pub members : List Member
 
 pub record IsGroup (group : Group) : Type 0 where
-  pub drawn : lines_drawn group.section.spots ≡ lines_of (regions_of group.members)
-  pub lost : group.section.lost ≡ lines_below is_lost (map headed_member group.members)
+  pub drawn : lines_drawn group.section.spots ≡ lines_of_regions (regions_of_members group.members)
+  pub lost : group.section.lost ≡ lines_below_headings is_lost (map headed_member group.members)
   pub alike : All (λ member. member.section ≡ group.section.number) group.members
 
 abbrev pub sections_of : List Group → List Section
 sections_of groups = map (λ group. group.section) groups
 
-abbrev pub members_of : List Group → List Member
-members_of groups = flat_map (λ group. group.members) groups
+abbrev pub members_of_groups : List Group → List Member
+members_of_groups groups = flat_map (λ group. group.members) groups
 
 -- the boxes of the first members in sections, of which the last one ends at a height
-pub record AreGrouped (members : List Member) (count end : ℕ) (spots : List Spot) : Type 0 where
+pub record AreGrouped (members : List Member) (count end : ℕ) (spots : List BoxSpot) : Type 0 where
   pub groups : List Group
   pub joined : all_of (sections_of groups) ≡ spots
-  pub taken : members_of groups ≡ take count members
+  pub taken : members_of_groups groups ≡ take count members
   pub each : All IsGroup groups
   pub rise : AllPairs (λ one other. one.number < other.number) (sections_of groups)
   pub below : (d : Member) → count < length members
@@ -73,9 +73,9 @@ pub record AreGrouped (members : List Member) (count end : ℕ) (spots : List Sp
   pub stand : EachStands end (sections_of groups)
 
 -- the boxes of lines in sections, of which the last one ends at a height: each region once
-pub record AreOfSections (lines : List Line) (end : ℕ) (spots : List Spot) : Type 0 where
+pub record AreOfSections (lines : List Line) (end : ℕ) (spots : List BoxSpot) : Type 0 where
   pub sections : List Section
   pub joined : all_of sections ≡ spots
-  pub each_once : IsPermutation (lines_of (regions_under lines)) (lines_drawn spots)
+  pub each_once : IsPermutation (lines_of_regions (regions_under lines)) (lines_drawn spots)
   pub below_headings : AreSectionsOf (map headed_line lines) sections
   pub stand : EachStands end sections

@@ -40,14 +40,14 @@ unfoldable pub rect_attributes : ℕ → ℕ → ℕ → ℕ → List ℕ → Li
 rect_attributes x y width height class anchor =
     frame_attributes x y width height ++ (text_attribute (codes "class") class ++ text_attribute (codes "id") anchor)
 
-unfoldable pub title_text : List ℕ → List ℕ
-title_text title = element (codes "title") [] (escaped title)
+unfoldable pub title_element : List ℕ → List ℕ
+title_element title = element (codes "title") [] (escaped title)
 
 -- a box with its title, which a browser shows under the pointer
 abbrev pub box_text : ℕ → ℕ → ℕ → ℕ → List ℕ → List ℕ → List ℕ → List ℕ
 box_text x y width height class anchor title =
     element (codes "rect") (rect_attributes x y width height class anchor)
-    (title_text title)
+    (title_element title)
     ++ 10 ∷ []
 
 unfoldable pub place_attributes : ℕ → ℕ → List ℕ

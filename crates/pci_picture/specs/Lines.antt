@@ -3,33 +3,33 @@ use Rattle.std.specs.Prelude.{ℕ, Bool, ◌==◌, ◌&&◌, ◌||◌, not, ◌+
 use Rattle.std.specs.List.{flat_map, filter, list_all, position_or_len, slice_get, slice_split, before_first, after_first}
 use Rattle.std.specs.Cmp.Lexicographic.{pointwise}
 
-abbrev pub is_blank : ℕ → Bool
-is_blank b = b == 32
+abbrev pub is_blank_byte : ℕ → Bool
+is_blank_byte b = b == 32
 
 abbrev pub is_feed : ℕ → Bool
 is_feed b = b == 10
 
-abbrev pub is_dash : ℕ → Bool
-is_dash b = b == 45
+abbrev pub is_dash_byte : ℕ → Bool
+is_dash_byte b = b == 45
 
 -- no line feed is in it
 abbrev pub is_one_line : List ℕ → Bool
 is_one_line line = list_all (λ b. not (is_feed b)) line
 
 -- how many blanks a line begins with, and what stands behind them
-abbrev pub indent_of : List ℕ → ℕ
-indent_of line = position_or_len (λ b. not (is_blank b)) line
+abbrev pub leading_blanks : List ℕ → ℕ
+leading_blanks line = position_or_len (λ b. not (is_blank_byte b)) line
 
-abbrev pub content_of : List ℕ → List ℕ
-content_of line = drop (indent_of line) line
+abbrev pub unindented_line : List ℕ → List ℕ
+unindented_line line = drop (leading_blanks line) line
 
 -- ---- the words of a line, between blanks
 
-abbrev pub is_word : List ℕ → Bool
-is_word part = not (length part == 0)
+abbrev pub is_nonempty_word : List ℕ → Bool
+is_nonempty_word part = not (length part == 0)
 
-unfoldable pub words_of : List ℕ → List (List ℕ)
-words_of line = filter is_word (slice_split is_blank line)
+unfoldable pub words_in_line : List ℕ → List (List ℕ)
+words_in_line line = filter is_nonempty_word (slice_split is_blank_byte line)
 
 -- the word at the index `n`, or nothing
 abbrev pub nth_word : List (List ℕ) → ℕ → List ℕ
@@ -44,31 +44,31 @@ says word name = pointwise nat_eq word name
 abbrev pub is_digit : ℕ → Bool
 is_digit b = (nat_le 48 b && nat_le b 57) || (nat_le 97 b && nat_le b 102)
 
-abbrev pub digit_value : ℕ → ℕ
-digit_value b = if nat_le b 57 then b - 48 else b - 87
+abbrev pub hex_digit_value : ℕ → ℕ
+hex_digit_value b = if nat_le b 57 then b - 48 else b - 87
 
 abbrev pub digit_of : ℕ → Option ℕ
-digit_of b = if is_digit b then Some (digit_value b) else None
+digit_of b = if is_digit b then Some (hex_digit_value b) else None
 
 -- one to 16 digits, and their number
 abbrev pub is_number : List ℕ → Bool
-is_number digits = is_word digits && nat_le (length digits) 16 && list_all is_digit digits
+is_number digits = is_nonempty_word digits && nat_le (length digits) 16 && list_all is_digit digits
 
-abbrev pub next_value : ℕ → ℕ → ℕ
-next_value n b = n * 16 + digit_value b
+abbrev pub next_hex : ℕ → ℕ → ℕ
+next_hex n b = n * 16 + hex_digit_value b
 
-abbrev pub value_of : List ℕ → ℕ
-value_of digits = fold next_value 0 digits
+abbrev pub hex_value : List ℕ → ℕ
+hex_value digits = fold next_hex 0 digits
 
-abbrev pub number_of : List ℕ → Option ℕ
-number_of digits = if is_number digits then Some (value_of digits) else None
+abbrev pub hex_number_of : List ℕ → Option ℕ
+hex_number_of digits = if is_number digits then Some (hex_value digits) else None
 
 -- `F-L`, where F is at most L
 unfoldable pub is_range : List ℕ → Bool
 is_range word =
-    nat_lt (position_or_len is_dash word) (length word)
-    && is_number (before_first is_dash word) && is_number (after_first is_dash word)
-    && nat_le (value_of (before_first is_dash word)) (value_of (after_first is_dash word))
+    nat_lt (position_or_len is_dash_byte word) (length word)
+    && is_number (before_first is_dash_byte word) && is_number (after_first is_dash_byte word)
+    && nat_le (hex_value (before_first is_dash_byte word)) (hex_value (after_first is_dash_byte word))
 
 -- two digits
 unfoldable pub is_register : List ℕ → Bool
@@ -115,8 +115,8 @@ names_told words at = is_slot (nth_word words at) && is_told_number (nth_word wo
 
 -- the part that words name from the third one on: `bar S r`, `bar pref S r`, `rom S r`, `window S r`, `told S +n`,
 -- `told pref S +n`, `held S +n`, `held pref S +n` or `free`
-unfoldable pub is_part : List (List ℕ) → Bool
-is_part words =
+unfoldable pub names_part : List (List ℕ) → Bool
+names_part words =
     if says (nth_word words 2) (codes "bar")
     then names_register words (if says (nth_word words 3) (codes "pref") then 4 else 3)
     else (if says (nth_word words 2) (codes "rom") || says (nth_word words 2) (codes "window")
@@ -127,16 +127,16 @@ is_part words =
 
 -- a line `F-L N PART S r`, `F-L N PART S +n` or `F-L N free`, without the blanks before it
 unfoldable pub is_region_line : List ℕ → Bool
-is_region_line line = is_range (nth_word (words_of line) 0) && is_part (words_of line)
+is_region_line line = is_range (nth_word (words_in_line line) 0) && names_part (words_in_line line)
 
 -- the line itself where it is a region, else no line
-abbrev pub region_line : List ℕ → List (List ℕ)
-region_line line = if is_region_line line then line ∷ [] else []
+abbrev pub line_if_region : List ℕ → List (List ℕ)
+line_if_region line = if is_region_line line then line ∷ [] else []
 
 -- the same of a line with at least two blanks before it, without these; no line where it has fewer
-abbrev pub told_line : List ℕ → List (List ℕ)
-told_line line = if nat_lt (indent_of line) 2 then [] else region_line (content_of line)
+abbrev pub indented_if_region : List ℕ → List (List ℕ)
+indented_if_region line = if nat_lt (leading_blanks line) 2 then [] else line_if_region (unindented_line line)
 
 -- the regions of a map's text, in their order
 abbrev pub region_lines : List ℕ → List (List ℕ)
-region_lines map = flat_map told_line (slice_split is_feed map)
+region_lines map = flat_map indented_if_region (slice_split is_feed map)

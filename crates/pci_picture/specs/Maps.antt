@@ -2,8 +2,8 @@
 use Rattle.std.specs.Prelude.{◌≡◌, ℕ, Option, Some, None, List, ◌++◌, map, if◌then◌else◌}
 use Rattle.std.specs.List.{filter, flat_map}
 use Rattle.std.specs.List.Sorted.{IsPermutation, IsNonDecreasingBy}
-use Rattle.pci_picture.specs.Headings.{Headed, headed, headed_lines, is_kept, is_off, lines_below}
-use Rattle.pci_picture.specs.Lines.{told_line}
+use Rattle.pci_picture.specs.Headings.{Headed, headed, headed_lines, is_below_heading, is_below_no_heading, lines_below_headings}
+use Rattle.pci_picture.specs.Lines.{indented_if_region}
 use Rattle.pci_picture.specs.declared.region.Region.{Region}
 use Rattle.pci_picture.specs.declared.map.Heading.{Heading}
 use Rattle.pci_picture.specs.declared.map.Heading.TheVariants.{Section, Lost, Off}
@@ -12,21 +12,21 @@ use Rattle.pci_picture.specs.declared.map.Map.{Map}
 use Rattle.pci_picture.specs.declared.plan.Member.{Member}
 use Rattle.pci_picture.specs.declared.plan.Placed.{Placed}
 
-abbrev pub lines_of : List Region → List (List ℕ)
-lines_of regions = map (λ region. region.line.now) regions
+abbrev pub lines_of_regions : List Region → List (List ℕ)
+lines_of_regions regions = map (λ region. region.line.now) regions
 
 abbrev pub regions_under : List Line → List Region
 regions_under lines = map (λ line. line.region) lines
 
-abbrev pub regions_of : List Member → List Region
-regions_of members = map (λ member. member.region) members
+abbrev pub regions_of_members : List Member → List Region
+regions_of_members members = map (λ member. member.region) members
 
-abbrev pub regions_at : List Placed → List Region
-regions_at places = map (λ placed. placed.region) places
+abbrev pub regions_placed : List Placed → List Region
+regions_placed places = map (λ placed. placed.region) places
 
 -- the lines of a map: those of its sections and what is lost, and those of what is off
 abbrev pub lines_read : {A : Type 0} → Map A → List (List ℕ)
-lines_read read = lines_of (regions_under read.lines.items) ++ lines_of read.off.items
+lines_read read = lines_of_regions (regions_under read.lines.items) ++ lines_of_regions read.off.items
 
 -- ---- headings
 
@@ -42,15 +42,15 @@ headed_member member = headed (if member.is_lost then Lost else Section member.s
 
 -- a map has the regions of some lines of text, each with its heading; those that are off stand apart
 pub record IsReadOf {A : Type 0} (lines : List (List ℕ)) (read : Map A) : Type 0 where
-  pub each_once : IsPermutation (flat_map told_line lines) (lines_read read)
-  pub kept : map headed_line read.lines.items ≡ filter is_kept (headed_lines Off lines)
-  pub off : lines_of read.off.items ≡ lines_below is_off (headed_lines Off lines)
+  pub each_once : IsPermutation (flat_map indented_if_region lines) (lines_read read)
+  pub kept : map headed_line read.lines.items ≡ filter is_below_heading (headed_lines Off lines)
+  pub off : lines_of_regions read.off.items ≡ lines_below_headings is_below_no_heading (headed_lines Off lines)
 
 -- a map took up regions that stand below a heading
 pub record TakesUp {A : Type 0} (heading : Heading) (told : List (List ℕ)) (old new : Map A) : Type 0 where
   pub each_once : IsPermutation (lines_read old ++ told) (lines_read new)
-  pub kept : map headed_line new.lines.items ≡ map headed_line old.lines.items ++ filter is_kept (map (headed heading) told)
-  pub off : lines_of new.off.items ≡ lines_of old.off.items ++ lines_below is_off (map (headed heading) told)
+  pub kept : map headed_line new.lines.items ≡ map headed_line old.lines.items ++ filter is_below_heading (map (headed heading) told)
+  pub off : lines_of_regions new.off.items ≡ lines_of_regions old.off.items ++ lines_below_headings is_below_no_heading (map (headed heading) told)
 
 -- ---- members
 
@@ -60,6 +60,6 @@ rank_of member = if member.is_lost then (member.region.first, member.region.key)
 
 -- the members of lines, by rising numbers of their sections
 pub record AreMembersOf (lines : List Line) (members : List Member) : Type 0 where
-  pub moved : IsPermutation (regions_under lines) (regions_of members)
+  pub moved : IsPermutation (regions_under lines) (regions_of_members members)
   pub seated : IsPermutation (map headed_line lines) (map headed_member members)
   pub sorted : IsNonDecreasingBy (λ (member : Member). member.section) members

@@ -1,51 +1,51 @@
 -- Where the boxes of regions stand.
 use Rattle.std.specs.Prelude.{◌≡◌, ◌⊎◌, ◌<◌, ◌≤◌, ◌+◌, ◌-◌, ◌^◌, ℕ, List, map}
 use Rattle.std.specs.List.{All, Any, Contains, flat_map, before_first, after_first}
-use Rattle.pci_picture.specs.Lines.{is_dash, nth_word, value_of, words_of}
+use Rattle.pci_picture.specs.Lines.{is_dash_byte, nth_word, hex_value, words_in_line}
 
 -- ---- the addresses of a region, in the first word of its line
 
 unfoldable pub first_address : List ℕ → ℕ
-first_address line = value_of (before_first is_dash (nth_word (words_of line) 0))
+first_address line = hex_value (before_first is_dash_byte (nth_word (words_in_line line) 0))
 
-unfoldable pub last_address : List ℕ → ℕ
-last_address line = value_of (after_first is_dash (nth_word (words_of line) 0))
+unfoldable pub region_last_address : List ℕ → ℕ
+region_last_address line = hex_value (after_first is_dash_byte (nth_word (words_in_line line) 0))
 
 -- a word `F-L` has these two numbers
-pub record IsExtent (word : List ℕ) (first last : ℕ) : Type 0 where
-  pub first_is : first ≡ value_of (before_first is_dash word)
-  pub last_is : last ≡ value_of (after_first is_dash word)
+pub record IsExtentWord (word : List ℕ) (first last : ℕ) : Type 0 where
+  pub first_is : first ≡ hex_value (before_first is_dash_byte word)
+  pub last_is : last ≡ hex_value (after_first is_dash_byte word)
   pub rises : first ≤ last
 
 -- ---- boxes with their places
 
 -- a line of a map that is a region, and where its box stands: its top and its height
-pub record Spot : Type 0 where
+pub record BoxSpot : Type 0 where
   pub line : List ℕ
   pub y : ℕ
   pub height : ℕ
 
-abbrev pub spot_at : ℕ → ℕ → List ℕ → Spot
+abbrev pub spot_at : ℕ → ℕ → List ℕ → BoxSpot
 spot_at y height line = record { line = line; y = y; height = height }
 
-abbrev pub lines_drawn : List Spot → List (List ℕ)
+abbrev pub lines_drawn : List BoxSpot → List (List ℕ)
 lines_drawn spots = map (λ spot. spot.line) spots
 
 -- a section of a picture: its number, its boxes, and those of its lines that are out of place
 pub record Section : Type 0 where
   pub number : ℕ
-  pub spots : List Spot
+  pub spots : List BoxSpot
   pub lost : List (List ℕ)
 
 -- the boxes of some sections, one section behind the other
-abbrev pub all_of : List Section → List Spot
+abbrev pub all_of : List Section → List BoxSpot
 all_of sections = flat_map (λ section. section.spots) sections
 
 -- ---- the heights of a section
 
 -- a region begins at an address, or ends right before it
 abbrev pub IsEndOf : ℕ → List ℕ → Type 0
-IsEndOf address line = (address ≡ first_address line) ⊎ (address ≡ last_address line + 1)
+IsEndOf address line = (address ≡ first_address line) ⊎ (address ≡ region_last_address line + 1)
 
 -- heights rise strictly over the ends of some regions
 abbrev pub Rise : List (List ℕ) → (ℕ → ℕ) → Type 0
@@ -53,21 +53,21 @@ Rise lines height_of = (low high : ℕ) → Any (IsEndOf low) lines → Any (IsE
     → height_of low < height_of high
 
 -- a box begins at the height of its first address, and ends one unit above that of the address past its last one
-pub record StandsAt (height_of : ℕ → ℕ) (spot : Spot) : Type 0 where
+pub record BoxStandsAt (height_of : ℕ → ℕ) (spot : BoxSpot) : Type 0 where
   pub begins : spot.y ≡ height_of (first_address spot.line)
-  pub ends : spot.y + spot.height + 1 ≡ height_of (last_address spot.line + 1)
+  pub ends : spot.y + spot.height + 1 ≡ height_of (region_last_address spot.line + 1)
 
 -- the boxes of a section stand at heights that rise with addresses
-pub record AreStanding (spots : List Spot) : Type 0 where
+pub record AreBoxesStanding (spots : List BoxSpot) : Type 0 where
   pub height_of : ℕ → ℕ
   pub rise : Rise (lines_drawn spots) height_of
-  pub stand : All (StandsAt height_of) spots
+  pub stand : All (BoxStandsAt height_of) spots
 
 -- all sections do so, where the last one ends at a height that was not cut off at 64 bits
 abbrev pub EachStands : ℕ → List Section → Type 0
-EachStands end sections = end < 2 ^ 64 - 1 → All (λ section. AreStanding section.spots) sections
+EachStands end sections = end < 2 ^ 64 - 1 → All (λ section. AreBoxesStanding section.spots) sections
 
 -- of two boxes of a section, the one whose last address is below the first address of the other ends above it
 abbrev pub BoxesAreApart : Type 0
-BoxesAreApart = (spots : List Spot) (one other : Spot) → AreStanding spots → Contains spots one → Contains spots other
-    → last_address one.line < first_address other.line → one.y + one.height < other.y
+BoxesAreApart = (spots : List BoxSpot) (one other : BoxSpot) → AreBoxesStanding spots → Contains spots one → Contains spots other
+    → region_last_address one.line < first_address other.line → one.y + one.height < other.y

@@ -28,7 +28,7 @@ pub record IsRunAt (address height : ℕ) (run : Run) : Type 0 where
   pub is_high : 0 < run.height
 
 -- a run was added from an address and a height on, at most 142 units high
-pub record IsAdded (old : List Run) (address height end : ℕ) (new : List Run) (bottom : ℕ) : Type 0 where
+pub record IsRunAdded (old : List Run) (address height end : ℕ) (new : List Run) (bottom : ℕ) : Type 0 where
   pub run : Run
   pub stands : IsRunAt address height run
   pub ends : run.end ≡ end

@@ -3,20 +3,20 @@ use Rattle.std.specs.Prelude.{◌≡◌, ℕ, Bool, ◌==◌, ◌&&◌, ◌||◌
 use Rattle.std.specs.List.{list_all}
 
 -- a character that stands for itself: neither `<` nor `&` (2.4)
-abbrev pub is_plain : ℕ → Bool
-is_plain c = not (c == 60) && not (c == 38)
+abbrev pub is_plain_character : ℕ → Bool
+is_plain_character c = not (c == 60) && not (c == 38)
 
 -- a character that an attribute's value in quotes may have: also no `"` (2.3)
 abbrev pub is_unquoted : ℕ → Bool
-is_unquoted c = is_plain c && not (c == 34)
+is_unquoted c = is_plain_character c && not (c == 34)
 
 -- a character of a name: a letter or `-`
 abbrev pub is_name_character : ℕ → Bool
 is_name_character c =
     (nat_le 97 c && nat_le c 122) || (nat_le 65 c && nat_le c 90) || (c == 45)
 
-abbrev pub IsName : List ℕ → Type 0
-IsName name = IsTrue (list_all is_name_character name)
+abbrev pub IsXmlName : List ℕ → Type 0
+IsXmlName name = IsTrue (list_all is_name_character name)
 
 -- the entities that a picture has (4.6), and the apostrophe by its number
 pub data IsEntity : List ℕ → Type 0 where
@@ -40,7 +40,7 @@ attribute name value = 32 ∷ (name ++ (61 ∷ 34 ∷ (value ++ (34 ∷ []))))
 
 pub data AreAttributes : List ℕ → Type 0 where
   no_attribute : AreAttributes []
-  one_attribute : (name value rest : List ℕ) → IsName name → AreCharacters is_unquoted value
+  one_attribute : (name value rest : List ℕ) → IsXmlName name → AreCharacters is_unquoted value
       → AreAttributes rest → AreAttributes (attribute name value ++ rest)
 
 -- an element with its start tag, content and end tag, and one without content
@@ -54,11 +54,11 @@ empty_element name attributes = 60 ∷ (name ++ (attributes ++ (47 ∷ 62 ∷ []
 -- characters, and elements that are closed
 pub data IsContent : List ℕ → Type 0 where
   nothing : IsContent []
-  text : (characters rest : List ℕ) → AreCharacters is_plain characters
+  text : (characters rest : List ℕ) → AreCharacters is_plain_character characters
       → IsContent rest → IsContent (characters ++ rest)
-  one_element : (name attributes content rest : List ℕ) → IsName name → AreAttributes attributes
+  one_element : (name attributes content rest : List ℕ) → IsXmlName name → AreAttributes attributes
       → IsContent content → IsContent rest → IsContent (element name attributes content ++ rest)
-  one_empty : (name attributes rest : List ℕ) → IsName name → AreAttributes attributes
+  one_empty : (name attributes rest : List ℕ) → IsXmlName name → AreAttributes attributes
       → IsContent rest → IsContent (empty_element name attributes ++ rest)
 
 -- one element, and a line feed behind it
@@ -66,7 +66,7 @@ pub record IsDocument (document : List ℕ) : Type 0 where
   pub name : List ℕ
   pub attributes : List ℕ
   pub content : List ℕ
-  pub named : IsName name
+  pub named : IsXmlName name
   pub lawful : AreAttributes attributes
   pub closed : IsContent content
   pub says : document ≡ element name attributes content ++ 10 ∷ []

@@ -4,7 +4,7 @@ ghost use Rattle.std.specs.Prelude.{◌≡◌, ◌++◌, List, [], IfOk, OnOk};
 ghost use Rattle.pci_picture.specs.Xml.{IsContent};
 ghost use Rattle.pci_picture.specs.Whole.{IsPictureText, picture_text};
 ghost use Rattle.pci_picture.specs.Boxes.{titled, titled_spot, IsDrawnOf};
-ghost use Rattle.pci_picture.specs.Spots.{Spot};
+ghost use Rattle.pci_picture.specs.Spots.{BoxSpot};
 
 use super::elements::{Frame, push_axis, push_box, push_gap, push_tick, push_words};
 use super::memory::OutOfMemory;
@@ -40,7 +40,7 @@ pub struct Canvas<A: Allocator> {
 }
 
 impl<A: Allocator + Copy> Canvas<A> {
-    ghost use Rattle.pci_picture.specs.Canvases.{HasDrawn, Adds};
+    ghost use Rattle.pci_picture.specs.Canvases.{HasDrawn, AddsToCanvas};
 
     /// A canvas with no element.
     pub fn new(alloc: A) -> Canvas<A>
@@ -79,7 +79,7 @@ impl<A: Allocator + Copy> Canvas<A> {
 
     /// Draws a box with its title.
     pub fn add_box(&mut self, shape: Shape<'_>, title: &[u8]) -> Result<(), OutOfMemory>
-        ensures { OnOk result (Adds (titled_spot (titled shape.entry.at.y shape.entry.at.height title.now)) self.old self.new) }
+        ensures { OnOk result (AddsToCanvas (titled_spot (titled shape.entry.at.y shape.entry.at.height title.now)) self.old self.new) }
     {
         self.element.clear();
         push_box(
@@ -94,7 +94,7 @@ impl<A: Allocator + Copy> Canvas<A> {
 
     /// Writes a line of words among the boxes.
     pub fn add_heading(&mut self, label: Label<'_>, words: &[u8]) -> Result<(), OutOfMemory>
-        ensures { OnOk result (Adds [] self.old self.new) }
+        ensures { OnOk result (AddsToCanvas [] self.old self.new) }
     {
         self.element.clear();
         push_words(&mut self.element, label.x, label.y, label.class, words)?;
@@ -109,7 +109,7 @@ impl<A: Allocator + Copy> Canvas<A> {
         faint: &[u8],
         words: &[u8],
     ) -> Result<(), OutOfMemory>
-        ensures { OnOk result (Adds [] self.old self.new) }
+        ensures { OnOk result (AddsToCanvas [] self.old self.new) }
     {
         self.element.clear();
         push_axis(&mut self.element, x, y, faint, words)?;
@@ -118,7 +118,7 @@ impl<A: Allocator + Copy> Canvas<A> {
 
     /// Draws a short line at the axis.
     pub fn add_tick(&mut self, x: u64, y: u64) -> Result<(), OutOfMemory>
-        ensures { OnOk result (Adds [] self.old self.new) }
+        ensures { OnOk result (AddsToCanvas [] self.old self.new) }
     {
         self.element.clear();
         push_tick(&mut self.element, x, y)?;
@@ -127,7 +127,7 @@ impl<A: Allocator + Copy> Canvas<A> {
 
     /// Draws a line over a gap, up to `to`.
     pub fn add_gap(&mut self, x: u64, y: u64, to: u64) -> Result<(), OutOfMemory>
-        ensures { OnOk result (Adds [] self.old self.new) }
+        ensures { OnOk result (AddsToCanvas [] self.old self.new) }
     {
         self.element.clear();
         push_gap(&mut self.element, x, y, to)?;
@@ -136,7 +136,7 @@ impl<A: Allocator + Copy> Canvas<A> {
 
     /// Writes a line of words, where there are any.
     pub fn add_words(&mut self, label: Label<'_>, words: &[u8]) -> Result<(), OutOfMemory>
-        ensures { OnOk result (Adds [] self.old self.new) }
+        ensures { OnOk result (AddsToCanvas [] self.old self.new) }
     {
         if words.is_empty() {
             return Ok(());
@@ -153,7 +153,7 @@ impl<A: Allocator + Copy> Canvas<A> {
         words: &mut Words<A>,
         width: u64,
     ) -> Result<(), OutOfMemory>
-        ensures { OnOk result (Adds [] self.old self.new) }
+        ensures { OnOk result (AddsToCanvas [] self.old self.new) }
     {
         words.cut(width)?;
         self.add_words(label, words.bytes.as_slice())
@@ -189,7 +189,7 @@ impl<A: Allocator + Copy> Canvas<A> {
         height: u64,
     ) -> Result<String<A>, OutOfMemory>
         ensures closed { IfOk result (λ text. IsPictureText (string_bytes text)) }
-        ensures drawn { (spots : List Spot) → HasDrawn spots self.now
+        ensures drawn { (spots : List BoxSpot) → HasDrawn spots self.now
             → IfOk result (λ text. IsDrawnOf spots height (string_bytes text)) }
     {
         self.text(alloc, is_told, width, height)

@@ -3,7 +3,7 @@ ghost use Rattle.std.specs.Prelude.{◌≡◌, ◌++◌, ◌∷◌, [], codes, I
 ghost use Rattle.std.specs.Fmt.{decimal};
 ghost use Rattle.std.specs.String.{string_bytes};
 ghost use Rattle.pci_picture.specs.Xml.{attribute};
-ghost use Rattle.pci_picture.specs.Elements.{escaped_byte, escaped, number_attribute, text_attribute, frame_attributes, rect_attributes, title_text, box_text, place_attributes, words_text, faint_text, axis_words, axis_text, tick_text, gap_text};
+ghost use Rattle.pci_picture.specs.Elements.{escaped_byte, escaped, number_attribute, text_attribute, frame_attributes, rect_attributes, title_element, box_text, place_attributes, words_text, faint_text, axis_words, axis_text, tick_text, gap_text};
 
 use std::alloc::{AllocError, Allocator};
 
@@ -168,9 +168,9 @@ fn push_look<A: Allocator>(
 }
 
 /// Appends the title of a box.
-#[tactic(auto, unfolding(crate::specs::Elements::title_text))]
+#[tactic(auto, unfolding(crate::specs::Elements::title_element))]
 fn push_title<A: Allocator>(text: &mut String<A>, title: &[u8]) -> Result<(), AllocError>
-    ensures { OnOk result (string_bytes text.new ≡ string_bytes text.old ++ title_text title.now) }
+    ensures { OnOk result (string_bytes text.new ≡ string_bytes text.old ++ title_element title.now) }
 {
     text.push_str("<title>")?;
     push_escaped(text, title)?;

@@ -5,7 +5,7 @@ ghost use Rattle.std.specs.List.{slice_index_or};
 ghost use Rattle.std.specs.List.Sorted.{IsNonDecreasingBy};
 ghost use Rattle.pci_picture.specs.declared.heights.Cut.{Cut};
 ghost use Rattle.pci_picture.specs.declared.heights.Run.{Run};
-ghost use Rattle.pci_picture.specs.Stacked.{AreHeights, IsAdded, height_at};
+ghost use Rattle.pci_picture.specs.Stacked.{AreHeights, IsRunAdded, height_at};
 
 use super::memory::OutOfMemory;
 use std::alloc::Allocator;
@@ -72,9 +72,9 @@ impl<A: Allocator + Copy> Heights<A> {
         ensures same { cut ≤ begin → IfOk result (λ _. (self.new.runs.items ≡ self.old.runs.items)
             × (self.new.bottom ≡ self.old.bottom)) }
         ensures added { begin < cut → self.old.bottom + 142 < 2 ^ 64 → IfOk result (λ _.
-            IsAdded self.old.runs.items begin self.old.bottom cut self.new.runs.items self.new.bottom) }
+            IsRunAdded self.old.runs.items begin self.old.bottom cut self.new.runs.items self.new.bottom) }
         ensures uncut { begin < cut → IfOk result (λ _. self.new.bottom < 2 ^ 64 - 1 →
-            IsAdded self.old.runs.items begin self.old.bottom cut self.new.runs.items self.new.bottom) }
+            IsRunAdded self.old.runs.items begin self.old.bottom cut self.new.runs.items self.new.bottom) }
         ensures down { IfOk result (λ _. self.old.bottom ≤ self.new.bottom) }
     {
         if cut <= begin {

@@ -1,7 +1,7 @@
 //! The legend.
 ghost use Rattle.std.specs.Prelude.{◌≡◌, [], IfOk, OnOk};
 ghost use Rattle.pci_picture.specs.Boxes.{titled_line};
-ghost use Rattle.pci_picture.specs.Canvases.{Adds};
+ghost use Rattle.pci_picture.specs.Canvases.{AddsToCanvas};
 
 use super::canvas::{Canvas, Label, Shape};
 use super::elements::Frame;
@@ -62,7 +62,7 @@ impl Mark {
     }
 
     /// The title of its box.
-    #[tactic(auto, unfolding(crate::specs::Lines::is_region_line, crate::specs::Lines::is_range, crate::specs::Lines::words_of))]
+    #[tactic(auto, unfolding(crate::specs::Lines::is_region_line, crate::specs::Lines::is_range, crate::specs::Lines::words_in_line))]
     fn title(self) -> &'static str
         // it is no line of a region
         ensures { titled_line result.now ≡ [] }
@@ -109,7 +109,7 @@ fn draw_entry<A: Allocator + Copy>(
     x: u64,
     y: u64,
 ) -> Result<(), OutOfMemory>
-    ensures { OnOk result (Adds [] canvas.old canvas.new) }
+    ensures { OnOk result (AddsToCanvas [] canvas.old canvas.new) }
 {
     let at = Frame {
         x,
@@ -140,7 +140,7 @@ pub fn draw_legend<A: Allocator + Copy>(
     is_told: bool,
     y: u64,
 ) -> Result<u64, OutOfMemory>
-    ensures { IfOk result (λ _. Adds [] canvas.old canvas.new) }
+    ensures { IfOk result (λ _. AddsToCanvas [] canvas.old canvas.new) }
 {
     let mut x = LEFT;
     let mut last = LEFT;

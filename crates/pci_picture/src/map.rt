@@ -2,7 +2,7 @@
 ghost use Rattle.std.specs.Prelude.{◌≡◌, [], ◌∷◌, IsTrue, IfOk, OnOk};
 ghost use Rattle.std.specs.List.{slice_split};
 ghost use Rattle.pci_picture.specs.Headings.{heading_told, next_heading, number_of_section};
-ghost use Rattle.pci_picture.specs.Lines.{is_feed, is_one_line, told_line};
+ghost use Rattle.pci_picture.specs.Lines.{is_feed, is_one_line, indented_if_region};
 ghost use Rattle.pci_picture.specs.Maps.{IsReadOf, TakesUp};
 
 use super::memory::OutOfMemory;
@@ -129,7 +129,7 @@ impl<'a, A: Allocator + Copy> Reader<'a, A> {
     /// Reads a line.
     fn take(&mut self, line: &'a [u8]) -> Result<(), OutOfMemory>
         requires { IsTrue (is_one_line line.now) }
-        ensures taken { OnOk result (TakesUp self.old.heading (told_line line.entry.now) self.old.map self.new.map) }
+        ensures taken { OnOk result (TakesUp self.old.heading (indented_if_region line.entry.now) self.old.map self.new.map) }
         ensures below { self.new.heading ≡ next_heading self.old.heading line.entry.now }
     {
         let blanks = indent(line);

@@ -2,9 +2,9 @@
 ghost use Rattle.std.specs.Prelude.{◌≡◌, ◌<◌, ◌≤◌, [], ◌∷◌, length, IfOk, OnOk};
 ghost use Rattle.std.specs.String.{string_bytes};
 ghost use Rattle.pci_picture.specs.Boxes.{IsPictureOf};
-ghost use Rattle.pci_picture.specs.Canvases.{Adds, AddsSome};
+ghost use Rattle.pci_picture.specs.Canvases.{AddsToCanvas, AddsSome};
 ghost use Rattle.pci_picture.specs.Drawings.{AreOfSections, IsRunOfSection};
-ghost use Rattle.pci_picture.specs.Maps.{AreMembersOf, lines_of};
+ghost use Rattle.pci_picture.specs.Maps.{AreMembersOf, lines_of_regions};
 ghost use Rattle.pci_picture.specs.Spots.{lines_drawn, spot_at};
 ghost use Rattle.pci_picture.specs.Whole.{IsPictureText};
 
@@ -67,7 +67,7 @@ fn write_counts<A: Allocator + Copy>(
     canvas: &mut Canvas<A>,
     board: &Board<'_, A>,
 ) -> Result<(), OutOfMemory>
-    ensures { OnOk result (Adds [] canvas.old canvas.new) }
+    ensures { OnOk result (AddsToCanvas [] canvas.old canvas.new) }
 {
     let title = Label {
         x: LEFT,
@@ -91,7 +91,7 @@ fn write_left<A: Allocator + Copy>(
     left: usize,
     y: u64,
 ) -> Result<(), OutOfMemory>
-    ensures { OnOk result (Adds [] canvas.old canvas.new) }
+    ensures { OnOk result (AddsToCanvas [] canvas.old canvas.new) }
 {
     let mut words = Words::of(alloc, b"and ")?;
     words.put_number(alloc, left)?;
@@ -111,7 +111,7 @@ fn write_faults<A: Allocator + Copy>(
     board: &Board<'_, A>,
     above: u64,
 ) -> Result<u64, OutOfMemory>
-    ensures { IfOk result (λ _. Adds [] canvas.old canvas.new) }
+    ensures { IfOk result (λ _. AddsToCanvas [] canvas.old canvas.new) }
 {
     let mut y = above;
     let mut room = LINES;
@@ -223,7 +223,7 @@ fn draw_off<A: Allocator + Copy>(
     site: &Site,
 ) -> Result<u64, OutOfMemory>
     ensures drawn { IfOk result (λ _. AddsSome
-        (λ spots. lines_drawn spots ≡ lines_of board.entry.now.map.off.items) canvas.old canvas.new) }
+        (λ spots. lines_drawn spots ≡ lines_of_regions board.entry.now.map.off.items) canvas.old canvas.new) }
     ensures down { IfOk result (λ end. site.now.y ≤ end) }
 {
     let mut y = site.y;
@@ -266,7 +266,7 @@ fn draw_off_row<A: Allocator + Copy>(
     region: &Region<'_>,
     site: &Site,
 ) -> Result<(), OutOfMemory>
-    ensures { OnOk result (Adds (spot_at site.now.y 13 region.entry.now.line.now ∷ []) canvas.old canvas.new) }
+    ensures { OnOk result (AddsToCanvas (spot_at site.now.y 13 region.entry.now.line.now ∷ []) canvas.old canvas.new) }
 {
     let x = site.x.saturating_add(AXIS);
     let at = Frame {

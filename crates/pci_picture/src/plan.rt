@@ -3,9 +3,9 @@
 ghost use Rattle.std.specs.Prelude.{◌≡◌, ◌<◌, ◌≤◌, ◌-◌, ◌^◌, ◌++◌, IfOk, OnOk, true, false};
 ghost use Rattle.std.specs.List.{All};
 ghost use Rattle.std.specs.List.Sorted.{IsNonDecreasingBy};
-ghost use Rattle.pci_picture.specs.Cuts.{AddsEnds, IsCut, KeepsCuts};
+ghost use Rattle.pci_picture.specs.Cuts.{AddsEnds, IsRegionCut, KeepsCuts};
 ghost use Rattle.pci_picture.specs.Drawings.{ArePlanned, IsFramed};
-ghost use Rattle.pci_picture.specs.Maps.{lines_of, regions_of, regions_at};
+ghost use Rattle.pci_picture.specs.Maps.{lines_of_regions, regions_of_members, regions_placed};
 ghost use Rattle.pci_picture.specs.Stacked.{height_at};
 
 use super::elements::Frame;
@@ -257,7 +257,7 @@ fn cuts_of<A: Allocator + Copy>(
     tellings: &Tellings<A>,
 ) -> Result<Vec<Cut, A>, OutOfMemory>
     ensures sorted { IfOk result (λ cuts. IsNonDecreasingBy (λ cut. cut.at) cuts.items) }
-    ensures ends { IfOk result (λ cuts. All (IsCut cuts.items) regions.entry.now) }
+    ensures ends { IfOk result (λ cuts. All (IsRegionCut cuts.items) regions.entry.now) }
 {
     let mut cuts = Vec::new(alloc);
     for region in regions {
@@ -293,9 +293,9 @@ impl<'a, A: Allocator + Copy> Plan<'a, A> {
         site: &Site,
         members: &[Member<'a>],
     ) -> Result<Plan<'a, A>, OutOfMemory>
-        ensures placed { IfOk result (λ plan. regions_at plan.placed.items ≡ regions_of members.entry.now) }
+        ensures placed { IfOk result (λ plan. regions_placed plan.placed.items ≡ regions_of_members members.entry.now) }
         ensures planned { IfOk result (λ plan. plan.heights.bottom < 2 ^ 64 - 1
-            → ArePlanned (lines_of (regions_of members.entry.now)) plan.heights.runs.items plan.heights.bottom) }
+            → ArePlanned (lines_of_regions (regions_of_members members.entry.now)) plan.heights.runs.items plan.heights.bottom) }
         ensures down { IfOk result (λ plan. site.now.y ≤ plan.heights.bottom) }
     {
         let regions = regions_of(alloc, members)?;
@@ -320,7 +320,7 @@ fn regions_of<'a, A: Allocator + Copy>(
     alloc: A,
     members: &[Member<'a>],
 ) -> Result<Vec<Region<'a>, A>, OutOfMemory>
-    ensures { IfOk result (λ regions. regions.items ≡ regions_of members.entry.now) }
+    ensures { IfOk result (λ regions. regions.items ≡ regions_of_members members.entry.now) }
 {
     let mut regions = Vec::new(alloc);
     for member in members {
@@ -344,7 +344,7 @@ fn placed_of<'a, A: Allocator + Copy>(
     regions: &[Region<'a>],
     index: usize,
 ) -> Result<Vec<Placed<'a>, A>, OutOfMemory>
-    ensures { IfOk result (λ placed. regions_at placed.items ≡ regions.entry.now) }
+    ensures { IfOk result (λ placed. regions_placed placed.items ≡ regions.entry.now) }
 {
     let left = site.x.saturating_add(AXIS);
     let edge = left.saturating_add(site.width);
@@ -381,7 +381,7 @@ fn place<'a, A: Allocator + Copy>(
     column: u64,
     is_lost: bool,
 ) -> Result<(), OutOfMemory>
-    ensures { OnOk result (regions_at placed.new.items ≡ regions_at placed.old.items ++ regions.entry.now) }
+    ensures { OnOk result (regions_placed placed.new.items ≡ regions_placed placed.old.items ++ regions.entry.now) }
 {
     let widths = widths(alloc, regions, whole.left, whole.right, column)?;
     for (index, region) in regions.iter().enumerate() {

@@ -1,14 +1,14 @@
 //! Words, numbers and slots of a line.
 ghost use Rattle.std.specs.Prelude.{◌≡◌, ◌≤◌, ◌<◌, length, is_some, IfSome};
-ghost use Rattle.pci_picture.specs.Spots.{IsExtent};
-ghost use Rattle.pci_picture.specs.Lines.{indent_of, content_of, words_of, nth_word, digit_of, number_of, decimal_digit_of, decimal_number, is_register, is_slot, is_range, is_told_number, value_of};
+ghost use Rattle.pci_picture.specs.Spots.{IsExtentWord};
+ghost use Rattle.pci_picture.specs.Lines.{leading_blanks, unindented_line, words_in_line, nth_word, digit_of, hex_number_of, decimal_digit_of, decimal_number, is_register, is_slot, is_range, is_told_number, hex_value};
 
 use std::simd::prelude::*;
 
 /// The word of a line at an index, or nothing where it has fewer.
-#[tactic(auto, unfolding(crate::specs::Lines::words_of))]
+#[tactic(auto, unfolding(crate::specs::Lines::words_in_line))]
 pub fn word(line: &[u8], index: usize) -> &[u8]
-    ensures { result.now ≡ nth_word (words_of line.now) index }
+    ensures { result.now ≡ nth_word (words_in_line line.now) index }
 {
     line.split(|byte| *byte == b' ')
         .filter(|word| !word.is_empty())
@@ -25,7 +25,7 @@ pub fn word_count(line: &[u8]) -> usize {
 
 /// How many blanks a line begins with.
 pub fn indent(line: &[u8]) -> usize
-    ensures value { result ≡ indent_of line.now }
+    ensures value { result ≡ leading_blanks line.now }
     ensures within { result ≤ length line.now }
 {
     line.iter()
@@ -35,7 +35,7 @@ pub fn indent(line: &[u8]) -> usize
 
 /// A line without the blanks that it begins with.
 pub fn stripped(line: &[u8]) -> &[u8]
-    ensures { result.now ≡ content_of line.now }
+    ensures { result.now ≡ unindented_line line.now }
 {
     &line[indent(line)..]
 }
@@ -85,7 +85,7 @@ fn nibble(digit: u8) -> Option<u8>
 
 /// The number of at most 16 hex digits.
 pub fn hex_number(digits: &[u8]) -> Option<u64>
-    ensures { result ≡ number_of digits.now }
+    ensures { result ≡ hex_number_of digits.now }
 {
     if digits.is_empty() || 16 < digits.len() {
         return None;
@@ -102,7 +102,7 @@ pub fn hex_number(digits: &[u8]) -> Option<u64>
 #[tactic(auto, unfolding(crate::specs::Lines::is_register))]
 pub fn hex_byte(digits: &[u8]) -> Option<u8>
     ensures some { is_some result ≡ is_register digits.now }
-    ensures value { IfSome result (λ byte. byte ≡ value_of digits.now) }
+    ensures value { IfSome result (λ byte. byte ≡ hex_value digits.now) }
 {
     if digits.len() != 2 {
         return None;
@@ -219,7 +219,7 @@ pub struct Extent {
 #[tactic(auto, unfolding(crate::specs::Lines::is_range))]
 pub fn extent_of(text: &[u8]) -> Option<Extent>
     ensures some { is_some result ≡ is_range text.now }
-    ensures ends { IfSome result (λ extent. IsExtent text.now extent.first extent.last) }
+    ensures ends { IfSome result (λ extent. IsExtentWord text.now extent.first extent.last) }
 {
     let dash = text.iter().position(|byte| *byte == b'-')?;
     let first = hex_number(&text[..dash])?;

@@ -1,7 +1,7 @@
 //! Lines of a map.
 ghost use Rattle.std.specs.Prelude.{◌≡◌, ◌&&◌, [], ◌∷◌, IsTrue, MatchOption, is_some, codes, if◌then◌else◌};
-ghost use Rattle.pci_picture.specs.Lines.{is_one_line, is_part, is_region_line, is_register, is_slot, is_told_number, names_told, nth_word, region_line, says, words_of};
-ghost use Rattle.pci_picture.specs.Spots.{IsExtent};
+ghost use Rattle.pci_picture.specs.Lines.{is_one_line, names_part, is_region_line, is_register, is_slot, is_told_number, names_told, nth_word, line_if_region, says, words_in_line};
+ghost use Rattle.pci_picture.specs.Spots.{IsExtentWord};
 
 use super::reading::{Place, extent_of, hex_byte, region_key, slot_number, told_number, word};
 
@@ -41,15 +41,15 @@ pub struct Region<'a> {
     pub depth: usize,
     ghost is_one_line: { IsTrue (is_one_line line.now) },
     ghost is_told: { IsTrue (is_region_line line.now) },
-    ghost ends: { IsExtent (nth_word (words_of line.now) 0) first last },
+    ghost ends: { IsExtentWord (nth_word (words_in_line line.now) 0) first last },
 }
 
 impl Region<'_> {
-    ghost use Rattle.pci_picture.specs.Cuts.{is_window};
+    ghost use Rattle.pci_picture.specs.Cuts.{is_window_part};
 
     /// Whether it is a window of a bridge.
     pub fn is_window(&self) -> bool
-        ensures { result ≡ is_window self.entry.now.part }
+        ensures { result ≡ is_window_part self.entry.now.part }
     {
         matches!(self.part, Part::Window)
     }
@@ -102,8 +102,8 @@ fn told_by<'a>(part: Part, slot: &'a [u8], register: &'a [u8], name: &'a [u8]) -
 
 /// The told range that a line names behind its part, prefetchable or not.
 fn told_behind(part: Part, line: &[u8]) -> Option<Named<'_>>
-    ensures { is_some result ≡ names_told (words_of line.now)
-        (if says (nth_word (words_of line.now) 3) (codes "pref") then 4 else 3) }
+    ensures { is_some result ≡ names_told (words_in_line line.now)
+        (if says (nth_word (words_in_line line.now) 3) (codes "pref") then 4 else 3) }
 {
     let next = word(line, 3);
     if next == b"pref".as_slice() {
@@ -114,9 +114,9 @@ fn told_behind(part: Part, line: &[u8]) -> Option<Named<'_>>
 }
 
 /// The part that stands at the third word of a line, and what names it.
-#[tactic(auto, unfolding(crate::specs::Lines::is_part))]
+#[tactic(auto, unfolding(crate::specs::Lines::names_part))]
 fn named_of(line: &[u8]) -> Option<Named<'_>>
-    ensures { is_some result ≡ is_part (words_of line.now) }
+    ensures { is_some result ≡ names_part (words_in_line line.now) }
 {
     let part = word(line, 2);
     if part == b"bar".as_slice() {
@@ -151,8 +151,8 @@ fn named_of(line: &[u8]) -> Option<Named<'_>>
 #[tactic(auto, unfolding(crate::specs::Lines::is_region_line))]
 pub fn region_of(line: &[u8], depth: usize) -> Option<Region<'_>>
     requires { IsTrue (is_one_line line.now) }
-    ensures { MatchOption result (region_line line.now ≡ [])
-        (λ region. region_line line.now ≡ region.line.now ∷ []) }
+    ensures { MatchOption result (line_if_region line.now ≡ [])
+        (λ region. line_if_region line.now ≡ region.line.now ∷ []) }
 {
     let range = extent_of(word(line, 0))?;
     let named = named_of(line)?;

@@ -1,14 +1,15 @@
 //! A section of a map: its axis, its boxes, and the ranges that its faults tell.
 ghost use Rattle.std.specs.Prelude.{◌≤◌, [], ◌∷◌, IfOk, OnOk};
-ghost use Rattle.pci_picture.specs.Canvases.{Adds, AddsSome};
+ghost use Rattle.pci_picture.specs.Canvases.{AddsToCanvas, AddsSome};
 ghost use Rattle.pci_picture.specs.Drawings.{AreFramed, AreOfSection};
-ghost use Rattle.pci_picture.specs.Maps.{lines_of, regions_of, regions_at};
+ghost use Rattle.pci_picture.specs.Maps.{lines_of_regions, regions_of_members, regions_placed};
 ghost use Rattle.pci_picture.specs.Spots.{spot_at};
 
 use super::board::Board;
 use super::canvas::{Canvas, Label, Shape};
 use super::elements::Frame;
 use super::faults::{Fault, Faults};
+use super::function::Buses;
 use super::heights::{Heights, LINE, Run};
 use super::lanes::Width;
 use super::memory::OutOfMemory;
@@ -24,7 +25,7 @@ fn draw_covered<A: Allocator + Copy>(
     digits: usize,
     run: &Run,
 ) -> Result<(), OutOfMemory>
-    ensures { OnOk result (Adds [] canvas.old canvas.new) }
+    ensures { OnOk result (AddsToCanvas [] canvas.old canvas.new) }
 {
     let axis = site.x.saturating_add(AXIS);
     let all = hex_digits(low_bits(run.begin));
@@ -47,7 +48,7 @@ fn draw_gap<A: Allocator + Copy>(
     digits: usize,
     run: &Run,
 ) -> Result<(), OutOfMemory>
-    ensures { OnOk result (Adds [] canvas.old canvas.new) }
+    ensures { OnOk result (AddsToCanvas [] canvas.old canvas.new) }
 {
     let axis = site.x.saturating_add(AXIS);
     let mut words = Words::of(alloc, b"to ")?;
@@ -66,7 +67,7 @@ fn draw_run<A: Allocator + Copy>(
     digits: usize,
     run: &Run,
 ) -> Result<(), OutOfMemory>
-    ensures { OnOk result (Adds [] canvas.old canvas.new) }
+    ensures { OnOk result (AddsToCanvas [] canvas.old canvas.new) }
 {
     if run.is_covered {
         draw_covered(canvas, site, digits, run)
@@ -88,7 +89,7 @@ fn draw_axis<A: Allocator + Copy>(
     regions: &[Region<'_>],
     heights: &Heights<A>,
 ) -> Result<(), OutOfMemory>
-    ensures { OnOk result (Adds [] canvas.old canvas.new) }
+    ensures { OnOk result (AddsToCanvas [] canvas.old canvas.new) }
 {
     let mut digits = 0;
     let mut last = 0;
@@ -179,7 +180,7 @@ fn draw_box<A: Allocator + Copy>(
     placed: &Placed<'_>,
     at: Frame,
 ) -> Result<(), OutOfMemory>
-    ensures { OnOk result (Adds (spot_at at.y at.height placed.entry.now.region.line.now ∷ []) canvas.old canvas.new) }
+    ensures { OnOk result (AddsToCanvas (spot_at at.y at.height placed.entry.now.region.line.now ∷ []) canvas.old canvas.new) }
 {
     let region = &placed.region;
     let class = class_of(&board.faults, region, placed.is_lost);
@@ -227,7 +228,7 @@ fn write_region<A: Allocator + Copy>(
     placed: &Placed<'_>,
     at: Frame,
 ) -> Result<(), OutOfMemory>
-    ensures { OnOk result (Adds [] canvas.old canvas.new) }
+    ensures { OnOk result (AddsToCanvas [] canvas.old canvas.new) }
 {
     let region = &placed.region;
     let width = placed.width;
@@ -245,22 +246,21 @@ fn write_region<A: Allocator + Copy>(
     if !is_window || at.height.saturating_add(1) < 2 * LINE {
         return Ok(());
     }
-    write_buses(alloc, canvas, board, region, label, room)
+    write_buses(alloc, canvas, board.buses(region), label, room)
 }
 
 /// Writes the buses behind a window below its first line.
 fn write_buses<A: Allocator + Copy>(
     alloc: A,
     canvas: &mut Canvas<A>,
-    board: &Board<'_, A>,
-    region: &Region<'_>,
+    buses: Option<Buses>,
     above: Label<'_>,
     room: u64,
 ) -> Result<(), OutOfMemory>
-    ensures { OnOk result (Adds [] canvas.old canvas.new) }
+    ensures { OnOk result (AddsToCanvas [] canvas.old canvas.new) }
 {
     let mut words = Words::of(alloc, b"to ")?;
-    words.put_buses(board.buses(region))?;
+    words.put_buses(buses)?;
     let label = Label {
         x: above.x,
         y: above.y.saturating_add(12),
@@ -278,7 +278,7 @@ fn draw_fault<A: Allocator + Copy>(
     at: Frame,
     class: &[u8],
 ) -> Result<(), OutOfMemory>
-    ensures { OnOk result (Adds [] canvas.old canvas.new) }
+    ensures { OnOk result (AddsToCanvas [] canvas.old canvas.new) }
 {
     let title = board.fault_title(alloc, fault)?;
     let lines = title.bytes.as_slice();
@@ -321,7 +321,7 @@ fn draw_shared<A: Allocator + Copy>(
     plan: &Plan<'_, A>,
     range: &Told,
 ) -> Result<(), OutOfMemory>
-    ensures { OnOk result (Adds [] canvas.old canvas.new) }
+    ensures { OnOk result (AddsToCanvas [] canvas.old canvas.new) }
 {
     let Some(fault) = board.faults.faults.get(range.fault) else {
         return Ok(());
@@ -371,7 +371,7 @@ fn draw_fits<A: Allocator + Copy>(
     plan: &Plan<'_, A>,
     range: &Told,
 ) -> Result<(), OutOfMemory>
-    ensures { OnOk result (Adds [] canvas.old canvas.new) }
+    ensures { OnOk result (AddsToCanvas [] canvas.old canvas.new) }
 {
     let (Some(fault), Some(free)) = (board.faults.faults.get(range.fault), free_line(plan, range))
     else {
@@ -414,7 +414,7 @@ fn draw_regions<A: Allocator + Copy>(
     board: &Board<'_, A>,
     plan: &Plan<'_, A>,
 ) -> Result<(), OutOfMemory>
-    ensures { OnOk result (AddsSome (AreFramed (lines_of (regions_at plan.entry.now.placed.items))
+    ensures { OnOk result (AddsSome (AreFramed (lines_of_regions (regions_placed plan.entry.now.placed.items))
         plan.entry.now.heights.runs.items plan.entry.now.heights.bottom) canvas.old canvas.new) }
 {
     for placed in &plan.placed {
@@ -432,7 +432,7 @@ fn draw_tellings<A: Allocator + Copy>(
     board: &Board<'_, A>,
     plan: &Plan<'_, A>,
 ) -> Result<(), OutOfMemory>
-    ensures { OnOk result (Adds [] canvas.old canvas.new) }
+    ensures { OnOk result (AddsToCanvas [] canvas.old canvas.new) }
 {
     for range in &plan.tellings.shared {
         draw_shared(alloc, canvas, board, plan, range)?;
@@ -449,7 +449,7 @@ fn write_heading<A: Allocator + Copy>(
     canvas: &mut Canvas<A>,
     site: &Site,
 ) -> Result<(), OutOfMemory>
-    ensures { OnOk result (Adds [] canvas.old canvas.new) }
+    ensures { OnOk result (AddsToCanvas [] canvas.old canvas.new) }
 {
     let mut heading = Words::of(alloc, b"bus ")?;
     heading.put_hex(u64::from(site.bus()), 2)?;
@@ -477,7 +477,7 @@ pub fn draw_section<A: Allocator + Copy>(
     site: &Site,
     members: &[Member<'_>],
 ) -> Result<u64, OutOfMemory>
-    ensures drawn { IfOk result (λ end. AddsSome (AreOfSection (lines_of (regions_of members.entry.now)) end)
+    ensures drawn { IfOk result (λ end. AddsSome (AreOfSection (lines_of_regions (regions_of_members members.entry.now)) end)
         canvas.old canvas.new) }
     ensures down { IfOk result (λ end. site.now.y ≤ end) }
 {

@@ -1,6 +1,6 @@
 //! The tree of buses.
 ghost use Rattle.std.specs.Prelude.{[], IfOk, OnOk};
-ghost use Rattle.pci_picture.specs.Canvases.{Adds};
+ghost use Rattle.pci_picture.specs.Canvases.{AddsToCanvas};
 
 use super::board::Board;
 use super::canvas::{Canvas, Label, Shape};
@@ -67,7 +67,7 @@ fn draw_function<A: Allocator + Copy>(
     x: u64,
     y: u64,
 ) -> Result<(), OutOfMemory>
-    ensures { OnOk result (Adds [] canvas.old canvas.new) }
+    ensures { OnOk result (AddsToCanvas [] canvas.old canvas.new) }
 {
     let class: &[u8] = match function.buses {
         Some(_) => b"window",
@@ -114,7 +114,7 @@ fn draw_row<A: Allocator + Copy>(
     depth: u64,
     y: u64,
 ) -> Result<(), OutOfMemory>
-    ensures { OnOk result (Adds [] canvas.old canvas.new) }
+    ensures { OnOk result (AddsToCanvas [] canvas.old canvas.new) }
 {
     let x = LEFT + STEP * depth.min(DEEPEST);
     let mut badges = Words::new(alloc);
@@ -173,7 +173,7 @@ fn draw_bus<A: Allocator + Copy>(
     root: u8,
     top: u64,
 ) -> Result<u64, OutOfMemory>
-    ensures { IfOk result (λ _. Adds [] canvas.old canvas.new) }
+    ensures { IfOk result (λ _. AddsToCanvas [] canvas.old canvas.new) }
 {
     let mut y = top;
     let mut rests = Vec::new(alloc);
@@ -210,7 +210,7 @@ pub fn draw_tree<A: Allocator + Copy>(
     board: &Board<'_, A>,
     top: u64,
 ) -> Result<u64, OutOfMemory>
-    ensures { IfOk result (λ _. Adds [] canvas.old canvas.new) }
+    ensures { IfOk result (λ _. AddsToCanvas [] canvas.old canvas.new) }
 {
     let mut has_functions = [false; 256];
     let mut is_behind = [false; 256];

@@ -2,7 +2,7 @@ use Rattle.std.proofs.Common.{◌+◌, rules, arith, List, subst}
 use Rattle.std.specs.List.{All}
 use Rattle.std.proofs.lemmas.List.{take_all}
 use Rattle.std.proofs.lemmas.List.Sorted.{IsNonDecreasingBy-from_sort_by_key}
-use Rattle.pci_picture.specs.Cuts.{HasCut}
+use Rattle.pci_picture.specs.Cuts.{HasCutAt}
 use Rattle.pci_picture.specs.declared.region.Region.{Region}
 use Rattle.pci_picture.proofs.Marked.{all_cut, firsts_more}
 use Rattle.pci_picture.proofs.plan.cuts_of.Goals as goal
@@ -22,5 +22,5 @@ pub returns-clause-ends : goal.returns-clause-ends
 returns-clause-ends g c =
     all_cut c.args.regions.now c.loop-region.cuts.items c.push_ends.new.cuts.items c.push_ends-2.new.cuts.items c.push_cuts.new.cuts.items
     c.push_cuts-2.new.cuts.items c.sort_by_key.new.self.items
-    (subst (λ (l : List Region). All (λ r. HasCut c.loop-region.cuts.items r.first) l) (take_all c.loop-region.region-index c.args.regions.now (omega arith)) c.loop-region.invariant)
+    (subst (λ (l : List Region). All (λ r. HasCutAt c.loop-region.cuts.items r.first) l) (take_all c.loop-region.region-index c.args.regions.now (omega arith)) c.loop-region.invariant)
     c.in_ok-push_ends.ensures c.in_ok-push_ends-2.ensures c.in_ok-push_cuts.ensures c.in_ok-push_cuts-2.ensures c.in_ok-sort_by_key.ensures.permutation

@@ -1,6 +1,6 @@
 use Rattle.std.proofs.Common.{◌≡◌, ◌++◌, take}
-use Rattle.pci_picture.specs.Maps.{regions_at}
+use Rattle.pci_picture.specs.Maps.{regions_placed}
 use Rattle.pci_picture.proofs.plan.place.Given as goal
 
 abbrev pub invariant-loop-index : goal.invariant-loop-index
-invariant-loop-index g l = regions_at l.placed.items ≡ regions_at l.initial.placed.items ++ take l.index l.regions
+invariant-loop-index g l = regions_placed l.placed.items ≡ regions_placed l.initial.placed.items ++ take l.index l.regions

@@ -1,6 +1,6 @@
 use Rattle.std.proofs.Common.{arith, sym, ap, ◌∙◌, subst, ◌≡◌, ◌+◌}
 use Rattle.std.proofs.lemmas.List.{take_all}
-use Rattle.pci_picture.specs.Cuts.{AddsEnds, HasCut}
+use Rattle.pci_picture.specs.Cuts.{AddsEnds, HasCutAt}
 use Rattle.pci_picture.proofs.Marked.{keeps_all, keeps_more, has_last, ends_more, no_ends, unlike}
 use Rattle.pci_picture.proofs.plan.push_ends.Goals.{then-is_window-of_windows+in_ok-push, else-is_window-of_windows}
 use Rattle.pci_picture.proofs.plan.push_ends.Goals as goal
@@ -17,11 +17,11 @@ loop-region-preserved g c =
           ends_more c.args.of_windows c.args.regions.now c.loop-region.region-index c.region-item.result c.args.cuts.now.items c.loop-region.cuts.items
           c.if-is_window-of_windows.cuts.items (omega arith) c.region-item.is c.loop-region.invariant
           (keeps_more c.loop-region.cuts.items c.loop-region.cuts.items _ _ (keeps_all c.loop-region.cuts.items) is)
-          (λ same. subst (λ n. HasCut c.if-is_window-of_windows.cuts.items n) end (has_last c.loop-region.cuts.items _ _ is))
+          (λ same. subst (λ n. HasCutAt c.if-is_window-of_windows.cuts.items n) end (has_last c.loop-region.cuts.items _ _ is))
       | else-is_window-of_windows w ↦
           ends_more c.args.of_windows c.args.regions.now c.loop-region.region-index c.region-item.result c.args.cuts.now.items c.loop-region.cuts.items
           c.if-is_window-of_windows.cuts.items (omega arith) c.region-item.is c.loop-region.invariant
-          (λ address has. subst (λ v. HasCut v.items address) (sym w.cuts-is) has)
+          (λ address has. subst (λ v. HasCutAt v.items address) (sym w.cuts-is) has)
           (λ same. absurd (unlike c.is_window.result c.args.of_windows w.if-is_window-of_windows.false (c.is_window.ensures ∙ same)))
     ]
 
