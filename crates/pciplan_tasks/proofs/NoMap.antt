@@ -1,5 +1,5 @@
 -- The line in the place of a map, with nothing told.
-use Rattle.std.proofs.Common.{◌≡◌, ℕ, ◌<◌, List, [], ◌∷◌, map, refl, ap, subst, ◌∙◌, arith, inl, inr}
+use Rattle.std.proofs.Common.{◌≡◌, ℕ, ◌<◌, List, [], ◌∷◌, map, refl, ap, subst, ◌∙◌, arith, lit<, inl, inr}
 use Rattle.pci_spec.specs.Slot.{Slot}
 use Rattle.pci_spec.specs.Text.{Block, IsDump}
 use Rattle.pci_spec.specs.Fault.{Orphan, Unreached, Clash, Split, SlotsDiffer, IsThere, fault_number}
@@ -33,7 +33,12 @@ same_text (Clash bus space address first fr second sr) early = absurd (let none 
 same_text (Split space address first fr second sr) early = absurd (let none : ⊥ = omega (arith, early) in none)
 same_text _ early = refl
 
+low_profile : (fault : plain.ProfileFault) → plain.profile_number fault < 60
+low_profile plain.PaletteSnoop = lit< tt
+low_profile _ = lit< tt
+
 low_number : (f : plain.Fault) → phase_of f < 5 → fault_number f < 60
+low_number (plain.OfProfile fault slot) early = low_profile fault
 low_number (Unreached slot register space address bridge) early = absurd (let none : ⊥ = omega (arith, early) in none)
 low_number (Clash bus space address first fr second sr) early = absurd (let none : ⊥ = omega (arith, early) in none)
 low_number (Split space address first fr second sr) early = absurd (let none : ⊥ = omega (arith, early) in none)
