@@ -7,7 +7,7 @@ ghost use Rattle.std.specs.List.{list_all, list_any};
 ghost use Rattle.pci_spec.specs.Registers.{device_header, bridge_header};
 ghost use Rattle.pci_spec.specs.Header as header;
 ghost use Rattle.pci_image.specs.Layouts.{is_of_bridge};
-ghost use Rattle.pci_image.specs.Registers.{register_value, is_readable};
+ghost use Rattle.pci_image.specs.Registers.{register_value, is_readable, has_place};
 
 use super::layout::Layout;
 use pci_base::offset::{
@@ -16,6 +16,7 @@ use pci_base::offset::{
     PREFETCHABLE_LIMIT_UPPER, PRIMARY_BUS, SECONDARY_BUS, SECONDARY_STATUS, STATUS,
     SUBORDINATE_BUS,
 };
+use pci_base::window_kind::WindowKind;
 
 /// What a register is for.
 #[derive(Clone, Copy, Debug, PartialEq, Eq)]
@@ -24,11 +25,15 @@ pub enum Role {
     Bar(u8),
     /// The Expansion ROM Base Address register.
     Rom,
-    /// Base and limit of a window, or their upper halves, each half of the register. What is below
-    /// this step is fixed.
-    Bounds(u32),
-    /// The upper half of a base or of a limit.
-    Upper,
+    /// Base and limit of a window, each half of the register. The low four bits of each are fixed
+    /// (Bridge 1.2, 3.2.5).
+    Bounds(WindowKind),
+    /// The upper halves of I/O Base and I/O Limit, each half of the register.
+    IoUpper,
+    /// The upper half of Prefetchable Base.
+    PrefetchableBaseUpper,
+    /// The upper half of Prefetchable Limit.
+    PrefetchableLimitUpper,
     /// It decodes no address, and a write sets these bits.
     Control(u32),
     /// A one clears these bits, and none can be set.
@@ -73,12 +78,12 @@ const DEVICE: [Register; 10] = [
 const BRIDGE: [Register; 16] = [
     register!(BASE_ADDRESS, 4, Role::Bar(0)), // PCI 3.0, 6.2.5.1
     register!(BASE_ADDRESS + 4, 4, Role::Bar(1)),
-    register!(IO_BASE, 2, Role::Bounds(16)), // Bridge 1.2, 3.2.5
-    register!(MEMORY_BASE, 4, Role::Bounds(16)),
-    register!(PREFETCHABLE_BASE, 4, Role::Bounds(16)),
-    register!(PREFETCHABLE_BASE_UPPER, 4, Role::Upper),
-    register!(PREFETCHABLE_LIMIT_UPPER, 4, Role::Upper),
-    register!(IO_BASE_UPPER, 4, Role::Bounds(1)),
+    register!(IO_BASE, 2, Role::Bounds(WindowKind::Io)), // Bridge 1.2, 3.2.5
+    register!(MEMORY_BASE, 4, Role::Bounds(WindowKind::Memory)),
+    register!(PREFETCHABLE_BASE, 4, Role::Bounds(WindowKind::Prefetchable)),
+    register!(PREFETCHABLE_BASE_UPPER, 4, Role::PrefetchableBaseUpper),
+    register!(PREFETCHABLE_LIMIT_UPPER, 4, Role::PrefetchableLimitUpper),
+    register!(IO_BASE_UPPER, 4, Role::IoUpper),
     register!(BRIDGE_EXPANSION_ROM, 4, Role::Rom),
     register!(COMMAND, 2, Role::Control(0x0547)), // PCI 3.0, 6.2.2
     register!(STATUS, 2, Role::Status(0xf900)), // PCI 3.0, 6.2.3
@@ -132,9 +137,11 @@ pub fn registers(layout: Layout) -> &'static [Register]
 
 /// Those that address decoding is set by, by rising offset.
 pub fn address_registers(layout: Layout) -> &'static [Register]
-    // place and width are all that sizing, comparing and planning go by
-    ensures { map (λ r. (r.offset, r.width)) result.now
+    // sizing, comparing and planning go by place and width
+    ensures places { map (λ r. (r.offset, r.width)) result.now
         ≡ header.registers_by (is_of_bridge layout) }
+    // who knows the role need not find it again by the offset
+    ensures roles { IsTrue (list_all (has_place (is_of_bridge layout)) result.now) }
 {
     match layout {
         Layout::Device => &DEVICE[..7],

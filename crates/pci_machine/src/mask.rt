@@ -58,12 +58,19 @@ fn add_register(bytes: &mut [u8; IMAGE_LEN], register: Register, probe: &Image)
             add(bytes, offset, 1, rom_enable(read_back));
             add(bytes, offset, width, read_back);
         }
-        Role::Bounds(step) => {
+        Role::Bounds(_) => {
             let half = width / 2;
-            add_from(bytes, probe, offset, half, step);
-            add_from(bytes, probe, offset + half, half, step);
+            add_from(bytes, probe, offset, half, 16);
+            add_from(bytes, probe, offset + half, half, 16);
         }
-        Role::Upper => add_from(bytes, probe, offset, width, 1),
+        Role::IoUpper => {
+            let half = width / 2;
+            add_from(bytes, probe, offset, half, 1);
+            add_from(bytes, probe, offset + half, half, 1);
+        }
+        Role::PrefetchableBaseUpper | Role::PrefetchableLimitUpper => {
+            add_from(bytes, probe, offset, width, 1);
+        }
         Role::Control(bits) => add(bytes, offset, width, bits),
         Role::Status(_) => {}
     }
@@ -79,7 +86,7 @@ fn add_cleared(bytes: &mut [u8; IMAGE_LEN], register: Register)
 {
     match register.role {
         Role::Status(bits) => add(bytes, register.offset, register.width, bits),
-        Role::Bar(_) | Role::Rom | Role::Bounds(_) | Role::Upper | Role::Control(_) => {}
+        _ => {}
     }
 }
 

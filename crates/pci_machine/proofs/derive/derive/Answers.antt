@@ -35,12 +35,12 @@ loop-place-init c = derived_none (assuming_of c.args.assuming) c.args.image.now.
 
 pub register-derived-requires-clause-begins : goal.register-derived-requires-clause-begins
 register-derived-requires-clause-begins c =
-    let turn = turn_of c.address_registers-place-items.result.now c.in-Ok.layout c.address_registers-place-items.ensures c.loop-place.place-index c.loop-place-test.true none in
+    let turn = turn_of c.address_registers-place-items.result.now c.in-Ok.layout c.address_registers-place-items.ensures.places c.loop-place.place-index c.loop-place-test.true none in
     register_begins c.in-Ok.layout c.loop-place.place-index _ turn.below turn.is
 
 pub returns-in_err-read_back-clause-fault : goal.returns-in_err-read_back-clause-fault
 returns-in_err-read_back-clause-fault c =
-    let turn = turn_of c.address_registers-place-items.result.now c.in-Ok.layout c.address_registers-place-items.ensures c.loop-place.place-index c.loop-place-test.true none in
+    let turn = turn_of c.address_registers-place-items.result.now c.in-Ok.layout c.address_registers-place-items.ensures.places c.loop-place.place-index c.loop-place-test.true none in
     let register = here c.address_registers-place-items.result.now c.loop-place.place-index none in
     let derived = c.register-derived.ensures.derived in
     let p = err_from_is_err_and c.from_residual.result c.from_residual.ensures.1 in
@@ -51,13 +51,13 @@ returns-in_err-read_back-clause-fault c =
 
 pub put-requires : goal.put-requires
 put-requires c =
-    (turn_of c.address_registers-place-items.result.now c.in-Ok.layout c.address_registers-place-items.ensures c.loop-place.place-index c.loop-place-test.true none).sound.access
+    (turn_of c.address_registers-place-items.result.now c.in-Ok.layout c.address_registers-place-items.ensures.places c.loop-place.place-index c.loop-place-test.true none).sound.access
 
 pub loop-place-preserved : goal.loop-place-preserved
 loop-place-preserved c =
     let image = c.args.image.now.0 in
     let lines = c.args.lines.now in
-    let turn = turn_of c.address_registers-place-items.result.now c.in-Ok.layout c.address_registers-place-items.ensures c.loop-place.place-index c.loop-place-test.true none in
+    let turn = turn_of c.address_registers-place-items.result.now c.in-Ok.layout c.address_registers-place-items.ensures.places c.loop-place.place-index c.loop-place-test.true none in
     let register = here c.address_registers-place-items.result.now c.loop-place.place-index none in
     let derived = c.register-derived.ensures.derived in
     let taken = c.in_ok-read_back.ensures in
@@ -76,7 +76,7 @@ loop-place-preserved c =
 derived_all : (c : goal.After-loop-place) → IsDerivedOfAll (assuming_of c.args.assuming) c.args.image.now.0 c.args.lines.now c.in-Ok.layout c.loop-place.probe.0 c.loop-place.assumed.items
 derived_all c =
     let items = c.address_registers-place-items.result.now in
-    let long = length_of_table items c.in-Ok.layout c.address_registers-place-items.ensures in
+    let long = length_of_table items c.in-Ok.layout c.address_registers-place-items.ensures.places in
     derived_of_all (assuming_of c.args.assuming) c.args.image.now.0 c.args.lines.now c.in-Ok.layout c.loop-place.place-index c.loop-place.probe.0 c.loop-place.assumed.items
     c.in-Ok.ensures.layout (omega (arith, c.loop-place-test.false, long)) c.loop-place.invariant
 

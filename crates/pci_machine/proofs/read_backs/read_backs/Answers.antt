@@ -34,7 +34,7 @@ pub read_back-requires-clause-access : goal.read_back-requires-clause-access
 read_back-requires-clause-access g c =
     let items = c.address_registers-register-items.result.now in
     let k = c.loop-register.register-index in
-    let parts = (turn_of items c.args.layout c.address_registers-register-items.ensures k c.loop-register-test.true none).sound in
+    let parts = (turn_of items c.args.layout c.address_registers-register-items.ensures.places k c.loop-register-test.true none).sound in
     and_from (is_access (get_or items k none).offset (get_or items k none).width) (fits (get_or items k none).width c.sizing_ones-ones.result)
     parts.access (ap (fits (get_or items k none).width) c.sizing_ones-ones.ensures ∙ parts.fits_ones)
 
@@ -42,7 +42,7 @@ pub read_back-requires-clause-plain : goal.read_back-requires-clause-plain
 read_back-requires-clause-plain g c =
     let items = c.address_registers-register-items.result.now in
     let k = c.loop-register.register-index in
-    let parts = (turn_of items c.args.layout c.address_registers-register-items.ensures k c.loop-register-test.true none).sound in
+    let parts = (turn_of items c.args.layout c.address_registers-register-items.ensures.places k c.loop-register-test.true none).sound in
     let targets = g.P.ConfigPort.targets c.loop-register.port in
     register_plain (function_at targets c.args.slot) (layout_number c.args.layout) (here items k none)
     (target-there targets c.args.slot c.loop-register.invariant.lawful c.loop-register.invariant.there)
@@ -50,13 +50,13 @@ read_back-requires-clause-plain g c =
 
 pub put-requires : goal.put-requires
 put-requires g c =
-    (turn_of c.address_registers-register-items.result.now c.args.layout c.address_registers-register-items.ensures c.loop-register.register-index c.loop-register-test.true none).sound.access
+    (turn_of c.address_registers-register-items.result.now c.args.layout c.address_registers-register-items.ensures.places c.loop-register.register-index c.loop-register-test.true none).sound.access
 
 pub returns-in_err-value-clause-stop : goal.returns-in_err-value-clause-stop
 returns-in_err-value-clause-stop g c =
     let items = c.address_registers-register-items.result.now in
     let k = c.loop-register.register-index in
-    let turn = turn_of items c.args.layout c.address_registers-register-items.ensures k c.loop-register-test.true none in
+    let turn = turn_of items c.args.layout c.address_registers-register-items.ensures.places k c.loop-register-test.true none in
     let register = get_or items k none in
     let kind = layout (function_at (g.P.ConfigPort.targets c.args.port.now) c.args.slot).image in
     let p = err_from_is_err_and c.from_residual.result c.from_residual.ensures.1 in
@@ -81,7 +81,7 @@ pub returns-in_err-value-clause-left : goal.returns-in_err-value-clause-left
 returns-in_err-value-clause-left g c =
     let items = c.address_registers-register-items.result.now in
     let k = c.loop-register.register-index in
-    let turn = turn_of items c.args.layout c.address_registers-register-items.ensures k c.loop-register-test.true none in
+    let turn = turn_of items c.args.layout c.address_registers-register-items.ensures.places k c.loop-register-test.true none in
     let slot = c.args.slot in
     let same = c.loop-register.invariant.same in
     let left = c.in_err-value.ensures.left in
@@ -97,7 +97,7 @@ pub loop-register-preserved : goal.loop-register-preserved
 loop-register-preserved g c =
     let items = c.address_registers-register-items.result.now in
     let k = c.loop-register.register-index in
-    let turn = turn_of items c.args.layout c.address_registers-register-items.ensures k c.loop-register-test.true none in
+    let turn = turn_of items c.args.layout c.address_registers-register-items.ensures.places k c.loop-register-test.true none in
     let slot = c.args.slot in
     let same = c.loop-register.invariant.same in
     let before = g.P.ConfigPort.targets c.args.port.now in
@@ -109,19 +109,19 @@ loop-register-preserved g c =
       lawful = c.in_ok-value.ensures.lawful;
       full = search rules;
       found = λ place below.
-          let so_far = c.loop-register.invariant.found place below ∙ ap (λ rs. read_back (function_at before slot) place (found_in (take k rs) place)) c.address_registers-register-items.ensures in
+          let so_far = c.loop-register.invariant.found place below ∙ ap (λ rs. read_back (function_at before slot) place (found_in (take k rs) place)) c.address_registers-register-items.ensures.places in
           found_more (function_at before slot) c.args.layout k (here items k none) c.loop-register.bytes c.put.new.bytes c.sizing_ones-ones.result c.in_ok-value.value
           (target-there before slot c.requires.lawful c.requires.there) c.requires.header turn.below
           turn.is turn.test c.sizing_ones-ones.ensures
           (c.in_ok-value.ensures.value ∙ ap (λ xs. number_at (written (function_at xs slot) register.offset register.width c.sizing_ones-ones.result) register.offset register.width) same)
           c.put.ensures.inside c.put.ensures.outside place so_far
-          ∙ ap (λ rs. read_back (function_at before slot) place (found_in (take (k + 1) rs) place)) (sym c.address_registers-register-items.ensures);
+          ∙ ap (λ rs. read_back (function_at before slot) place (found_in (take (k + 1) rs) place)) (sym c.address_registers-register-items.ensures.places);
     }
 
 pub returns-clause-read_backs : goal.returns-clause-read_backs
 returns-clause-read_backs g c =
     let items = c.address_registers-register-items.result.now in
-    let table = c.address_registers-register-items.ensures in
+    let table = c.address_registers-register-items.ensures.places in
     let k = c.loop-register.register-index in
     let before = g.P.ConfigPort.targets c.args.port.now in
     let slot = c.args.slot in

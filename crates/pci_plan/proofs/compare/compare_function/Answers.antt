@@ -20,7 +20,7 @@ compare_register-requires-in-loop-register g c =
     let items = c.address_registers-register-items.result.now in
     let image = c.args.image.now.0 in
     let k = c.loop-register.register-index in
-    let table = c.address_registers-register-items.ensures ∙ ap registers_by c.or_device.ensures in
+    let table = c.address_registers-register-items.ensures.places ∙ ap registers_by c.or_device.ensures in
     register_access image (pair_of (get_or items k none)) (in_table items image table k none c.loop-register-test.true)
 
 pub returns-in_err-compare_register-2-clause-fault : goal.returns-in_err-compare_register-2-clause-fault
@@ -29,7 +29,7 @@ returns-in_err-compare_register-2-clause-fault g c =
     let image = c.args.image.now.0 in
     let k = c.loop-register.register-index in
     let r = get_or items k none in
-    let table = c.address_registers-register-items.ensures ∙ ap registers_by c.or_device.ensures in
+    let table = c.address_registers-register-items.ensures.places ∙ ap registers_by c.or_device.ensures in
     let e = c.in_err-compare_register-2.ensures in
     let targets : g.P.ConfigPort.targets c.loop-register.port ≡ g.P.ConfigPort.targets c.args.port.now = c.loop-register.invariant.same ∙ c.in_ok-compare_register.ensures.same in
     let failures : g.P.ConfigPort.failures c.loop-register.port ≡ g.P.ConfigPort.failures c.args.port.now = c.loop-register.invariant.counted ∙ c.in_ok-compare_register.ensures.counted in
@@ -66,7 +66,7 @@ pub returns-clause-shown : goal.returns-clause-shown
 returns-clause-shown g c =
     let items = c.address_registers-register-items.result.now in
     let image = c.args.image.now.0 in
-    let table = c.address_registers-register-items.ensures ∙ ap registers_by c.or_device.ensures in
+    let table = c.address_registers-register-items.ensures.places ∙ ap registers_by c.or_device.ensures in
     let same : g.P.ConfigPort.targets c.compare_register.new.port ≡ g.P.ConfigPort.targets c.args.port.now = c.in_ok-compare_register.ensures.same in
     all_shown items image table (g.P.ConfigPort.targets c.args.port.now) c.args.slot c.in_ok-compare_register.ensures.shown
     (λ k d less.

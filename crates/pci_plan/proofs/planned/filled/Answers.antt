@@ -33,10 +33,10 @@ module _ (c : After-address_registers-register-items) where
   items = c.address_registers-register-items.result.now
 
   by_record : map pair items ≡ address_registers (if is_some c.args.filling.now.record.now.bridge then 1 else 0)
-  by_record = c.address_registers-register-items.ensures ∙ ap registers_by c.layout.ensures ∙ sym (by_bridge (is_some c.args.filling.now.record.now.bridge))
+  by_record = c.address_registers-register-items.ensures.places ∙ ap registers_by c.layout.ensures ∙ sym (by_bridge (is_some c.args.filling.now.record.now.bridge))
 
   by_function : (of : FillingOf c.args.filling.now) → map pair items ≡ address_registers (layout of.function.image)
-  by_function of = c.address_registers-register-items.ensures ∙ ap registers_by (c.layout.ensures ∙ bridge_is c.args.filling.now of)
+  by_function of = c.address_registers-register-items.ensures.places ∙ ap registers_by (c.layout.ensures ∙ bridge_is c.args.filling.now of)
 
   here : (k : ℕ) → k < length items → Contains (map pair items) (pair (get_or items k no_register))
   here k within = in_map_from pair items (get_or items k no_register) (Contains-get_or items k no_register within)

@@ -11,11 +11,11 @@ none = record { offset = 0; width = 0; role = roles.Bar 0 }
 pub number-value-requires : goal.number-value-requires
 number-value-requires g c =
     let image = c.old.inside.image.0 in
-    let table = c.address_registers-register-items.ensures ∙ ap registers_by c.or_device.ensures in
+    let table = c.address_registers-register-items.ensures.places ∙ ap registers_by c.or_device.ensures in
     register_access c.address_registers-register-items.result.now (layout image) table c.loop-register.register-index none c.loop-register-test.true
 
 pub number-requires : goal.number-requires
 number-requires g c =
     let image = c.old.inside.image.0 in
-    let table = c.address_registers-register-items.ensures ∙ ap registers_by c.or_device.ensures in
+    let table = c.address_registers-register-items.ensures.places ∙ ap registers_by c.or_device.ensures in
     register_access c.address_registers-register-items.result.now (layout image) table c.loop-register.register-index none c.loop-register-test.true
