@@ -15,21 +15,13 @@ use Rattle.pciplan_cli.specs.AlsoTexts.{with_also}
 pub unread_told : (t : Task) (also : Also) → IsAlsoUnread (with_also t also) → also ≡ Refused Io
 unread_told (task.Faults beside why) also unread = unread
 unread_told (task.Map beside) also unread = unread
-unread_told task.Show also unread = absurd (let no : ⊥ = cc unread in no)
-unread_told (task.Check roots) also unread = absurd (let no : ⊥ = cc unread in no)
-unread_told task.Size also unread = absurd (let no : ⊥ = cc unread in no)
-unread_told (task.Plan pools writes why roots) also unread = absurd (let no : ⊥ = cc unread in no)
 unread_told (task.Settle request printed) also unread = unread
-unread_told (task.Probe assuming) also unread = absurd (let no : ⊥ = cc unread in no)
+unread_told _ also unread = absurd (let no : ⊥ = cc unread in no)
 
 -- a task that has no third text takes nothing of it
 pub others_told : (t : Task) (also : Also) → ((beside : Beside) (why : Bool) → t ≡ task.Faults beside why → ⊥) → ((beside : Beside) → t ≡ task.Map beside → ⊥)
     → ((request : SettleRequest) (printed : Printed) → t ≡ task.Settle request printed → ⊥) → t ≡ with_also t also
 others_told (task.Faults beside why) also no_faults no_map no_settle = absurd (no_faults beside why refl)
 others_told (task.Map beside) also no_faults no_map no_settle = absurd (no_map beside refl)
-others_told task.Show also no_faults no_map no_settle = refl
-others_told (task.Check roots) also no_faults no_map no_settle = refl
-others_told task.Size also no_faults no_map no_settle = refl
-others_told (task.Plan pools writes why roots) also no_faults no_map no_settle = refl
 others_told (task.Settle request printed) also no_faults no_map no_settle = absurd (no_settle request printed refl)
-others_told (task.Probe assuming) also no_faults no_map no_settle = refl
+others_told _ also no_faults no_map no_settle = refl

@@ -20,8 +20,7 @@ fn also_path<'a>(asked: &Asked<'a>) -> Option<&'a str>
         Asked::Faults(words) => words.also,
         Asked::Map(words) => words.also,
         Asked::Settle(words) => words.also,
-        Asked::Show | Asked::Check { .. } | Asked::Size | Asked::Plan(_) | Asked::Probe { .. } =>
-            None,
+        _ => None,
     }
 }
 

@@ -13,14 +13,8 @@ use Rattle.pciplan_tasks.specs.declared.task.Task.TheVariants as task
 
 -- a second text that can't be opened is no fault of its text
 unread_fails : (t : Task) → status_of (second_unread t) ≡ 4
-unread_fails task.Show = refl
-unread_fails (task.Check roots) = refl
-unread_fails (task.Faults beside why) = refl
-unread_fails (task.Map beside) = refl
-unread_fails task.Size = refl
-unread_fails (task.Plan pools writes why roots) = refl
-unread_fails (task.Settle request printed) = refl
 unread_fails (task.Probe assuming) = refl
+unread_fails _ = refl
 
 two_and_four : (status : ℕ) → status ≡ 2 → status ≡ 4 → ⊥
 two_and_four status two four = omega arith

@@ -27,11 +27,6 @@ dump_read left (Err e) (Err d) same text only = tt
 -- a task that takes a whole pair answers it
 pub pair_answered : (t : Task) → IsOfWholePair t → (dump_left second_left : Option (List ℕ)) (answer : Answer)
     → IsAnswerTo IsDumpOf (IsPairAnswer t) dump_left second_left answer → IsTextsAnswer t dump_left second_left answer
-pair_answered task.Show whole dump_left second_left answer is = is
 pair_answered (task.Check roots) whole dump_left second_left answer is = absurd whole
-pair_answered (task.Faults beside why) whole dump_left second_left answer is = is
-pair_answered (task.Map beside) whole dump_left second_left answer is = is
-pair_answered task.Size whole dump_left second_left answer is = is
-pair_answered (task.Plan pools writes why roots) whole dump_left second_left answer is = is
-pair_answered (task.Settle request printed) whole dump_left second_left answer is = is
 pair_answered (task.Probe assuming) whole dump_left second_left answer is = absurd whole
+pair_answered _ whole dump_left second_left answer is = is
