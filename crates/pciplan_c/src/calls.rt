@@ -26,6 +26,7 @@ use crate::answer::Answer;
 use crate::denied_spare::DeniedSpare;
 use crate::ending::{Ending, HeldBack};
 use crate::faults_words::FaultsWords;
+use crate::inputs::Inputs;
 use crate::listing::{Listing, faults_into};
 use crate::numbering::{NumberStep, put_step};
 use crate::planning::plan_into;
@@ -151,7 +152,8 @@ pub extern "C" fn pciplan_plan(
     // a caller's switch has no other case
     ensures known { result ≤ 4 }
 {
-    match plan_into(alloc, dump, probe, roots, pools, writes, line) {
+    let inputs = Inputs { dump, probe, roots };
+    match plan_into(alloc, &inputs, pools, writes, line) {
         Ok(
             Ending::Writes {
                 count,
@@ -249,7 +251,8 @@ pub extern "C" fn pciplan_settle(
     // a caller's switch has no other case
     ensures known { result ≤ 4 }
 {
-    match settle_into(alloc, dump, probe, roots, words, writes, denied, line) {
+    let inputs = Inputs { dump, probe, roots };
+    match settle_into(alloc, &inputs, words, writes, denied, line) {
         Ok(
             SettleEnding {
                 ending,
@@ -336,7 +339,8 @@ pub extern "C" fn pciplan_faults(
     // a caller's switch has no other case
     ensures known { result ≤ 4 }
 {
-    match faults_into(alloc, dump, probe, roots, words, text) {
+    let inputs = Inputs { dump, probe, roots };
+    match faults_into(alloc, &inputs, words, text) {
         Ok(listed) => {
             *text_used = listed.used;
             match listed.listing {

@@ -24,6 +24,7 @@ pub mod denied_spare;
 pub mod ending;
 pub mod faults_words;
 pub mod held;
+pub mod inputs;
 pub mod listing;
 pub mod no_list;
 pub mod no_writes;

@@ -7,6 +7,7 @@ ghost use Rattle.pciplan_c.specs.NoLists.{IsListMade, no_list_text};
 
 use crate::admitting::read;
 use crate::faults_words::{FaultsWords, beside_of};
+use crate::inputs::Inputs;
 use crate::no_list::NoList;
 use crate::put::{Withheld, put};
 use crate::refusal::Refusal;
@@ -148,29 +149,27 @@ fn tell(alloc: Global, why: NoList, text: &mut [u8]) -> Result<Listed, Withheld>
 ///
 /// # Errors
 ///
-/// `Memory` where a growth was refused. One is asked for only where `roots` is a list of root buses, for the ranges of
+/// `Memory` where a growth was refused. One is asked for only where the roots are a list of root buses, for the ranges of
 /// words, and then where each word has a meaning. `NoRoom` where `text` is shorter than what is to be put there. Then it
 /// stays as it was.
 #[tactic(auto, using(crate::proofs::Listings::list_put, crate::proofs::Listings::list_too_long, crate::proofs::Listings::message_put, crate::proofs::Listings::message_too_long, crate::proofs::Listings::list_wants))]
 pub fn faults_into(
     alloc: Global,
-    dump: &[u8],
-    probe: &[u8],
-    roots: &[u8],
+    inputs: &Inputs<'_>,
     words: &FaultsWords<'_>,
     text: &mut [u8],
 ) -> Result<Listed, Withheld>
     ensures told { IfOk result (λ listed. IsTextPut
-        (IsListing roots.now dump.now probe.now words.now listed.listing) text.old text.new listed.used) }
+        (IsListing inputs.now.roots.now inputs.now.dump.now inputs.now.probe.now words.now listed.listing) text.old text.new listed.used) }
     // part of a list must not be taken for all of it
     ensures quiet { IfErr result (λ _. text.new ≡ text.old) }
     ensures room { IfErr result (λ held. (needed : ℕ) → held ≡ Withheld.NoRoom needed
-        → IsListingTooLong roots.now dump.now probe.now words.now text.old needed) }
+        → IsListingTooLong inputs.now.roots.now inputs.now.dump.now inputs.now.probe.now words.now text.old needed) }
     // no memory helps a list or a word that is none
     ensures memory { IfErr result
-        (λ held. held ≡ Withheld.Memory → MayWantToList roots.now words.now) }
+        (λ held. held ≡ Withheld.Memory → MayWantToList inputs.now.roots.now words.now) }
 {
-    match list_texts(alloc, dump, probe, roots, words) {
+    match list_texts(alloc, inputs.dump, inputs.probe, inputs.roots, words) {
         Ok(reply) => put_list(&reply, text),
         Err(Refused::Fault(why)) => tell(alloc, why, text),
         Err(Refused::Memory) => Err(Withheld::Memory),

@@ -7,6 +7,7 @@ ghost use Rattle.pciplan_c.specs.Endings.{AreWritesPutInFront, IsEnding, IsHeldB
 
 use crate::admitting::{admit_texts, empty_place};
 use crate::ending::{Ending, HeldBack, NotPut, Steps, tell};
+use crate::inputs::Inputs;
 use crate::no_writes::NoWrites;
 use crate::pools::PoolsOfC;
 use crate::refusal::Refusal;
@@ -53,27 +54,25 @@ fn put_plan<A: Allocator + Copy>(
 #[inline(never)]
 fn plan_texts<A: Allocator + Copy>(
     alloc: A,
-    dump: &[u8],
-    probe: &[u8],
-    roots: &[u8],
+    inputs: &Inputs<'_>,
     pools: &PoolsOfC,
     writes: &mut [RegisterWrite],
 ) -> Result<Steps, NotPut>
     ensures put { IfOk result (λ s. AreWritesPutInFront
-        (AreWritesOfPlan roots.now dump.now probe.now (pools_of pools.now)) writes.old writes.new s.count s.safe_from) }
+        (AreWritesOfPlan inputs.now.roots.now inputs.now.dump.now inputs.now.probe.now (pools_of pools.now)) writes.old writes.new s.count s.safe_from) }
     ensures quiet { IfErr result (λ _. writes.new ≡ writes.old) }
     ensures why { IfErr result
-        (IsWhyNoWritesPut (AreWritesOfPlan roots.now dump.now probe.now (pools_of pools.now))
-        (IsNoPlanOf roots.now dump.now probe.now (pools_of pools.now)) writes.old) }
-    ensures memory { IfErr result (λ why. why ≡ NotPut.Memory → IsRootList roots.now) }
+        (IsWhyNoWritesPut (AreWritesOfPlan inputs.now.roots.now inputs.now.dump.now inputs.now.probe.now (pools_of pools.now))
+        (IsNoPlanOf inputs.now.roots.now inputs.now.dump.now inputs.now.probe.now (pools_of pools.now)) writes.old) }
+    ensures memory { IfErr result (λ why. why ≡ NotPut.Memory → IsRootList inputs.now.roots.now) }
 {
-    let Some(roots) = Roots::of(roots) else {
+    let Some(roots) = Roots::of(inputs.roots) else {
         return Err(NotPut::NoWrites(NoWrites::Unread(Unread::Refused(Refusal::Root))));
     };
     let Ok(mut place) = empty_place(alloc) else {
         return Err(NotPut::Memory);
     };
-    match admit_texts(alloc, dump, probe, roots, &mut place) {
+    match admit_texts(alloc, inputs.dump, inputs.probe, roots, &mut place) {
         Ok(()) => {}
         Err(Refused::Fault(unread)) => return Err(NotPut::NoWrites(NoWrites::Unread(unread))),
         Err(Refused::Memory) => return Err(NotPut::Memory),
@@ -92,35 +91,33 @@ fn plan_texts<A: Allocator + Copy>(
 ///
 /// # Errors
 ///
-/// `Memory` where a growth was refused, which is asked for only where `roots` is a list of root buses. `Writes` and `Line`
+/// `Memory` where a growth was refused, which is asked for only where the roots are a list of root buses. `Writes` and `Line`
 /// where `writes` or `line` has no room. Then both stay as they were.
 #[tactic(auto, using(crate::proofs::Wants::plan_wants))]
 pub fn plan_into<A: Allocator + Copy>(
     alloc: A,
-    dump: &[u8],
-    probe: &[u8],
-    roots: &[u8],
+    inputs: &Inputs<'_>,
     pools: &PoolsOfC,
     writes: &mut [RegisterWrite],
     line: &mut [u8],
 ) -> Result<Ending, HeldBack>
     ensures ending { IfOk result (IsEnding
-        (AreWritesOfPlan roots.now dump.now probe.now (pools_of pools.now))
-        (IsNoPlanOf roots.now dump.now probe.now (pools_of pools.now))
+        (AreWritesOfPlan inputs.now.roots.now inputs.now.dump.now inputs.now.probe.now (pools_of pools.now))
+        (IsNoPlanOf inputs.now.roots.now inputs.now.dump.now inputs.now.probe.now (pools_of pools.now))
         (lent writes.old line.old) (lent writes.new line.new)) }
     // half a plan must not be taken for one
     ensures writes { IfErr result (λ _. writes.new ≡ writes.old) }
     ensures line { IfErr result (λ _. line.new ≡ line.old) }
     ensures room { IfErr result
-        (IsHeldBack (AreWritesOfPlan roots.now dump.now probe.now (pools_of pools.now))
-        (IsNoPlanOf roots.now dump.now probe.now (pools_of pools.now)) writes.old line.old) }
+        (IsHeldBack (AreWritesOfPlan inputs.now.roots.now inputs.now.dump.now inputs.now.probe.now (pools_of pools.now))
+        (IsNoPlanOf inputs.now.roots.now inputs.now.dump.now inputs.now.probe.now (pools_of pools.now)) writes.old line.old) }
     // so 96 bytes always have room
     ensures short { IfErr result
         (λ held. (needed : ℕ) → held ≡ HeldBack.Line needed → needed ≤ 96) }
     // no memory helps a list that is none
-    ensures memory { IfErr result (λ held. held ≡ HeldBack.Memory → IsRootList roots.now) }
+    ensures memory { IfErr result (λ held. held ≡ HeldBack.Memory → IsRootList inputs.now.roots.now) }
 {
-    match plan_texts(alloc, dump, probe, roots, pools, writes) {
+    match plan_texts(alloc, inputs, pools, writes) {
         Ok(Steps { count, safe_from }) => Ok(Ending::Writes { count, safe_from }),
         Err(NotPut::NoWrites(why)) => tell(alloc, why, line),
         Err(NotPut::Memory) => Err(HeldBack::Memory),

@@ -14,6 +14,7 @@ ghost use Rattle.pciplan_c.specs.declared.settle_words.SettleWords.{SettleWords 
 use crate::admitting::{admit_texts, empty_place};
 use crate::denied_spare::{DeniedSpare, put_denied};
 use crate::ending::{Ending, HeldBack, NotPut, Steps, tell};
+use crate::inputs::Inputs;
 use crate::no_writes::NoWrites;
 use crate::refusal::Refusal;
 use crate::register_write::{RegisterWrite, put_writes};
@@ -209,28 +210,26 @@ fn asked_with<A: Allocator + Copy>(
 #[inline(never)]
 fn settle_texts<A: Allocator + Copy>(
     alloc: A,
-    dump: &[u8],
-    probe: &[u8],
-    roots: &[u8],
+    inputs: &Inputs<'_>,
     words: &SettleWords<'_>,
     writes: &mut [RegisterWrite],
     denied: &mut [DeniedSpare],
 ) -> Result<Puts, Unput>
-    ensures put { IfOk result (λ p. AreAllPut roots.now dump.now probe.now words.now
+    ensures put { IfOk result (λ p. AreAllPut inputs.now.roots.now inputs.now.dump.now inputs.now.probe.now words.now
         (arrays writes.old denied.old) (arrays writes.new denied.new)
         p.steps.count p.steps.safe_from p.denied) }
     ensures quiet { IfErr result (λ _. (writes.new ≡ writes.old) × (denied.new ≡ denied.old)) }
     ensures why { IfErr result
-        (IsUnput roots.now dump.now probe.now words.now (arrays writes.old denied.old)) }
+        (IsUnput inputs.now.roots.now inputs.now.dump.now inputs.now.probe.now words.now (arrays writes.old denied.old)) }
     ensures memory { IfErr result
-        (λ why. why ≡ Unput.NotPut not_put.Memory → MayWant roots.now words.now) }
+        (λ why. why ≡ Unput.NotPut not_put.Memory → MayWant inputs.now.roots.now words.now) }
 {
-    let Some(roots) = Roots::of(roots) else {
+    let Some(roots) = Roots::of(inputs.roots) else {
         return Err(Unput::NotPut(NotPut::NoWrites(NoWrites::Unread(Unread::Refused(
             Refusal::Root,
         )))));
     };
-    let asked = match asked_with(alloc, dump, probe, roots, words) {
+    let asked = match asked_with(alloc, inputs.dump, inputs.probe, roots, words) {
         Ok(asked) => asked,
         Err(Refused::Fault(why)) => return Err(Unput::NotPut(NotPut::NoWrites(why))),
         Err(Refused::Memory) => return Err(Unput::NotPut(NotPut::Memory)),
@@ -238,7 +237,7 @@ fn settle_texts<A: Allocator + Copy>(
     let Ok(mut place) = empty_place(alloc) else {
         return Err(Unput::NotPut(NotPut::Memory));
     };
-    match admit_texts(alloc, dump, probe, roots, &mut place) {
+    match admit_texts(alloc, inputs.dump, inputs.probe, roots, &mut place) {
         Ok(()) => {}
         Err(Refused::Fault(why)) => {
             return Err(Unput::NotPut(NotPut::NoWrites(NoWrites::Unread(why))));
@@ -260,40 +259,38 @@ fn settle_texts<A: Allocator + Copy>(
 ///
 /// # Errors
 ///
-/// `Memory` where a growth was refused. One is asked for only where `roots` is a list of root buses, for the ranges and the
+/// `Memory` where a growth was refused. One is asked for only where the roots are a list of root buses, for the ranges and the
 /// slots of words, and then where each word has a meaning. `Denied`, `Writes` and `Line` where `denied`, `writes` or `line` has
 /// no room; it is `Denied` where neither of the first two has any. Then all three stay as they were.
 #[tactic(auto, using(crate::proofs::Wants::settle_wants))]
 pub fn settle_into<A: Allocator + Copy>(
     alloc: A,
-    dump: &[u8],
-    probe: &[u8],
-    roots: &[u8],
+    inputs: &Inputs<'_>,
     words: &SettleWords<'_>,
     writes: &mut [RegisterWrite],
     denied: &mut [DeniedSpare],
     line: &mut [u8],
 ) -> Result<SettleEnding, SettleHeldBack>
     ensures ending { IfOk result (λ e. IsEnding
-        (AreSettledSome roots.now dump.now probe.now words.now)
-        (IsNoSettlingOf roots.now dump.now probe.now words.now)
+        (AreSettledSome inputs.now.roots.now inputs.now.dump.now inputs.now.probe.now words.now)
+        (IsNoSettlingOf inputs.now.roots.now inputs.now.dump.now inputs.now.probe.now words.now)
         (lent writes.old line.old) (lent writes.new line.new) e.ending) }
     // a caller that asked for spares is told which ones there are not
-    ensures all { IfOk result (λ e. IsSettleEnding roots.now dump.now probe.now words.now
+    ensures all { IfOk result (λ e. IsSettleEnding inputs.now.roots.now inputs.now.dump.now inputs.now.probe.now words.now
         (arrays writes.old denied.old) (arrays writes.new denied.new) e.ending e.denied) }
     // some of the writes must not be taken for all
     ensures quiet { IfErr result (λ _. (writes.new ≡ writes.old) × (denied.new ≡ denied.old)) }
     ensures line { IfErr result (λ _. line.new ≡ line.old) }
     ensures room { IfErr result
-        (IsSettleHeldBack roots.now dump.now probe.now words.now (arrays writes.old denied.old) line.old) }
+        (IsSettleHeldBack inputs.now.roots.now inputs.now.dump.now inputs.now.probe.now words.now (arrays writes.old denied.old) line.old) }
     // so 96 bytes always have room
     ensures short { IfErr result (λ why. (needed : ℕ)
         → why ≡ SettleHeldBack.HeldBack (held_back.Line needed) → needed ≤ 96) }
     // no memory helps a list or a word that is none
     ensures memory { IfErr result
-        (λ why. why ≡ SettleHeldBack.HeldBack held_back.Memory → MayWant roots.now words.now) }
+        (λ why. why ≡ SettleHeldBack.HeldBack held_back.Memory → MayWant inputs.now.roots.now words.now) }
 {
-    match settle_texts(alloc, dump, probe, roots, words, writes, denied) {
+    match settle_texts(alloc, inputs, words, writes, denied) {
         Ok(
             Puts {
                 steps: Steps { count, safe_from },

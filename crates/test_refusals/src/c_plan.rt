@@ -2,6 +2,7 @@
 use crate::c_texts::{Pair, whole};
 use pciplan_c::calls::pciplan_plan;
 use pciplan_c::ending::HeldBack;
+use pciplan_c::inputs::Inputs;
 use pciplan_c::planning::plan_into;
 use pciplan_c::pools::PoolsOfC;
 use pciplan_c::register_write::RegisterWrite;
@@ -145,7 +146,11 @@ pub const MANY: u64 = 1000;
 #[test]
 fn a_plan_that_is_refused_a_growth_says_just_that(rt: HostRuntime) -> Result<(), Fail> {
     let texts = bare_pair(rt.alloc())?;
-    let (dump, probe) = (texts.dump.as_bytes(), texts.probe.as_bytes());
+    let inputs = Inputs {
+        dump: texts.dump.as_bytes(),
+        probe: texts.probe.as_bytes(),
+        roots: &[0],
+    };
     let heap = Refusing::new(rt.alloc());
     for mem_last in [0xe02f_ffff, 0xe01f_ffff] {
         for n in 1..MANY {
@@ -153,7 +158,7 @@ fn a_plan_that_is_refused_a_growth_says_just_that(rt: HostRuntime) -> Result<(),
             let mut put = [NONE; 8];
             let mut line = [b'.'; 20];
             let pools = pools_to(mem_last);
-            let answered = plan_into(&heap, dump, probe, &[0], &pools, &mut put, &mut line);
+            let answered = plan_into(&heap, &inputs, &pools, &mut put, &mut line);
             if heap.is_due() {
                 assert!(rt; 1 < n && answered.is_ok());
                 break;

@@ -4,6 +4,7 @@ use crate::c_texts::{Pair, whole};
 use pciplan_c::calls::pciplan_settle;
 use pciplan_c::denied_spare::DeniedSpare;
 use pciplan_c::ending::HeldBack;
+use pciplan_c::inputs::Inputs;
 use pciplan_c::register_write::RegisterWrite;
 use pciplan_c::settle_words::SettleWords;
 use pciplan_c::settling::{SettleHeldBack, settle_into};
@@ -245,7 +246,11 @@ fn a_settling_by_an_assumed_size_is_refused(rt: HostRuntime) -> Result<(), Fail>
 #[test]
 fn a_settling_that_is_refused_a_growth_says_just_that(rt: HostRuntime) -> Result<(), Fail> {
     let texts = plugged_pair(rt.alloc())?;
-    let (dump, probe) = (texts.dump.as_bytes(), texts.probe.as_bytes());
+    let inputs = Inputs {
+        dump: texts.dump.as_bytes(),
+        probe: texts.probe.as_bytes(),
+        roots: &[0],
+    };
     let heap = Refusing::new(rt.alloc());
     for anew in [0, 1] {
         for n in 1..MANY {
@@ -254,16 +259,7 @@ fn a_settling_that_is_refused_a_growth_says_just_that(rt: HostRuntime) -> Result
             let mut line = [b'.'; 64];
             let words = asked(b"e0000000-e02fffff", b"01:00.0", b"", anew);
             let mut denied = [NO_SPARE; 2];
-            let answered = settle_into(
-                &heap,
-                dump,
-                probe,
-                &[0],
-                &words,
-                &mut put,
-                &mut denied,
-                &mut line,
-            );
+            let answered = settle_into(&heap, &inputs, &words, &mut put, &mut denied, &mut line);
             if heap.is_due() {
                 assert!(rt; 1 < n && answered.is_ok());
                 break;
