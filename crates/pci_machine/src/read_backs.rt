@@ -5,7 +5,9 @@ ghost use Rattle.pci_spec.specs.Machine as machine;
 ghost use Rattle.pci_spec.specs.Machine.{sized};
 ghost use Rattle.pci_spec.specs.Port as ports;
 ghost use Rattle.pci_spec.specs.Sizing.{function_at, DiffersInRegisters, is_address_register};
-ghost use Rattle.pci_image.specs.Layouts.{layout_number};
+ghost use Rattle.pci_image.specs.declared.layout.Layout.{Layout};
+ghost use Rattle.pci_image.specs.Layouts.{layout_number, is_of_bridge};
+ghost use Rattle.pci_image.specs.Registers.{has_place};
 ghost use Rattle.pci_machine.specs.Failing.{Fails, FirstFailed};
 ghost use Rattle.pci_machine.specs.Outcome.{failures_of_stop};
 
@@ -13,10 +15,10 @@ use crate::access_at::AccessFault;
 use crate::port::{ConfigPort, PortError};
 use crate::read_back::read_back;
 use pci_base::image::{IMAGE_LEN, Image, put};
-use pci_base::offset::IO_BASE;
 use pci_base::slot::Slot;
+use pci_base::window_kind::WindowKind;
 use pci_image::layout::Layout;
-use pci_image::register::{Register, address_registers, rom_register};
+use pci_image::register::{Register, Role, address_registers};
 
 /// What the address registers of a function read back, in an image that has 0 elsewhere.
 pub fn read_backs<P: ConfigPort>(
@@ -51,7 +53,7 @@ pub fn read_backs<P: ConfigPort>(
 {
     let mut bytes = [0; IMAGE_LEN];
     for register in address_registers(layout) {
-        let ones = sizing_ones(layout, *register);
+        let ones = sizing_ones(*register);
         let value = read_back(port, slot, register.offset, register.width, ones)?;
         put(&mut bytes, register.offset, register.width, value);
     }
@@ -60,14 +62,13 @@ pub fn read_backs<P: ConfigPort>(
 
 /// What sizing writes to an address register: ones, but zeros to the bits of a ROM register below
 /// its address (PCI 3.0, 6.2.5.1 and 6.2.5.2).
-fn sizing_ones(layout: Layout, register: Register) -> u32
-    ensures { result ≡ machine.sizing_ones (layout_number layout) register.offset }
+fn sizing_ones(register: Register) -> u32
+    ensures { (layout : Layout) → IsTrue (has_place (is_of_bridge layout) register)
+        → result ≡ machine.sizing_ones (layout_number layout) register.offset }
 {
-    if register.offset == rom_register(layout) {
-        0xffff_f800
-    } else if layout == Layout::Bridge && register.offset == IO_BASE {
-        0xffff
-    } else {
-        0xffff_ffff
+    match register.role {
+        Role::Rom => 0xffff_f800,
+        Role::Bounds(WindowKind::Io) => 0xffff,
+        _ => 0xffff_ffff,
     }
 }

@@ -14,7 +14,7 @@ use Rattle.pci_machine.specs.declared.access_at.AccessFault.{AccessFault}
 use Rattle.pci_machine.specs.Failing.{Fails}
 use Rattle.pci_machine.proofs.Sizing.{target-there}
 use Rattle.pci_machine.proofs.RegisterOrder.{found_in, register_plain, within_registers, found_more, found_all, register_begins}
-use Rattle.pci_machine.proofs.Turns.{here, length_of_table, turn_of}
+use Rattle.pci_machine.proofs.Turns.{here, length_of_table, placed_at, turn_of}
 use Rattle.pci_machine.proofs.read_backs.read_backs.Goals as goal
 
 pub loop-register-init : goal.loop-register-init
@@ -35,8 +35,9 @@ read_back-requires-clause-access g c =
     let items = c.address_registers-register-items.result.now in
     let k = c.loop-register.register-index in
     let parts = (turn_of items c.args.layout c.address_registers-register-items.ensures.places k c.loop-register-test.true none).sound in
+    let placed = placed_at items c.args.layout c.address_registers-register-items.ensures.roles k c.loop-register-test.true none in
     and_from (is_access (get_or items k none).offset (get_or items k none).width) (fits (get_or items k none).width c.sizing_ones-ones.result)
-    parts.access (ap (fits (get_or items k none).width) c.sizing_ones-ones.ensures ∙ parts.fits_ones)
+    parts.access (ap (fits (get_or items k none).width) (c.sizing_ones-ones.ensures c.args.layout placed) ∙ parts.fits_ones)
 
 pub read_back-requires-clause-plain : goal.read_back-requires-clause-plain
 read_back-requires-clause-plain g c =
@@ -102,6 +103,7 @@ loop-register-preserved g c =
     let same = c.loop-register.invariant.same in
     let before = g.P.ConfigPort.targets c.args.port.now in
     let register = get_or items k none in
+    let placed = placed_at items c.args.layout c.address_registers-register-items.ensures.roles k c.loop-register-test.true none in
     record {
       same = c.in_ok-value.ensures.kept ∙ same;
       counted = omega (arith, c.in_ok-value.ensures.counted, c.loop-register.invariant.counted);
@@ -112,7 +114,7 @@ loop-register-preserved g c =
           let so_far = c.loop-register.invariant.found place below ∙ ap (λ rs. read_back (function_at before slot) place (found_in (take k rs) place)) c.address_registers-register-items.ensures.places in
           found_more (function_at before slot) c.args.layout k (here items k none) c.loop-register.bytes c.put.new.bytes c.sizing_ones-ones.result c.in_ok-value.value
           (target-there before slot c.requires.lawful c.requires.there) c.requires.header turn.below
-          turn.is turn.test c.sizing_ones-ones.ensures
+          turn.is turn.test (c.sizing_ones-ones.ensures c.args.layout placed)
           (c.in_ok-value.ensures.value ∙ ap (λ xs. number_at (written (function_at xs slot) register.offset register.width c.sizing_ones-ones.result) register.offset register.width) same)
           c.put.ensures.inside c.put.ensures.outside place so_far
           ∙ ap (λ rs. read_back (function_at before slot) place (found_in (take (k + 1) rs) place)) (sym c.address_registers-register-items.ensures.places);
