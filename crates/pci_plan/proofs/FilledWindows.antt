@@ -93,6 +93,10 @@ module _ (filling : Filling) (of : FillingOf filling) where
   pub bridge_is : is_some filling.record.now.bridge ≡ is_bridge of.function
   bridge_is = same_bridge filling.record.now of.function of.recorded.value
 
+  -- the upper halves of I/O have 16 bits
+  pub io_uppers : is_bridge of.function ≡ true → ((new_bounds of.roots of.system of.pools of.function IoWindow).base_upper < 2 ^ 16) × ((new_bounds of.roots of.system of.pools of.function IoWindow).limit_upper < 2 ^ 16)
+  io_uppers bridge = let parts = parts_fit of.roots of.system of.pools of.plannable of.tables of.function of.recorded.listed bridge IoWindow in (parts.base_upper_small, parts.limit_upper_small)
+
   module _ (bridge : Bridge) (there_is : filling.record.now.bridge ≡ Some bridge) where
     pub is_a_bridge : is_bridge of.function ≡ true
     is_a_bridge = sym bridge_is ∙ ap is_some there_is
@@ -199,7 +203,3 @@ module _ (filling : Filling) (of : FillingOf filling) where
           bounds = by_open f is_a_bridge kind (has_behind of.system of.pools kind f) (place_at of.roots of.system of.pools f (Window kind)) (size class) there some
               ∙ ap (λ first. bounds_for kind n first (first + (size class - 1))) (sym placed);
         }
-
-    -- the upper halves of I/O have 16 bits
-    pub io_uppers : ((new_bounds of.roots of.system of.pools of.function IoWindow).base_upper < 2 ^ 16) × ((new_bounds of.roots of.system of.pools of.function IoWindow).limit_upper < 2 ^ 16)
-    io_uppers = let parts = parts_fit of.roots of.system of.pools of.plannable of.tables of.function of.recorded.listed is_a_bridge IoWindow in (parts.base_upper_small, parts.limit_upper_small)

@@ -1,16 +1,11 @@
 -- What a function is filled with.
-use Rattle.std.specs.Prelude.{◌≡◌, ℕ, List, IsTrue, if◌then◌else◌}
-use Rattle.std.specs.List.{Contains}
-use Rattle.std.specs.Option.{is_some}
+use Rattle.std.specs.Prelude.{◌≡◌, ℕ, List, IsTrue}
 use Rattle.pci_spec.specs.Window.{WindowKind}
-use Rattle.pci_spec.specs.Header.{address_registers}
 use Rattle.pci_spec.specs.System.{System, Function, Part}
 use Rattle.plan_spec.specs.Plan.{Pools, class_of}
 use Rattle.plan_spec.specs.Planning.Plannable.{IsPlannable}
 use Rattle.plan_spec.specs.Planning.Table.{is_placed, IsTable}
 use Rattle.plan_spec.specs.Planning.Numbers.{place_at}
-use Rattle.pci_image.specs.declared.register.Register.{Register}
-use Rattle.pci_function.specs.declared.record.Record.{Record}
 use Rattle.pci_plan.specs.declared.numbers.Filling.{Filling}
 use Rattle.pci_place.specs.Needs.{AreAllNeeds}
 use Rattle.pci_place.specs.Places.{first_in}
@@ -31,9 +26,3 @@ pub record FillingOf (filling : Filling) : Type 0 where
       → IsTrue (is_placed system pools (class_of system pools function part) function part)
       → first_in filling.places.now part ≡ place_at roots system pools function part
   pub needs : AreAllNeeds roots system pools filling.needs.now
-
--- a register is one of those that address decoding is set by
-abbrev pub IsDecodingRegister : Record → Register → Type 0
-IsDecodingRegister r register =
-    Contains (address_registers (if is_some r.bridge then 1 else 0))
-    (register.offset, register.width)

@@ -2,7 +2,7 @@
 ghost use Rattle.std.specs.Prelude.{◌≡◌, ◌+◌, ◌*◌, ◌/◌, ◌%◌, ◌^◌, ◌<◌, ℕ, ◌&&◌, ◌||◌, not, IsTrue, slice_index};
 ghost use Rattle.std.specs.List.{Contains, list_any};
 ghost use Rattle.std.specs.Option.{is_some};
-ghost use Rattle.pci_spec.specs.Header.{address_registers, bar_count, bar_register, layout, rom_register};
+ghost use Rattle.pci_spec.specs.Header.{bar_count, bar_register, layout, rom_register};
 ghost use Rattle.pci_spec.specs.System.{Bar as BarPart, Window as WindowPart, is_bridge};
 ghost use Rattle.pci_spec.specs.Window.{has_window};
 ghost use Rattle.plan_spec.specs.Place.{nibble_of};
@@ -12,18 +12,16 @@ ghost use Rattle.pci_place.specs.Classes.{is_io_kind};
 ghost use Rattle.pci_base.specs.WindowKinds.{kind_value, by_kind};
 ghost use Rattle.pci_place.specs.Places.{first_in};
 ghost use Rattle.pci_base.specs.Bounds.{spec_bounds_of};
-ghost use Rattle.pci_plan.specs.Fillings.{FillingOf, IsDecodingRegister};
+ghost use Rattle.pci_image.specs.Registers.{has_place};
+ghost use Rattle.pci_plan.specs.Fillings.{FillingOf};
 
 use pci_base::bounds::Bounds;
 use pci_base::image::Image;
-use pci_base::offset::{
-    BASE_ADDRESS, BRIDGE_EXPANSION_ROM, COMMAND, EXPANSION_ROM, IO_BASE, IO_BASE_UPPER,
-    MEMORY_BASE, PREFETCHABLE_BASE, PREFETCHABLE_BASE_UPPER, PREFETCHABLE_LIMIT_UPPER,
-};
+use pci_base::offset::{BASE_ADDRESS, COMMAND};
 use pci_base::window_kind::{ByKind, WindowKind};
 use pci_function::record::{Bridge, Record};
 use pci_image::bar::{Bar, BarKind};
-use pci_image::register::Register;
+use pci_image::register::{Register, Role};
 use pci_place::lacking::has_io_bar;
 use pci_place::need::{Needs, window_size_of};
 use pci_place::place::Places;
@@ -154,37 +152,20 @@ impl Filling<'_> {
         Bounds::open(class, nibble, first, last as u64)
     }
 
-    /// Of a window that may not be there.
-    fn bounds(&self, bridge: &Bridge, class: WindowKind) -> Bounds
+    /// Of a window of a bridge, which may not be there.
+    fn bounds(&self, class: WindowKind) -> Bounds
         requires of { FillingOf self.now }
-        requires bridge { self.now.record.now.bridge ≡ Some bridge.now }
+        requires bridge { IsTrue (is_some self.now.record.now.bridge) }
         ensures { (of : FillingOf self.now)
             → spec_bounds_of result
             ≡ numbers.new_bounds of.roots of.system of.pools of.function (kind_value class) }
     {
+        let Some(bridge) = &self.record.bridge else {
+            unreachable!()
+        };
         match bridge.windows.get(class) {
             None => Bounds::ABSENT,
             Some(window) => self.window_bounds(bridge, class, u16::from(window.wide())),
-        }
-    }
-
-    /// Of an address register of a bridge.
-    fn bridge_number(&self, bridge: &Bridge, offset: u8) -> u32
-        requires of { FillingOf self.now }
-        requires bridge { self.now.record.now.bridge ≡ Some bridge.now }
-        requires listed { (width : ℕ) × Contains (address_registers 1) (offset, width) }
-        ensures { (of : FillingOf self.now)
-            → result ≡ numbers.bridge_number of.roots of.system of.pools of.function offset }
-    {
-        match offset {
-            IO_BASE => self.bounds(bridge, WindowKind::Io).lower(8),
-            MEMORY_BASE => self.bounds(bridge, WindowKind::Memory).lower(16),
-            PREFETCHABLE_BASE => self.bounds(bridge, WindowKind::Prefetchable).lower(16),
-            PREFETCHABLE_BASE_UPPER => self.bounds(bridge, WindowKind::Prefetchable).base_upper,
-            PREFETCHABLE_LIMIT_UPPER => self.bounds(bridge, WindowKind::Prefetchable).limit_upper,
-            IO_BASE_UPPER => self.bounds(bridge, WindowKind::Io).upper(),
-            BRIDGE_EXPANSION_ROM => self.rom_number(offset),
-            _ => self.bar_number(offset),
         }
     }
 
@@ -192,18 +173,25 @@ impl Filling<'_> {
     pub fn number(&self, register: Register) -> u32
         // new numbers are told of a function in a system that can be planned
         requires of { FillingOf self.now }
-        // any offset that isn't a window's or a ROM's is taken for a BAR's
-        requires listed { IsDecodingRegister self.now.record.now register }
+        // what a register holds is found by its role, so it has to stand where the role says
+        requires place { IsTrue (has_place (is_some self.now.record.now.bridge) register) }
         ensures { (of : FillingOf self.now)
             → result
             ≡ numbers.new_number of.roots of.system of.pools of.function
             (register.offset, register.width) }
     {
-        let offset = register.offset;
-        match &self.record.bridge {
-            Some(bridge) => self.bridge_number(bridge, offset),
-            None if offset == EXPANSION_ROM => self.rom_number(offset),
-            None => self.bar_number(offset),
+        match register.role {
+            Role::Bar(_) => self.bar_number(register.offset),
+            Role::Rom => self.rom_number(register.offset),
+            Role::Bounds(WindowKind::Io) => self.bounds(WindowKind::Io).lower(8),
+            Role::Bounds(WindowKind::Memory) => self.bounds(WindowKind::Memory).lower(16),
+            Role::Bounds(WindowKind::Prefetchable) => {
+                self.bounds(WindowKind::Prefetchable).lower(16)
+            }
+            Role::IoUpper => self.bounds(WindowKind::Io).upper(),
+            Role::PrefetchableBaseUpper => self.bounds(WindowKind::Prefetchable).base_upper,
+            Role::PrefetchableLimitUpper => self.bounds(WindowKind::Prefetchable).limit_upper,
+            Role::Control(_) | Role::Status(_) => unreachable!(),
         }
     }
 

@@ -1,6 +1,6 @@
-use Rattle.std.proofs.Common.{◌≡◌, ℕ, ◌+◌, ◌<◌, List, ◌++◌, [], ◌∷◌, length, map, take, get_or, arith, sym, ◌∙◌, ap, subst, if◌then◌else◌}
+use Rattle.std.proofs.Common.{◌≡◌, ℕ, true, ◌+◌, ◌<◌, List, ◌++◌, [], ◌∷◌, length, map, take, get_or, arith, sym, ◌∙◌, ap, subst, if◌then◌else◌}
 use Rattle.std.specs.Option.{is_some}
-use Rattle.std.specs.List.{AllPairs, Contains}
+use Rattle.std.specs.List.{AllPairs, Contains, list_all}
 use Rattle.std.proofs.lemmas.List.{length-map, take_all, take_more}
 use Rattle.std.proofs.lemmas.List.Elements.{Contains-get_or}
 use Rattle.std.proofs.Math.ListN.{get_or-map}
@@ -8,8 +8,10 @@ use Rattle.pci_spec.specs.Header.{address_registers, layout, registers_by}
 use Rattle.pci_spec.specs.System.{is_bridge}
 use Rattle.plan_spec.specs.Planning.Numbers.{new_number, new_command}
 use Rattle.pci_spec.proofs.Members.{in_map_from}
+use Rattle.plan_spec.proofs.Planning.Behind.{all_gives}
 use Rattle.plan_spec.proofs.Planning.Staging.{Follows, registers_in_order, pairs_in_order}
 use Rattle.plan_spec.proofs.Planning.NumbersFit.{numbers_fit}
+use Rattle.pci_image.specs.Registers.{has_place}
 use Rattle.pci_image.specs.declared.register.Register.{Register}
 use Rattle.pci_image.specs.declared.register.Role.TheVariants as roles
 use Rattle.pci_plan.specs.Fillings.{FillingOf}
@@ -47,6 +49,12 @@ module _ (c : After-address_registers-register-items) where
   in_order : (of : FillingOf c.args.filling.now) → AllPairs Follows (map pair items)
   in_order of = subst (λ rs. AllPairs Follows rs) (sym (by_function of)) (pairs_in_order (registers_by (is_bridge of.function)) (registers_in_order (is_bridge of.function)))
 
+  placed : (k : ℕ) → k < length items → has_place (is_some c.args.filling.now.record.now.bridge) (get_or items k no_register) ≡ true
+  placed k within =
+      let all : list_all (has_place (is_some c.args.filling.now.record.now.bridge)) items ≡ true =
+      ap (λ b. list_all (has_place b) items) (sym c.layout.ensures) ∙ c.address_registers-register-items.ensures.roles in
+      all_gives (has_place (is_some c.args.filling.now.record.now.bridge)) items (get_or items k no_register) all (Contains-get_or items k no_register within)
+
   within_pairs : (k : ℕ) → k < length items → k < length (map pair items)
   within_pairs k within = let l = length-map items pair in omega (arith, l, within)
 
@@ -57,11 +65,9 @@ loop-register-init c of =
     subst (λ image. ArePut [] (new_number of.roots of.system of.pools of.function) of.function.image image) (sym of.image)
     (none_put (new_number of.roots of.system of.pools of.function) of.function.image (function_is c.args.filling.now of).image)
 
-pub number-requires-clause-listed : goal.number-requires-clause-listed
-number-requires-clause-listed c =
-    let start = (goal.at.number-requires-clause-listed c).After-address_registers-register-items in
-    let k = c.loop-register.register-index in
-    subst (λ rs. Contains rs (pair (get_or (items start) k no_register))) (by_record start) (here start k c.loop-register-test.true)
+pub number-requires-clause-place : goal.number-requires-clause-place
+number-requires-clause-place c =
+    placed (goal.at.number-requires-clause-place c).After-address_registers-register-items c.loop-register.register-index c.loop-register-test.true
 
 pub put-requires : goal.put-requires
 put-requires c =
