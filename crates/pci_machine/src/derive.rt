@@ -88,7 +88,7 @@ pub fn derive(
     let mut assumed = ArrayVec::new();
     probe.0 = [0; IMAGE_LEN];
     for place in address_registers(layout) {
-        let derived = register(image, lines, layout, place.offset);
+        let derived = register(image, lines, layout, *place);
         let (read_back, is_assumed) = taken(derived, assuming, place.offset)?;
         put(&mut probe.0, place.offset, place.width, read_back);
         if is_assumed {

@@ -1,16 +1,14 @@
 //! What is derived for the windows of a bridge (Bridge 1.2, 3.2.5).
 ghost use Rattle.std.specs.Prelude.{◌≡◌, IsTrue, ◌<◌, ◌==◌, true, false, if◌then◌else◌, MatchOption};
-ghost use Rattle.pci_spec.specs.Window.{is_optional};
+ghost use Rattle.pci_spec.specs.Registers.{IO_BASE_UPPER, PREFETCHABLE_BASE_UPPER, PREFETCHABLE_LIMIT_UPPER};
+ghost use Rattle.pci_spec.specs.Window.{is_optional, window_register};
 ghost use Rattle.pci_base.specs.WindowKinds.{kind_value};
 ghost use Rattle.pci_spec.specs.Derived as spec;
 ghost use Rattle.pci_machine.specs.Derived.{derived_of, IsNarrow};
 
 use super::derived::Derived;
 use pci_base::image::Image;
-use pci_base::offset::{
-    COMMAND, IO_BASE, MEMORY_BASE, PREFETCHABLE_BASE, PREFETCHABLE_BASE_UPPER,
-    PREFETCHABLE_LIMIT_UPPER,
-};
+use pci_base::offset::COMMAND;
 use pci_base::space::Space;
 use pci_base::window_kind::WindowKind;
 
@@ -50,29 +48,48 @@ fn upper(nibble: Option<u64>) -> Derived
     }
 }
 
-/// What is derived for the register of a bridge's windows at an offset, base and limit together.
+/// What is derived for the register of a window's base and limit.
 #[tactic(auto, unfolding(pci_spec::specs::Derived::window_register_derived, pci_spec::specs::Derived::window_read_back))]
-pub fn window(image: &Image, offset: u8) -> Derived
-    ensures derived { derived_of result ≡ spec.window_register_derived image.now.0 offset }
+pub fn bounds(image: &Image, kind: WindowKind) -> Derived
+    ensures derived { derived_of result
+        ≡ spec.window_register_derived image.now.0 (window_register (kind_value kind)) }
     // the probe takes 32 bits of it, and none may be lost
     ensures narrow { IsNarrow result }
 {
     let command = image.u16(COMMAND);
-    if offset == IO_BASE {
-        match nibble(WindowKind::Io, image) {
+    match kind {
+        WindowKind::Io => match nibble(WindowKind::Io, image) {
             None => absent(Space::Io.is_on(command)),
             Some(nibble) => Derived::Known(0xf0f0 + 0x101 * nibble),
-        }
-    } else if offset == MEMORY_BASE {
-        Derived::Known(0xfff0_fff0)
-    } else if offset == PREFETCHABLE_BASE {
-        match nibble(WindowKind::Prefetchable, image) {
+        },
+        WindowKind::Memory => Derived::Known(0xfff0_fff0),
+        WindowKind::Prefetchable => match nibble(WindowKind::Prefetchable, image) {
             None => absent(Space::Mem.is_on(command)),
             Some(nibble) => Derived::Known(0xfff0_fff0 + 0x1_0001 * nibble),
-        }
-    } else if offset == PREFETCHABLE_BASE_UPPER || offset == PREFETCHABLE_LIMIT_UPPER {
-        upper(nibble(WindowKind::Prefetchable, image))
-    } else {
-        upper(nibble(WindowKind::Io, image))
+        },
     }
+}
+
+/// What is derived for the register of the upper halves of I/O.
+#[tactic(auto, unfolding(pci_spec::specs::Derived::window_register_derived, pci_spec::specs::Derived::window_read_back))]
+pub fn io_upper(image: &Image) -> Derived
+    ensures derived { derived_of result
+        ≡ spec.window_register_derived image.now.0 IO_BASE_UPPER }
+    // the probe takes 32 bits of it, and none may be lost
+    ensures narrow { IsNarrow result }
+{
+    upper(nibble(WindowKind::Io, image))
+}
+
+/// What is derived for each of the two registers of the upper halves of the prefetchable window.
+#[tactic(auto, unfolding(pci_spec::specs::Derived::window_register_derived, pci_spec::specs::Derived::window_read_back))]
+pub fn prefetchable_upper(image: &Image) -> Derived
+    ensures base { derived_of result
+        ≡ spec.window_register_derived image.now.0 PREFETCHABLE_BASE_UPPER }
+    ensures limit { derived_of result
+        ≡ spec.window_register_derived image.now.0 PREFETCHABLE_LIMIT_UPPER }
+    // the probe takes 32 bits of it, and none may be lost
+    ensures narrow { IsNarrow result }
+{
+    upper(nibble(WindowKind::Prefetchable, image))
 }

@@ -2,6 +2,7 @@ use crate::rows::{Line, Registers, Row, rows};
 use pci_base::image::Image;
 use pci_image::fault::ImageFault;
 use pci_image::layout::Layout;
+use pci_image::register::{Register, Role};
 use pci_machine::assuming::Assuming;
 use pci_machine::derive::derive;
 use pci_machine::derive_fault::DeriveFault;
@@ -117,6 +118,11 @@ fn a_register_is_derived_alone(rt: HostRuntime) {
         last: 0xffff,
         flags: 0x4_0200,
     };
-    let derived = register(&Image([0; 256]), &lines, Layout::Device, 0x10);
+    let first = Register {
+        offset: 0x10,
+        width: 4,
+        role: Role::Bar(0),
+    };
+    let derived = register(&Image([0; 256]), &lines, Layout::Device, first);
     assert!(rt; derived == Derived::Known(0xffff_0000));
 }

@@ -9,8 +9,7 @@ use Rattle.pci_spec.specs.Resource.{ResourceLine}
 use Rattle.pci_image.specs.Header.{HasHeader}
 use Rattle.pci_image.specs.declared.register.Register.{Register}
 use Rattle.pci_image.specs.declared.register.Role.TheVariants as roles
-use Rattle.pci_machine.proofs.RegisterOrder.{register_begins}
-use Rattle.pci_machine.proofs.Turns.{here, length_of_table, turn_of}
+use Rattle.pci_machine.proofs.Turns.{here, length_of_table, placed_at, turn_of}
 use Rattle.pci_machine.specs.declared.derive_fault.DeriveFault.{DeriveFault}
 use Rattle.pci_machine.specs.declared.derive_fault.DeriveFault.TheVariants.{Header, NoSize, OtherSize}
 use Rattle.pci_machine.specs.Assuming.{assuming_of}
@@ -33,10 +32,9 @@ fault_of assuming image lines (OtherSize register) found is header first = (head
 pub loop-place-init : goal.loop-place-init
 loop-place-init c = derived_none (assuming_of c.args.assuming) c.args.image.now.0 c.args.lines.now c.in-Ok.layout c.new-assumed.result.items c.new-assumed.ensures
 
-pub register-derived-requires-clause-begins : goal.register-derived-requires-clause-begins
-register-derived-requires-clause-begins c =
-    let turn = turn_of c.address_registers-place-items.result.now c.in-Ok.layout c.address_registers-place-items.ensures.places c.loop-place.place-index c.loop-place-test.true none in
-    register_begins c.in-Ok.layout c.loop-place.place-index _ turn.below turn.is
+pub register-derived-requires-clause-place : goal.register-derived-requires-clause-place
+register-derived-requires-clause-place c =
+    placed_at c.address_registers-place-items.result.now c.in-Ok.layout c.address_registers-place-items.ensures.roles c.loop-place.place-index c.loop-place-test.true none
 
 pub returns-in_err-read_back-clause-fault : goal.returns-in_err-read_back-clause-fault
 returns-in_err-read_back-clause-fault c =
