@@ -19,6 +19,7 @@ pub mod Members
 pub mod Groups
 pub mod Once
 pub mod Sections
+pub mod Roots
 pub mod HexDigits
 pub mod DecimalDigits
 pub mod Ranges

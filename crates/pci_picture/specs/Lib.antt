@@ -10,3 +10,4 @@ pub mod Canvases
 pub mod Maps
 pub mod Drawings
 pub mod Cuts
+pub mod Roots

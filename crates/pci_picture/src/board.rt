@@ -1,9 +1,10 @@
 //! A board, read from the texts of three commands.
-ghost use Rattle.std.specs.Prelude.{◌≡◌, [], ◌∷◌, IfOk};
+ghost use Rattle.std.specs.Prelude.{◌≡◌, [], ◌∷◌, Some, None, unwrap_or, slice_index_or, IfOk};
 ghost use Rattle.std.specs.List.{slice_split};
 ghost use Rattle.pci_picture.specs.Boxes.{titled_line};
 ghost use Rattle.pci_picture.specs.Lines.{is_feed};
 ghost use Rattle.pci_picture.specs.Maps.{IsReadOf};
+ghost use Rattle.pci_picture.specs.Roots.{AreAbove, AreRoots, go_up, listed_functions};
 
 use super::faults::{Fault, Faults};
 use super::function::{Buses, Function, Span, find, give_titles, read_functions};
@@ -68,6 +69,45 @@ fn names_of<A: Allocator + Copy>(
         }
     }
     Ok(names)
+}
+
+/// For each bus the one above it: that of the first bridge listed whose secondary bus it is. Bus 0 has none.
+fn buses_above(functions: &[Function<'_>]) -> [Option<u8>; 256]
+    ensures { AreAbove (listed_functions functions.entry.now) result }
+{
+    let mut above = [None; 256];
+    for function in functions {
+        if let Some(buses) = function.buses {
+            let bus = buses.secondary as usize;
+            above[bus] = earlier(above[bus], bus_of(function.number));
+        }
+    }
+    above[0] = None;
+    above
+}
+
+/// The bus of an earlier bridge, where there is one, else that of this one.
+fn earlier(bus: Option<u8>, other: u8) -> Option<u8>
+    ensures { result ≡ Some (unwrap_or bus other) }
+{
+    match bus {
+        Some(bus) => Some(bus),
+        None => Some(other),
+    }
+}
+
+/// The root bus from which a bus is reached, of the bus above each bus.
+fn root_from(above: &[Option<u8>; 256], bus: u8) -> u8
+    ensures { result ≡ go_up (λ bus. slice_index_or above.now bus None) 256 bus }
+{
+    let mut root = bus;
+    for _ in 0..256usize {
+        match above[root as usize] {
+            Some(bus) => root = bus,
+            None => break,
+        }
+    }
+    root
 }
 
 impl<'a, A: Allocator + Copy> Board<'a, A> {
@@ -199,28 +239,13 @@ impl<'a, A: Allocator + Copy> Board<'a, A> {
     }
 
     /// For each bus the root bus from which it is reached.
-    pub fn roots(&self) -> [u8; 256] {
-        let mut above = [0u8; 256];
-        let mut is_root = [true; 256];
-        for function in &self.functions {
-            if let Some(buses) = function.buses {
-                let bus = buses.secondary as usize;
-                if bus != 0 && is_root[bus] {
-                    is_root[bus] = false;
-                    above[bus] = bus_of(function.number);
-                }
-            }
-        }
+    pub fn roots(&self) -> [u8; 256]
+        ensures { AreRoots (listed_functions self.entry.now.functions.items) result }
+    {
+        let above = buses_above(self.functions.as_slice());
         let mut roots = [0u8; 256];
         for bus in 0..256u16 {
-            let mut root = bus as u8;
-            for _ in 0..256 {
-                if is_root[root as usize] {
-                    break;
-                }
-                root = above[root as usize];
-            }
-            roots[bus as usize] = root;
+            roots[bus as usize] = root_from(&above, bus as u8);
         }
         roots
     }

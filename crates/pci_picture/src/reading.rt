@@ -1,5 +1,6 @@
 //! Words, numbers and slots of a line.
 ghost use Rattle.std.specs.Prelude.{◌≡◌, ◌≤◌, ◌<◌, length, is_some, IfSome};
+ghost use Rattle.pci_picture.specs.Roots.{bus_of_slot};
 ghost use Rattle.pci_picture.specs.Spots.{IsExtentWord};
 ghost use Rattle.pci_picture.specs.Lines.{leading_blanks, unindented_line, words_in_line, nth_word, digit_of, hex_number_of, decimal_digit_of, decimal_number, is_register, is_slot, is_range, is_told_number, hex_value};
 
@@ -127,7 +128,10 @@ pub fn slot_number(text: &[u8]) -> Option<u32>
 }
 
 /// The bus of a slot's number.
-pub fn bus_of(slot: u32) -> u8 {
+#[tactic(auto, unfolding(crate::specs::Roots::bus_of_slot))]
+pub fn bus_of(slot: u32) -> u8
+    ensures { result ≡ bus_of_slot slot }
+{
     ((slot >> 12) % 256) as u8
 }
 

@@ -1,0 +1,67 @@
+-- From which root bus a bus is reached, and in which section a region out of place is drawn.
+use Rattle.std.specs.Prelude.{◌≡◌, ◌<◌, ◌/◌, ◌%◌, ℕ, zero, suc, Bool, false, ◌==◌, Option, Some, None, unwrap_or, List, [], ◌∷◌, map, slice_index, slice_index_or, if◌then◌else◌}
+use Rattle.std.specs.List.{filter}
+use Rattle.pci_picture.specs.declared.function.Buses.{Buses}
+use Rattle.pci_picture.specs.declared.function.Function.{Function}
+
+-- a function that is listed: the number of its slot, and the secondary bus of a bridge
+pub record Listed : Type 0 where
+  pub slot : ℕ
+  pub secondary : Option ℕ
+
+-- the bus of a slot's number `bbddf`
+unfoldable pub bus_of_slot : ℕ → ℕ
+bus_of_slot slot = slot / 4096 % 256
+
+abbrev pub is_bus : ℕ → Option ℕ → Bool
+is_bus bus None = false
+is_bus bus (Some number) = number == bus
+
+-- a function is a bridge with this secondary bus
+abbrev pub leads_to : ℕ → Listed → Bool
+leads_to bus function = is_bus bus function.secondary
+
+abbrev pub first_bus : List Listed → Option ℕ
+first_bus [] = None
+first_bus (function ∷ functions) = Some (bus_of_slot function.slot)
+
+-- the bus of the first bridge listed with this secondary bus
+abbrev pub bus_of_bridge : List Listed → ℕ → Option ℕ
+bus_of_bridge functions bus = first_bus (filter (leads_to bus) functions)
+
+-- that is the bus above a bus; bus 0 has none
+abbrev pub bus_above : List Listed → ℕ → Option ℕ
+bus_above functions bus = if bus == 0 then None else bus_of_bridge functions bus
+
+-- up some steps from a bus, where a root bus, which has no bus above it, stays
+unfoldable pub go_up : (ℕ → Option ℕ) → ℕ → ℕ → ℕ
+go_up above zero bus = bus
+go_up above (suc steps) bus = go_up above steps (unwrap_or (above bus) bus)
+
+-- the root bus from which a bus is reached: there are 256 buses, so no way up is longer
+unfoldable pub root_of : List Listed → ℕ → ℕ
+root_of functions bus = go_up (bus_above functions) 256 bus
+
+-- ---- the functions of a board
+
+abbrev pub secondary_of : Option Buses → Option ℕ
+secondary_of None = None
+secondary_of (Some buses) = Some buses.secondary
+
+abbrev pub listed_function : Function → Listed
+listed_function function = record { slot = function.number; secondary = secondary_of function.buses }
+
+abbrev pub listed_functions : List Function → List Listed
+listed_functions functions = map listed_function functions
+
+-- at each bus the one of the first bridge there
+abbrev pub AreBridges : List Listed → List (Option ℕ) → Type 0
+AreBridges functions table = (bus : ℕ) → bus < 256 → slice_index_or table bus None ≡ bus_of_bridge functions bus
+
+-- at each bus the one above it
+abbrev pub AreAbove : List Listed → List (Option ℕ) → Type 0
+AreAbove functions table = (bus : ℕ) → bus < 256 → slice_index_or table bus None ≡ bus_above functions bus
+
+-- at each bus its root
+abbrev pub AreRoots : List Listed → List ℕ → Type 0
+AreRoots functions table = (bus : ℕ) → bus < 256 → slice_index table bus ≡ root_of functions bus
