@@ -31,7 +31,7 @@ no_dash_at word r found none =
       | inr fails ↦ fails
     ]
 
-a_dash_at : (word : List ℕ) (r : Option ℕ) (dash : ℕ) → Found word r → r ≡ Some dash → (ltb (dash_at word) (length word) ≡ true) × (dash ≡ dash_at word)
+pub a_dash_at : (word : List ℕ) (r : Option ℕ) (dash : ℕ) → Found word r → r ≡ Some dash → (ltb (dash_at word) (length word) ≡ true) × (dash ≡ dash_at word)
 a_dash_at word r dash found is =
     elim (cases_Bool (ltb (dash_at word) (length word))) [
       | inl holds ↦ let e : r ≡ Some (dash_at word) = rw holds at found in (holds, cc)

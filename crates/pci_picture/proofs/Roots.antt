@@ -4,7 +4,8 @@ use Rattle.std.specs.List.{filter}
 use Rattle.std.proofs.lemmas.Bool.{cases_eq, eq-eqb, ne_eqb}
 use Rattle.std.proofs.lemmas.List.{append-nil, get_or-replicate, get_or-set_same, get_or-set_other, map_more}
 use Rattle.std.proofs.lemmas.List.Elements.{filter-append}
-use Rattle.pci_picture.specs.Roots.{AreAbove, AreBridges, Listed, bus_above, bus_of_bridge, bus_of_slot, first_bus, go_up, leads_to, listed_function, listed_functions, root_of}
+use Rattle.pci_picture.specs.Roots.{AreAbove, AreBridges, Listed, bus_above, bus_of_bridge, first_bus, go_up, leads_to, listed_function, listed_functions, root_of}
+use Rattle.pci_picture.specs.Slots.{bus_of_slot}
 use Rattle.pci_picture.specs.declared.function.Buses.{Buses}
 use Rattle.pci_picture.specs.declared.function.Function.{Function}
 

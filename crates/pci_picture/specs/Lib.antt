@@ -10,4 +10,5 @@ pub mod Canvases
 pub mod Maps
 pub mod Drawings
 pub mod Cuts
+pub mod Slots
 pub mod Roots

@@ -1,6 +1,8 @@
 -- From which root bus a bus is reached, and in which section a region out of place is drawn.
-use Rattle.std.specs.Prelude.{◌≡◌, ◌<◌, ◌/◌, ◌%◌, ℕ, zero, suc, Bool, false, ◌==◌, Option, Some, None, unwrap_or, List, [], ◌∷◌, map, slice_index, slice_index_or, if◌then◌else◌}
+use Rattle.std.specs.Prelude.{◌≡◌, ◌<◌, ℕ, zero, suc, Bool, false, ◌==◌, Option, Some, None, unwrap_or, List, [], ◌∷◌, map, slice_index, slice_index_or, if◌then◌else◌}
 use Rattle.std.specs.List.{filter}
+use Rattle.pci_picture.specs.Headings.{number_of_section}
+use Rattle.pci_picture.specs.Slots.{bus_of_line, bus_of_slot, is_io_line}
 use Rattle.pci_picture.specs.declared.function.Buses.{Buses}
 use Rattle.pci_picture.specs.declared.function.Function.{Function}
 
@@ -8,10 +10,6 @@ use Rattle.pci_picture.specs.declared.function.Function.{Function}
 pub record Listed : Type 0 where
   pub slot : ℕ
   pub secondary : Option ℕ
-
--- the bus of a slot's number `bbddf`
-unfoldable pub bus_of_slot : ℕ → ℕ
-bus_of_slot slot = slot / 4096 % 256
 
 abbrev pub is_bus : ℕ → Option ℕ → Bool
 is_bus bus None = false
@@ -41,6 +39,10 @@ go_up above (suc steps) bus = go_up above steps (unwrap_or (above bus) bus)
 -- the root bus from which a bus is reached: there are 256 buses, so no way up is longer
 unfoldable pub root_of : List Listed → ℕ → ℕ
 root_of functions bus = go_up (bus_above functions) 256 bus
+
+-- the number of the section of a region out of place: that of the root from which its bus is reached, and of its space
+abbrev pub home_of : List Listed → List ℕ → ℕ
+home_of functions line = number_of_section (root_of functions (bus_of_line line)) (is_io_line line)
 
 -- ---- the functions of a board
 

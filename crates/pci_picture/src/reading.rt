@@ -1,6 +1,6 @@
 //! Words, numbers and slots of a line.
 ghost use Rattle.std.specs.Prelude.{◌≡◌, ◌≤◌, ◌<◌, length, is_some, IfSome};
-ghost use Rattle.pci_picture.specs.Roots.{bus_of_slot};
+ghost use Rattle.pci_picture.specs.Slots.{bus_of_slot, bus_of_word, digits_of_word, slot_of_key};
 ghost use Rattle.pci_picture.specs.Spots.{IsExtentWord};
 ghost use Rattle.pci_picture.specs.Lines.{leading_blanks, unindented_line, words_in_line, nth_word, digit_of, hex_number_of, decimal_digit_of, decimal_number, is_register, is_slot, is_range, is_told_number, hex_value};
 
@@ -114,9 +114,10 @@ pub fn hex_byte(digits: &[u8]) -> Option<u8>
 }
 
 /// The number of a slot `bb:dd.f`, in hex `bbddf`.
-#[tactic(auto, unfolding(crate::specs::Lines::is_slot))]
+#[tactic(auto, unfolding(crate::specs::Lines::is_slot, crate::specs::Slots::bus_of_slot))]
 pub fn slot_number(text: &[u8]) -> Option<u32>
-    ensures { is_some result ≡ is_slot text.now }
+    ensures some { is_some result ≡ is_slot text.now }
+    ensures bus { IfSome result (λ number. bus_of_slot number ≡ bus_of_word text.now) }
 {
     if text.len() != 7 || text[2] != b':' || text[5] != b'.' {
         return None;
@@ -124,11 +125,11 @@ pub fn slot_number(text: &[u8]) -> Option<u32>
     let bus = hex_byte(&text[..2])?;
     let device = hex_byte(&text[3..5])?;
     let function = nibble(text[6])?;
-    Some((u32::from(bus) << 12) | (u32::from(device) << 4) | u32::from(function))
+    Some(u32::from(bus) * 4096 + u32::from(device) * 16 + u32::from(function))
 }
 
 /// The bus of a slot's number.
-#[tactic(auto, unfolding(crate::specs::Roots::bus_of_slot))]
+#[tactic(auto, unfolding(crate::specs::Slots::bus_of_slot))]
 pub fn bus_of(slot: u32) -> u8
     ensures { result ≡ bus_of_slot slot }
 {
@@ -183,16 +184,22 @@ pub enum Place {
 
 /// The key of a region: the number of its slot, and a number that says which one of the slot. Told ranges come behind
 /// all registers.
-pub fn region_key(slot: u32, place: Place) -> u64 {
+#[tactic(auto, unfolding(crate::specs::Slots::slot_of_key))]
+pub fn region_key(slot: u32, place: Place) -> u64
+    ensures { slot_of_key result ≡ slot }
+{
     let number = match place {
         Place::Register(register) => u16::from(register),
         Place::Told(number) => number.saturating_add(256),
     };
-    (u64::from(slot) << 16) | u64::from(number)
+    u64::from(slot) * 65536 + u64::from(number)
 }
 
 /// The number of a key's slot.
-pub fn slot_of(key: u64) -> u32 {
+#[tactic(auto, unfolding(crate::specs::Slots::slot_of_key))]
+pub fn slot_of(key: u64) -> u32
+    ensures { result ≡ slot_of_key key }
+{
     ((key >> 16) % (1 << 32)) as u32
 }
 
@@ -224,6 +231,7 @@ pub struct Extent {
 pub fn extent_of(text: &[u8]) -> Option<Extent>
     ensures some { is_some result ≡ is_range text.now }
     ensures ends { IfSome result (λ extent. IsExtentWord text.now extent.first extent.last) }
+    ensures digits { IfSome result (λ extent. extent.digits ≡ digits_of_word text.now) }
 {
     let dash = text.iter().position(|byte| *byte == b'-')?;
     let first = hex_number(&text[..dash])?;

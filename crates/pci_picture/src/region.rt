@@ -1,6 +1,7 @@
 //! Lines of a map.
-ghost use Rattle.std.specs.Prelude.{◌≡◌, ◌&&◌, [], ◌∷◌, IsTrue, MatchOption, is_some, codes, if◌then◌else◌};
+ghost use Rattle.std.specs.Prelude.{◌≡◌, ◌&&◌, [], ◌∷◌, IsTrue, MatchOption, IfSome, is_some, codes, if◌then◌else◌};
 ghost use Rattle.pci_picture.specs.Lines.{is_one_line, names_part, is_region_line, is_register, is_slot, is_told_number, names_told, nth_word, line_if_region, says, words_in_line};
+ghost use Rattle.pci_picture.specs.Slots.{IsOfLine, bus_of_slot, bus_of_word, slot_of_key, slot_word};
 ghost use Rattle.pci_picture.specs.Spots.{IsExtentWord};
 
 use super::reading::{Place, extent_of, hex_byte, region_key, slot_number, told_number, word};
@@ -42,6 +43,7 @@ pub struct Region<'a> {
     ghost is_one_line: { IsTrue (is_one_line line.now) },
     ghost is_told: { IsTrue (is_region_line line.now) },
     ghost ends: { IsExtentWord (nth_word (words_in_line line.now) 0) first last },
+    ghost is_of_line: { IsOfLine line.now key digits },
 }
 
 impl Region<'_> {
@@ -72,7 +74,8 @@ struct Named<'a> {
 
 /// The part that a slot and a register name.
 fn named_by<'a>(part: Part, slot: &'a [u8], register: &'a [u8]) -> Option<Named<'a>>
-    ensures { is_some result ≡ (is_slot slot.now && is_register register.now) }
+    ensures some { is_some result ≡ (is_slot slot.now && is_register register.now) }
+    ensures bus { IfSome result (λ named. bus_of_slot (slot_of_key named.key) ≡ bus_of_word slot.now) }
 {
     let number = slot_number(slot)?;
     let offset = hex_byte(register)?;
@@ -87,7 +90,8 @@ fn named_by<'a>(part: Part, slot: &'a [u8], register: &'a [u8]) -> Option<Named<
 
 /// The told range that a slot and a number name, and the word that follows.
 fn told_by<'a>(part: Part, slot: &'a [u8], register: &'a [u8], name: &'a [u8]) -> Option<Named<'a>>
-    ensures { is_some result ≡ (is_slot slot.now && is_told_number register.now) }
+    ensures some { is_some result ≡ (is_slot slot.now && is_told_number register.now) }
+    ensures bus { IfSome result (λ named. bus_of_slot (slot_of_key named.key) ≡ bus_of_word slot.now) }
 {
     let number = slot_number(slot)?;
     let told = told_number(register)?;
@@ -102,8 +106,10 @@ fn told_by<'a>(part: Part, slot: &'a [u8], register: &'a [u8], name: &'a [u8]) -
 
 /// The told range that a line names behind its part, prefetchable or not.
 fn told_behind(part: Part, line: &[u8]) -> Option<Named<'_>>
-    ensures { is_some result ≡ names_told (words_in_line line.now)
+    ensures some { is_some result ≡ names_told (words_in_line line.now)
         (if says (nth_word (words_in_line line.now) 3) (codes "pref") then 4 else 3) }
+    ensures bus { IfSome result (λ named. bus_of_slot (slot_of_key named.key)
+        ≡ bus_of_word (nth_word (words_in_line line.now) (if says (nth_word (words_in_line line.now) 3) (codes "pref") then 4 else 3))) }
 {
     let next = word(line, 3);
     if next == b"pref".as_slice() {
@@ -114,9 +120,10 @@ fn told_behind(part: Part, line: &[u8]) -> Option<Named<'_>>
 }
 
 /// The part that stands at the third word of a line, and what names it.
-#[tactic(auto, unfolding(crate::specs::Lines::names_part))]
+#[tactic(auto, unfolding(crate::specs::Lines::names_part, crate::specs::Slots::slot_word, crate::specs::Slots::bus_of_slot, crate::specs::Slots::slot_of_key))]
 fn named_of(line: &[u8]) -> Option<Named<'_>>
-    ensures { is_some result ≡ names_part (words_in_line line.now) }
+    ensures some { is_some result ≡ names_part (words_in_line line.now) }
+    ensures bus { IfSome result (λ named. bus_of_slot (slot_of_key named.key) ≡ bus_of_word (slot_word (words_in_line line.now))) }
 {
     let part = word(line, 2);
     if part == b"bar".as_slice() {
@@ -148,7 +155,7 @@ fn named_of(line: &[u8]) -> Option<Named<'_>>
 }
 
 /// The region of a line `F-L N PART S r`, `F-L N PART S +n` or `F-L N free`, without the blanks before it.
-#[tactic(auto, unfolding(crate::specs::Lines::is_region_line))]
+#[tactic(auto, unfolding(crate::specs::Lines::is_region_line, crate::specs::Slots::bus_of_line, crate::specs::Slots::is_io_line))]
 pub fn region_of(line: &[u8], depth: usize) -> Option<Region<'_>>
     requires { IsTrue (is_one_line line.now) }
     ensures { MatchOption result (line_if_region line.now ≡ [])

@@ -3,7 +3,7 @@ use Rattle.std.proofs.lemmas.Iterator.{YieldsList-from_slice}
 use Rattle.std.proofs.lemmas.Iterator.Search.{position_from_yields_List}
 use Rattle.std.proofs.lemmas.List.{take_rest}
 use Rattle.pci_picture.specs.Lines.{is_dash_byte}
-use Rattle.pci_picture.proofs.Ranges.{no_range, no_first, no_last, are_ends, falls, rises}
+use Rattle.pci_picture.proofs.Ranges.{a_dash_at, no_range, no_first, no_last, are_ends, falls, rises}
 use Rattle.pci_picture.proofs.reading.extent_of.Goals as goal
 
 pub returns-in_err-dash-clause-some : goal.returns-in_err-dash-clause-some
@@ -45,4 +45,8 @@ returns c =
     record {
       some = sym (rises c.args.text.now c.in_ok-first.first c.in_ok-last.last ends c.if-last-first.false);
       ends = record { first_is = sym ends.low; last_is = sym ends.high; rises = c.if-last-first.false };
+      digits =
+          (a_dash_at c.args.text.now c.position.result c.in_ok-dash.dash
+          (position_from_yields_List is_dash_byte c.position.new.self _ c.position.result c.position.ensures.ran
+          (YieldsList-from_slice c.args.text.now c.iter.ensures.rest) (λ x b q k. search (rules, tests))) c.in_ok-dash.was).1;
     }
