@@ -16,6 +16,7 @@ pub mod Taken
 pub mod Headings
 pub mod Filtered
 pub mod Members
+pub mod Homes
 pub mod Groups
 pub mod Once
 pub mod Sections

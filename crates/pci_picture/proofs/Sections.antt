@@ -5,12 +5,13 @@ use Rattle.std.specs.List.Sorted.{IsNonDecreasingBy, IsPermutation}
 use Rattle.std.proofs.lemmas.Bool.{cases_lt, eqb-true}
 use Rattle.std.proofs.lemmas.List.{append_assoc, map-append, map_more, take_more, take-append-drop, take-take, drop-take, take_all, length-take, length-drop, get_or-take, get_or-drop, get_or_default}
 use Rattle.std.proofs.lemmas.List.Sorted.{IsPermutation-trans, IsPermutation-append_left, IsPermutation-map}
-use Rattle.pci_picture.specs.Boxes.{IsDrawnOf, IsPictureOf}
+use Rattle.pci_picture.specs.Boxes.{IsDrawnOf, IsHomedBy}
 use Rattle.pci_picture.specs.Canvases.{AddsToCanvas, AddsSome, HasDrawn}
 use Rattle.pci_picture.specs.Drawings.{AreGrouped, AreOfSection, AreOfSections, IsRunOfSection, sections_of}
 use Rattle.pci_picture.specs.Headings.{AreSectionsOf, headed_regions}
 use Rattle.pci_picture.specs.Lines.{is_feed, region_lines}
 use Rattle.pci_picture.specs.Maps.{AreMembersOf, IsReadOf, lines_of_regions, regions_under, regions_of_members, regions_placed, lines_read}
+use Rattle.pci_picture.specs.Roots.{IsHomed, Listed}
 use Rattle.pci_picture.specs.Spots.{BoxSpot, spot_at, lines_drawn, all_of}
 use Rattle.pci_picture.specs.declared.canvas.Canvas.{Canvas}
 use Rattle.pci_picture.specs.declared.map.Line.{Line}
@@ -142,11 +143,12 @@ section_more members part begin end y bottom member first before after up within
       adds = then_adds done.spots adds.spots first before after done.adds adds.adds;
     }
 
-pub all_sections : {A : Type 0} (lines : List Line) (members : List Member) (begin y : ℕ) (first after : Canvas A) → length members ≤ begin
-    → AreMembersOf lines members → AddsSome (AreGrouped members begin y) first after → AddsSome (AreOfSections lines y) first after
-all_sections lines members begin y first after past are done = record {
+pub all_sections : {A : Type 0} (functions : List Listed) (lines : List Line) (members : List Member) (begin y : ℕ) (first after : Canvas A) → length members ≤ begin
+    → AreMembersOf lines members → All (IsHomed functions) members → AddsSome (AreGrouped members begin y) first after
+    → AddsSome (AreOfSections functions lines y) first after
+all_sections functions lines members begin y first after past are homed done = record {
   spots = done.spots;
-  hold = grouped lines members begin y done.spots past are done.hold;
+  hold = grouped functions lines members begin y done.spots past are homed done.hold;
   adds = done.adds;
 }
 
@@ -157,32 +159,35 @@ sorted_members lines before after is moved =
 
 -- ---- the whole
 
-pub whole_picture : {A T E : Type 0} (map : List ℕ) (read : Map A) (new before between last : Canvas A) (y height : ℕ) (result : Result T E) (bytes : T → List ℕ)
+pub whole_picture : {A T E : Type 0} (functions : List Listed) (map : List ℕ) (read : Map A) (new before between last : Canvas A) (y height : ℕ) (result : Result T E) (bytes : T → List ℕ)
     → IsReadOf (slice_split is_feed map) read → y ≤ height
-    → HasDrawn [] new → AddsToCanvas [] new before → AddsSome (AreOfSections read.lines.items y) before between
+    → HasDrawn [] new → AddsToCanvas [] new before → AddsSome (AreOfSections functions read.lines.items y) before between
     → AddsSome (λ spots. lines_drawn spots ≡ lines_of_regions read.off.items) between last
     → ((spots : List BoxSpot) → HasDrawn spots last → IfOk result (λ text. IsDrawnOf spots height (bytes text)))
-    → IfOk result (λ text. IsPictureOf map (bytes text))
-whole_picture map read new before between last y height (Err e) bytes told down none kept some off finished = tt
-whole_picture map read new before between last y height (Ok text) bytes told down none kept some off finished =
+    → IfOk result (λ text. IsHomedBy functions map (bytes text))
+whole_picture functions map read new before between last y height (Err e) bytes told down none kept some off finished = tt
+whole_picture functions map read new before between last y height (Ok text) bytes told down none kept some off finished =
     let joined : some.spots ++ off.spots ≡ all_of some.hold.sections ++ off.spots = ap (λ l. l ++ off.spots) (sym some.hold.joined) in
     let both : lines_drawn (some.spots ++ off.spots) ≡ lines_drawn some.spots ++ lines_of_regions read.off.items =
     map-append (λ s. s.line) some.spots off.spots ∙ ap (λ l. lines_drawn some.spots ++ l) off.hold in
     record {
-      sections = some.hold.sections;
-      off = off.spots;
-      each_once =
-          subst (λ l. IsPermutation (region_lines map) (lines_drawn l)) joined
-          (subst (λ l. IsPermutation (region_lines map) l) (sym both)
-          (IsPermutation-trans (region_lines map) (lines_read read) (lines_drawn some.spots ++ lines_of_regions read.off.items) told.each_once
-          (IsPermutation-append_left (lines_of_regions read.off.items) (lines_of_regions (regions_under read.lines.items)) (lines_drawn some.spots) some.hold.each_once)));
-      below_headings =
-          sections_of_all (headed_regions map) some.hold.sections
-          (subst (λ l. AreSectionsOf l some.hold.sections) told.kept some.hold.below_headings);
-      below_none = off.hold ∙ told.off;
-      height = height;
-      drawn =
-          subst (λ l. IsDrawnOf l height (bytes text)) joined
-          (finished (some.spots ++ off.spots) (off.adds.behind some.spots (some.adds.behind [] (kept.behind [] none))));
-      stand = λ small. some.hold.stand (omega (arith, down, small));
+      picture = record {
+        sections = some.hold.sections;
+        off = off.spots;
+        each_once =
+            subst (λ l. IsPermutation (region_lines map) (lines_drawn l)) joined
+            (subst (λ l. IsPermutation (region_lines map) l) (sym both)
+            (IsPermutation-trans (region_lines map) (lines_read read) (lines_drawn some.spots ++ lines_of_regions read.off.items) told.each_once
+            (IsPermutation-append_left (lines_of_regions read.off.items) (lines_of_regions (regions_under read.lines.items)) (lines_drawn some.spots) some.hold.each_once)));
+        below_headings =
+            sections_of_all (headed_regions map) some.hold.sections
+            (subst (λ l. AreSectionsOf l some.hold.sections) told.kept some.hold.below_headings);
+        below_none = off.hold ∙ told.off;
+        height = height;
+        drawn =
+            subst (λ l. IsDrawnOf l height (bytes text)) joined
+            (finished (some.spots ++ off.spots) (off.adds.behind some.spots (some.adds.behind [] (kept.behind [] none))));
+        stand = λ small. some.hold.stand (omega (arith, down, small));
+      };
+      homed = some.hold.homed;
     }

@@ -1,10 +1,11 @@
 -- Which boxes a picture has, by their titles and where they stand.
 use Rattle.std.specs.Prelude.{◌≡◌, ℕ, Bool, List, [], ◌∷◌, ◌++◌, if◌then◌else◌, map}
-use Rattle.std.specs.List.{flat_map}
+use Rattle.std.specs.List.{All, flat_map}
 use Rattle.std.specs.List.Sorted.{IsPermutation}
 use Rattle.pci_picture.specs.Elements.{box_text, words_text, axis_text, tick_text, gap_text}
 use Rattle.pci_picture.specs.Headings.{AreSectionsOf, headed_regions, is_below_no_heading, lines_below_headings}
 use Rattle.pci_picture.specs.Lines.{is_feed, line_if_region, region_lines}
+use Rattle.pci_picture.specs.Roots.{IsHomedSection, Listed}
 use Rattle.pci_picture.specs.Spots.{Section, BoxSpot, spot_at, lines_drawn, all_of, EachStands}
 use Rattle.pci_picture.specs.Whole.{picture_text}
 
@@ -77,6 +78,12 @@ pub record IsPictureOf (map text : List ℕ) : Type 0 where
   pub height : ℕ
   pub drawn : IsDrawnOf (all_of sections ++ off) height text
   pub stand : EachStands height sections
+
+-- the same, where each region out of place is in the section of the root from which its bus is reached, by the functions that
+-- are listed, and of its space
+pub record IsHomedBy (functions : List Listed) (map text : List ℕ) : Type 0 where
+  pub picture : IsPictureOf map text
+  pub homed : All (IsHomedSection functions) picture.sections
 
 -- sections that have what stands below their headings and what is out of place, and a list of what is off, have each region of
 -- the map exactly once, as often as it stands there

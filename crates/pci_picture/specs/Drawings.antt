@@ -4,6 +4,7 @@ use Rattle.std.specs.List.{All, AllPairs, flat_map}
 use Rattle.std.specs.List.Sorted.{IsPermutation, IsNonDecreasingBy}
 use Rattle.pci_picture.specs.Headings.{AreSectionsOf, is_lost, lines_below_headings}
 use Rattle.pci_picture.specs.Maps.{headed_line, headed_member, lines_of_regions, regions_of_members, regions_under}
+use Rattle.pci_picture.specs.Roots.{IsHomedSection, Listed}
 use Rattle.pci_picture.specs.Spots.{Section, BoxSpot, first_address, region_last_address, lines_drawn, all_of, Rise, AreBoxesStanding, EachStands}
 use Rattle.pci_picture.specs.Stacked.{height_at}
 use Rattle.pci_picture.specs.declared.heights.Run.{Run}
@@ -72,10 +73,12 @@ pub record AreGrouped (members : List Member) (count end : ℕ) (spots : List Bo
       → All (λ section. section.number < (slice_index_or members count d).section) (sections_of groups)
   pub stand : EachStands end (sections_of groups)
 
--- the boxes of lines in sections, of which the last one ends at a height: each region once
-pub record AreOfSections (lines : List Line) (end : ℕ) (spots : List BoxSpot) : Type 0 where
+-- the boxes of lines in sections, of which the last one ends at a height: each region once. What is out of place is in the
+-- section of the root, by the functions that are listed
+pub record AreOfSections (functions : List Listed) (lines : List Line) (end : ℕ) (spots : List BoxSpot) : Type 0 where
   pub sections : List Section
   pub joined : all_of sections ≡ spots
   pub each_once : IsPermutation (lines_of_regions (regions_under lines)) (lines_drawn spots)
   pub below_headings : AreSectionsOf (map headed_line lines) sections
+  pub homed : All (IsHomedSection functions) sections
   pub stand : EachStands end sections

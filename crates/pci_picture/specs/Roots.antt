@@ -1,10 +1,12 @@
 -- From which root bus a bus is reached, and in which section a region out of place is drawn.
-use Rattle.std.specs.Prelude.{◌≡◌, ◌<◌, ℕ, zero, suc, Bool, false, ◌==◌, Option, Some, None, unwrap_or, List, [], ◌∷◌, map, slice_index, slice_index_or, if◌then◌else◌}
-use Rattle.std.specs.List.{filter}
+use Rattle.std.specs.Prelude.{◌≡◌, ◌<◌, ℕ, zero, suc, Bool, false, ◌==◌, IsTrue, Option, Some, None, unwrap_or, List, [], ◌∷◌, map, slice_index, slice_index_or, if◌then◌else◌}
+use Rattle.std.specs.List.{All, filter}
 use Rattle.pci_picture.specs.Headings.{number_of_section}
 use Rattle.pci_picture.specs.Slots.{bus_of_line, bus_of_slot, is_io_line}
+use Rattle.pci_picture.specs.Spots.{Section}
 use Rattle.pci_picture.specs.declared.function.Buses.{Buses}
 use Rattle.pci_picture.specs.declared.function.Function.{Function}
+use Rattle.pci_picture.specs.declared.plan.Member.{Member}
 
 -- a function that is listed: the number of its slot, and the secondary bus of a bridge
 pub record Listed : Type 0 where
@@ -43,6 +45,14 @@ root_of functions bus = go_up (bus_above functions) 256 bus
 -- the number of the section of a region out of place: that of the root from which its bus is reached, and of its space
 abbrev pub home_of : List Listed → List ℕ → ℕ
 home_of functions line = number_of_section (root_of functions (bus_of_line line)) (is_io_line line)
+
+-- in a section are those regions out of place whose home it is
+abbrev pub IsHomedSection : List Listed → Section → Type 0
+IsHomedSection functions section = All (λ line. section.number ≡ home_of functions line) section.lost
+
+-- a member out of place has the number of its home
+abbrev pub IsHomed : List Listed → Member → Type 0
+IsHomed functions member = IsTrue member.is_lost → member.section ≡ home_of functions member.region.line.now
 
 -- ---- the functions of a board
 

@@ -1,10 +1,12 @@
 //! The picture of a board.
 ghost use Rattle.std.specs.Prelude.{◌≡◌, ◌<◌, ◌≤◌, [], ◌∷◌, length, IfOk, OnOk};
+ghost use Rattle.std.specs.List.{All};
 ghost use Rattle.std.specs.String.{string_bytes};
 ghost use Rattle.pci_picture.specs.Boxes.{IsPictureOf};
 ghost use Rattle.pci_picture.specs.Canvases.{AddsToCanvas, AddsSome};
 ghost use Rattle.pci_picture.specs.Drawings.{AreOfSections, IsRunOfSection};
 ghost use Rattle.pci_picture.specs.Maps.{AreMembersOf, lines_of_regions};
+ghost use Rattle.pci_picture.specs.Roots.{IsHomed, listed_functions};
 ghost use Rattle.pci_picture.specs.Spots.{lines_drawn, spot_at};
 ghost use Rattle.pci_picture.specs.Whole.{IsPictureText};
 
@@ -150,7 +152,8 @@ fn members<'a, A: Allocator + Copy>(
     alloc: A,
     board: &Board<'a, A>,
 ) -> Result<Vec<Member<'a>, A>, OutOfMemory>
-    ensures { IfOk result (λ members. AreMembersOf board.entry.now.map.lines.items members.items) }
+    ensures moved { IfOk result (λ members. AreMembersOf board.entry.now.map.lines.items members.items) }
+    ensures homed { IfOk result (λ members. All (IsHomed (listed_functions board.entry.now.functions.items)) members.items) }
 {
     let roots = board.roots();
     let mut members = Vec::new(alloc);
@@ -195,7 +198,7 @@ fn draw_sections<A: Allocator + Copy>(
     first: &Site,
 ) -> Result<u64, OutOfMemory>
     ensures drawn { IfOk result (λ end. AddsSome
-        (AreOfSections board.entry.now.map.lines.items end) canvas.old canvas.new) }
+        (AreOfSections (listed_functions board.entry.now.functions.items) board.entry.now.map.lines.items end) canvas.old canvas.new) }
     ensures down { IfOk result (λ end. first.now.y ≤ end) }
 {
     let sorted = members(alloc, board)?;

@@ -1,0 +1,67 @@
+-- In which section a region out of place is.
+use Rattle.std.proofs.Common.{◌≡◌, ◌<◌, ◌==◌, ℕ, Bool, true, false, not, refl, if◌then◌else◌, Option, Some, None, unwrap_or, IsTrue, List, [], ◌∷◌, ◌++◌, map, get_or, sym, ap, ap₂, subst, ◌∙◌}
+use Rattle.std.specs.Prelude.{is_some}
+use Rattle.std.specs.List.{All}
+use Rattle.std.proofs.lemmas.List.Elements.{All-cons, All-head, All-nil, All-push, All-tail}
+use Rattle.pci_picture.specs.Drawings.{Group, IsGroup, members_of_groups, sections_of}
+use Rattle.pci_picture.specs.Headings.{Headed, headed, is_lost, lines_below_headings, number_of_section}
+use Rattle.pci_picture.specs.Maps.{headed_member}
+use Rattle.pci_picture.specs.Roots.{AreRoots, IsHomed, IsHomedSection, Listed, home_of, root_of}
+use Rattle.pci_picture.specs.Slots.{IsOfLine, bus_of_line, bus_of_slot, is_io_line, slot_of_key}
+use Rattle.pci_picture.specs.declared.map.Heading.TheVariants.{Section as InSection, Lost}
+use Rattle.pci_picture.specs.declared.plan.Member.{Member}
+
+-- ---- a member
+
+pub home_told : (functions : List Listed) (roots : List ℕ) (line : List ℕ) (key digits slot bus number : ℕ) → AreRoots functions roots → IsOfLine line key digits
+    → slot ≡ slot_of_key key → bus ≡ bus_of_slot slot → bus < 256 → number ≡ number_of_section (get_or roots bus 0) (digits == 8)
+    → number ≡ home_of functions line
+home_told functions roots line key digits slot bus number are of_line is_slot is_bus small is =
+    let there : bus ≡ bus_of_line line = is_bus ∙ ap bus_of_slot is_slot ∙ of_line.bus in
+    is ∙ ap₂ number_of_section (are bus small ∙ ap (root_of functions) there) of_line.space
+
+pub home_if_lost : (told : Option ℕ) (number section home : ℕ) (lost : Bool) → is_some told ≡ not lost → section ≡ unwrap_or told number → number ≡ home
+    → IsTrue lost → section ≡ home
+home_if_lost (Some n) number section home true is same at holds = absurd (cc)
+home_if_lost (Some n) number section home false is same at holds = absurd (cc)
+home_if_lost None number section home lost is same at holds = same ∙ at
+
+-- ---- the members of a section
+
+abbrev IsAt : List Listed → ℕ → List ℕ → Type 0
+IsAt functions number line = number ≡ home_of functions line
+
+one_more : (lost : Bool) (functions : List Listed) (number section : ℕ) (line : List ℕ) (rest : List Headed)
+    → (IsTrue lost → section ≡ home_of functions line) → section ≡ number → All (IsAt functions number) (lines_below_headings is_lost rest)
+    → All (IsAt functions number) (lines_below_headings is_lost (headed (if lost then Lost else InSection section) line ∷ rest))
+one_more true functions number section line rest home is before =
+    All-cons (IsAt functions number) line (lines_below_headings is_lost rest) (sym is ∙ home refl) before
+one_more false functions number section line rest home is before = before
+
+lost_at : (functions : List Listed) (number : ℕ) (members : List Member) → All (IsHomed functions) members → All (λ member. member.section ≡ number) members
+    → All (IsAt functions number) (lines_below_headings is_lost (map headed_member members))
+lost_at functions number [] homed alike = All-nil (IsAt functions number)
+lost_at functions number (member ∷ members) homed alike =
+    one_more member.is_lost functions number member.section member.region.line.now (map headed_member members)
+    (All-head (IsHomed functions) member members homed) (All-head (λ m. m.section ≡ number) member members alike)
+    (lost_at functions number members (All-tail (IsHomed functions) member members homed) (All-tail (λ m. m.section ≡ number) member members alike))
+
+-- ---- of all sections
+
+front_of : {X : Type 0} (P : X → Type 0) (xs ys : List X) → All P (xs ++ ys) → All P xs
+front_of P [] ys all = All-nil P
+front_of P (x ∷ xs) ys all = All-cons P x xs (All-head P x (xs ++ ys) all) (front_of P xs ys (All-tail P x (xs ++ ys) all))
+
+back_of : {X : Type 0} (P : X → Type 0) (xs ys : List X) → All P (xs ++ ys) → All P ys
+back_of P [] ys all = all
+back_of P (x ∷ xs) ys all = back_of P xs ys (All-tail P x (xs ++ ys) all)
+
+pub homed_groups : (functions : List Listed) (groups : List Group) → All IsGroup groups → All (IsHomed functions) (members_of_groups groups)
+    → All (IsHomedSection functions) (sections_of groups)
+homed_groups functions [] each homed = All-nil (IsHomedSection functions)
+homed_groups functions (group ∷ groups) each homed =
+    let one : IsGroup group = All-head IsGroup group groups each in
+    All-cons (IsHomedSection functions) group.section (sections_of groups)
+    (subst (All (IsAt functions group.section.number)) (sym one.lost)
+    (lost_at functions group.section.number group.members (front_of (IsHomed functions) group.members (members_of_groups groups) homed) one.alike))
+    (homed_groups functions groups (All-tail IsGroup group groups each) (back_of (IsHomed functions) group.members (members_of_groups groups) homed))
