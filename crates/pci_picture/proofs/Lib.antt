@@ -20,6 +20,7 @@ pub mod Homes
 pub mod Groups
 pub mod Once
 pub mod Sections
+pub mod Pictured
 pub mod Roots
 pub mod HexDigits
 pub mod DecimalDigits

@@ -1,5 +1,7 @@
 use Rattle.std.proofs.Common.{arith, refl, sym, subst}
+use Rattle.std.specs.List.{All}
 use Rattle.pci_picture.specs.Maps.{AreMembersOf}
+use Rattle.pci_picture.specs.Roots.{IsHomed, listed_functions}
 use Rattle.pci_picture.proofs.Boxes.{up_to}
 use Rattle.pci_picture.proofs.Sections.{no_section, section_more, all_sections}
 use Rattle.pci_picture.proofs.picture.draw_sections.Goals as goal
@@ -13,7 +15,7 @@ loop-begin-init g c = record {
 
 pub loop-begin-preserved : goal.loop-begin-preserved
 loop-begin-preserved g c =
-    let are = subst (AreMembersOf c.args.board.now.map.lines.items) (sym c.as_slice-members.ensures.value) c.in_ok-sorted.ensures in
+    let are = subst (AreMembersOf c.args.board.now.map.lines.items) (sym c.as_slice-members.ensures.value) c.in_ok-sorted.ensures.moved in
     record {
       within = c.section_end-end.ensures.within;
       down = up_to c.args.first.now.y c.loop-begin.y c.in_ok-y.y c.loop-begin.invariant.down c.in_ok-y.ensures.down;
@@ -26,6 +28,8 @@ loop-begin-preserved g c =
 
 pub returns-clause-drawn : goal.returns-clause-drawn
 returns-clause-drawn g c =
-    all_sections c.args.board.now.map.lines.items c.as_slice-members.result.now c.loop-begin.begin c.loop-begin.y c.args.canvas.now c.loop-begin.canvas
-    (omega arith) (subst (AreMembersOf c.args.board.now.map.lines.items) (sym c.as_slice-members.ensures.value) c.in_ok-sorted.ensures)
+    let functions = listed_functions c.args.board.now.functions.items in
+    all_sections functions c.args.board.now.map.lines.items c.as_slice-members.result.now c.loop-begin.begin c.loop-begin.y c.args.canvas.now c.loop-begin.canvas
+    (omega arith) (subst (AreMembersOf c.args.board.now.map.lines.items) (sym c.as_slice-members.ensures.value) c.in_ok-sorted.ensures.moved)
+    (subst (All (IsHomed functions)) (sym c.as_slice-members.ensures.value) c.in_ok-sorted.ensures.homed)
     c.loop-begin.invariant.adds
