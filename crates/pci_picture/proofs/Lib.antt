@@ -20,6 +20,8 @@ pub mod Homes
 pub mod Groups
 pub mod Once
 pub mod Sections
+pub mod Listings
+pub mod Feeds
 pub mod Pictured
 pub mod Roots
 pub mod HexDigits

@@ -12,3 +12,5 @@ pub mod Drawings
 pub mod Cuts
 pub mod Slots
 pub mod Roots
+pub mod Listings
+pub mod Homed

@@ -3,11 +3,13 @@ ghost use Rattle.std.specs.Prelude.{◌≡◌, [], ◌∷◌, Some, None, unwrap
 ghost use Rattle.std.specs.List.{slice_split};
 ghost use Rattle.pci_picture.specs.Boxes.{titled_line};
 ghost use Rattle.pci_picture.specs.Lines.{is_feed};
+ghost use Rattle.pci_picture.specs.Listings.{AreListedIn};
 ghost use Rattle.pci_picture.specs.Maps.{IsReadOf};
 ghost use Rattle.pci_picture.specs.Roots.{AreAbove, AreRoots, go_up, listed_functions};
 
 use super::faults::{Fault, Faults};
-use super::function::{Buses, Function, Span, find, give_titles, read_functions};
+use super::function::{Buses, Function, Span, find};
+use super::listing::{give_titles, read_functions};
 use super::map::Map;
 use super::memory::OutOfMemory;
 use super::reading::{bus_of, slot_of};
@@ -56,17 +58,17 @@ fn starts_of(functions: &[Function<'_>]) -> [usize; 257] {
 fn names_of<A: Allocator + Copy>(
     alloc: A,
     functions: &mut [Function<'_>],
-) -> Result<Words<A>, OutOfMemory> {
+) -> Result<Words<A>, OutOfMemory>
+    ensures { listed_functions functions.new ≡ listed_functions functions.old }
+{
     let mut names = Words::new(alloc);
     for index in 0..functions.len() {
         let begin = names.bytes.len();
-        if let Some(function) = functions.get_mut(index) {
-            names.put_name(function)?;
-            function.name = Span {
-                begin,
-                end: names.bytes.len(),
-            };
-        }
+        names.put_name(&functions[index])?;
+        functions[index].name = Span {
+            begin,
+            end: names.bytes.len(),
+        };
     }
     Ok(names)
 }
@@ -113,7 +115,8 @@ fn root_from(above: &[Option<u8>; 256], bus: u8) -> u8
 impl<'a, A: Allocator + Copy> Board<'a, A> {
     /// Reads the board from the texts.
     pub fn read(alloc: A, texts: &Texts<'a>) -> Result<Board<'a, A>, OutOfMemory>
-        ensures { IfOk result (λ board. IsReadOf (slice_split is_feed texts.entry.now.map.now) board.map) }
+        ensures map { IfOk result (λ board. IsReadOf (slice_split is_feed texts.entry.now.map.now) board.map) }
+        ensures show { IfOk result (λ board. AreListedIn texts.entry.now.show.now (listed_functions board.functions.items)) }
     {
         let mut functions = read_functions(alloc, texts.show)?;
         give_titles(&mut functions, texts.titles);

@@ -14,6 +14,7 @@ pub mod heights;
 pub mod lanes;
 pub mod laws;
 pub mod legend;
+pub mod listing;
 pub mod map;
 pub mod memory;
 pub mod picture;

@@ -1,12 +1,13 @@
 //! The picture of a board.
-ghost use Rattle.std.specs.Prelude.{◌≡◌, ◌<◌, ◌≤◌, List, [], ◌∷◌, length, IfOk, OnOk};
+ghost use Rattle.std.specs.Prelude.{◌≡◌, ◌<◌, ◌≤◌, [], ◌∷◌, length, IfOk, OnOk};
 ghost use Rattle.std.specs.List.{All};
 ghost use Rattle.std.specs.String.{string_bytes};
-ghost use Rattle.pci_picture.specs.Boxes.{IsHomedBy, IsPictureOf};
+ghost use Rattle.pci_picture.specs.Boxes.{IsPictureOf};
 ghost use Rattle.pci_picture.specs.Canvases.{AddsToCanvas, AddsSome};
 ghost use Rattle.pci_picture.specs.Drawings.{AreOfSections, IsRunOfSection};
+ghost use Rattle.pci_picture.specs.Homed.{IsHomedIn};
 ghost use Rattle.pci_picture.specs.Maps.{AreMembersOf, lines_of_regions};
-ghost use Rattle.pci_picture.specs.Roots.{IsHomed, Listed, listed_functions};
+ghost use Rattle.pci_picture.specs.Roots.{IsHomed, listed_functions};
 ghost use Rattle.pci_picture.specs.Spots.{lines_drawn, spot_at};
 ghost use Rattle.pci_picture.specs.Whole.{IsPictureText};
 
@@ -313,8 +314,9 @@ pub fn picture_of<A: Allocator + Copy>(
     // each line of the map that is a region is the first line of the title of exactly one box. A section has the regions
     // below its headings, and in it the boxes stand at the heights of their addresses
     ensures drawn { IfOk result (λ text. IsPictureOf texts.entry.now.map.now (string_bytes text)) }
-    // by some list of functions each region out of place is in the section of the root of its bus, and of its space
-    ensures homed { IfOk result (λ text. (functions : List Listed) × IsHomedBy functions texts.entry.now.map.now (string_bytes text)) }
+    // a region out of place is drawn in the section of the root from which its bus is reached, by the functions that `show`
+    // lists, and of its space
+    ensures homed { IfOk result (λ text. IsHomedIn texts.entry.now.show.now texts.entry.now.map.now (string_bytes text)) }
 {
     let board = Board::read(alloc, texts)?;
     let levels = board.map.depth() as u64;

@@ -1,8 +1,10 @@
 //! Words, numbers and slots of a line.
 ghost use Rattle.std.specs.Prelude.{◌≡◌, ◌≤◌, ◌<◌, length, is_some, IfSome};
+ghost use Rattle.std.specs.List.{after_first, before_first, position_or_len};
+ghost use Rattle.pci_picture.specs.Listings.{first_of_16, slot_value};
 ghost use Rattle.pci_picture.specs.Slots.{bus_of_slot, bus_of_word, digits_of_word, slot_of_key};
 ghost use Rattle.pci_picture.specs.Spots.{IsExtentWord};
-ghost use Rattle.pci_picture.specs.Lines.{leading_blanks, unindented_line, words_in_line, nth_word, digit_of, hex_number_of, decimal_digit_of, decimal_number, is_register, is_slot, is_range, is_told_number, hex_value};
+ghost use Rattle.pci_picture.specs.Lines.{leading_blanks, unindented_line, words_in_line, is_feed, nth_word, digit_of, hex_number_of, decimal_digit_of, decimal_number, is_register, is_slot, is_range, is_told_number, hex_value};
 
 use std::simd::prelude::*;
 
@@ -41,30 +43,63 @@ pub fn stripped(line: &[u8]) -> &[u8]
     &line[indent(line)..]
 }
 
+/// The place of the lowest of sixteen bits that is set, 16 where none is.
+#[inline(always)]
+fn first_of_16(bits: u64) -> usize
+    ensures { result ≡ first_of_16 bits }
+{
+    if bits == 0 {
+        16
+    } else {
+        bits.trailing_zeros() as usize
+    }
+}
+
+/// How many of sixteen bytes stand before the first line feed.
+#[inline(always)]
+fn feed_of_16(sixteen: &[u8; 16]) -> usize
+    ensures { result ≡ position_or_len is_feed sixteen.now }
+{
+    let feeds = u8x16::from_array(*sixteen).simd_eq(u8x16::splat(b'\n'));
+    first_of_16(feeds.to_bitmask())
+}
+
+/// How many bytes stand before the first line feed.
+fn feed_in(bytes: &[u8]) -> usize
+    ensures value { result ≡ position_or_len is_feed bytes.now }
+    ensures within { result ≤ length bytes.now }
+{
+    bytes
+        .iter()
+        .position(|byte| *byte == b'\n')
+        .unwrap_or(bytes.len())
+}
+
 /// How many bytes of a text stand before its first line feed. Most lines are long, so it looks at sixteen bytes at once.
-fn line_length(text: &[u8]) -> usize {
+fn line_length(text: &[u8]) -> usize
+    ensures { result ≡ position_or_len is_feed text.now }
+{
     let mut length = 0usize;
     let mut rest = text;
     for _ in 0..text.len() {
         let Some((sixteen, behind)) = rest.split_first_chunk::<16>() else {
             break;
         };
-        let feeds = u8x16::from_array(*sixteen).simd_eq(u8x16::splat(b'\n'));
-        let bits = feeds.to_bitmask();
-        if bits != 0 {
-            return length.saturating_add(bits.trailing_zeros() as usize);
+        let place = feed_of_16(sixteen);
+        length = length.saturating_add(place);
+        if place < 16 {
+            return length;
         }
-        length = length.saturating_add(16);
         rest = behind;
     }
-    match rest.iter().position(|byte| *byte == b'\n') {
-        Some(place) => length.saturating_add(place),
-        None => text.len(),
-    }
+    length.saturating_add(feed_in(rest))
 }
 
 /// The first line of a text, and what stands behind its line feed.
-pub fn cut_line(text: &[u8]) -> (&[u8], &[u8]) {
+pub fn cut_line(text: &[u8]) -> (&[u8], &[u8])
+    ensures line { result.0.now ≡ before_first is_feed text.now }
+    ensures behind { result.1.now ≡ after_first is_feed text.now }
+{
     let length = line_length(text);
     (
         text.get(..length).unwrap_or(text),
@@ -114,8 +149,9 @@ pub fn hex_byte(digits: &[u8]) -> Option<u8>
 }
 
 /// The number of a slot `bb:dd.f`, in hex `bbddf`.
-#[tactic(auto, unfolding(crate::specs::Lines::is_slot, crate::specs::Slots::bus_of_slot))]
+#[tactic(auto, unfolding(crate::specs::Lines::is_slot, crate::specs::Slots::bus_of_slot, crate::specs::Listings::slot_value))]
 pub fn slot_number(text: &[u8]) -> Option<u32>
+    ensures value { IfSome result (λ number. number ≡ slot_value text.now) }
     ensures some { is_some result ≡ is_slot text.now }
     ensures bus { IfSome result (λ number. bus_of_slot number ≡ bus_of_word text.now) }
 {

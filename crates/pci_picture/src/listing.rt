@@ -1,0 +1,110 @@
+//! The functions that the text of `show` lists.
+ghost use Rattle.std.specs.Prelude.{◌≡◌, is_some, IfOk, IfSome, OnOk};
+ghost use Rattle.pci_picture.specs.Listings.{AreListedIn, functions_listed, is_bus_line, is_function_line, list_line, told_function, told_secondary};
+ghost use Rattle.pci_picture.specs.Roots.{listed_function, listed_functions};
+
+use super::function::{Buses, Function, Span};
+use super::memory::OutOfMemory;
+use super::reading::{cut_line, hex_byte, hex_number, slot_number, stripped, word};
+use std::alloc::Allocator;
+
+/// The function of a line `S type T vendor V device D class C command X status X`.
+#[tactic(auto, unfolding(crate::specs::Listings::is_function_line))]
+fn function_of(line: &[u8]) -> Option<Function<'_>>
+    ensures some { is_some result ≡ is_function_line line.now }
+    ensures told { IfSome result (λ function. listed_function function ≡ told_function line.now) }
+{
+    let slot = line.get(..7)?;
+    let number = slot_number(slot)?;
+    let command = hex_number(word(line, 10))?;
+    Some(Function {
+        slot,
+        number,
+        vendor: word(line, 4),
+        device: word(line, 6),
+        class: word(line, 8),
+        is_on: command & 3 != 0,
+        buses: None,
+        title: &[],
+        name: Span { begin: 0, end: 0 },
+    })
+}
+
+/// The buses of a line `bus P S B`.
+#[tactic(auto, unfolding(crate::specs::Listings::is_bus_line))]
+fn buses_of(line: &[u8]) -> Option<Buses>
+    ensures some { is_some result ≡ is_bus_line line.now }
+    ensures told { IfSome result (λ buses. buses.secondary ≡ told_secondary line.now) }
+{
+    if !stripped(line).starts_with(b"bus ") {
+        return None;
+    }
+    Some(Buses {
+        secondary: hex_byte(word(line, 2))?,
+        subordinate: hex_byte(word(line, 3))?,
+    })
+}
+
+/// Reads a line of a listing: a function, or the buses of the one before.
+fn take_line<'a, A: Allocator + Copy>(
+    functions: &mut Vec<Function<'a>, A>,
+    line: &'a [u8],
+) -> Result<(), OutOfMemory>
+    ensures { OnOk result (listed_functions functions.new.items ≡ list_line (listed_functions functions.old.items) line.entry.now) }
+{
+    if let Some(function) = function_of(line) {
+        functions.push(function)?;
+    } else if let Some(buses) = buses_of(line) {
+        let count = functions.len();
+        if count != 0 {
+            functions[count - 1].buses = Some(buses);
+        }
+    }
+    Ok(())
+}
+
+/// The functions of a listing, in their order.
+fn functions_of<'a, A: Allocator + Copy>(
+    alloc: A,
+    show: &'a [u8],
+) -> Result<Vec<Function<'a>, A>, OutOfMemory>
+    ensures { IfOk result (λ functions. listed_functions functions.items ≡ functions_listed show.entry.now) }
+{
+    let mut functions = Vec::new(alloc);
+    let mut rest = show;
+    while !rest.is_empty() {
+        let (line, behind) = cut_line(rest);
+        take_line(&mut functions, line)?;
+        rest = behind;
+    }
+    Ok(functions)
+}
+
+/// The functions of a listing by rising slot.
+pub fn read_functions<'a, A: Allocator + Copy>(
+    alloc: A,
+    show: &'a str,
+) -> Result<Vec<Function<'a>, A>, OutOfMemory>
+    ensures { IfOk result (λ functions. AreListedIn show.entry.now (listed_functions functions.items)) }
+{
+    let mut functions = functions_of(alloc, show.as_bytes())?;
+    functions.sort_by_key(|function| function.number)?;
+    Ok(functions)
+}
+
+/// Gives functions their titles: what stands behind the slot of each slot line.
+pub fn give_titles<'a>(functions: &mut [Function<'a>], titles: &'a [u8])
+    ensures { listed_functions functions.new ≡ listed_functions functions.old }
+{
+    for line in titles.split(|byte| *byte == b'\n') {
+        if line.len() < 9 || line[7] != b' ' {
+            continue;
+        }
+        if let Some(number) = slot_number(&line[..7]) {
+            let index = functions.partition_point(|function| function.number < number);
+            if index < functions.len() && functions[index].number == number {
+                functions[index].title = &line[8..];
+            }
+        }
+    }
+}
