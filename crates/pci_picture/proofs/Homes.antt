@@ -2,12 +2,12 @@
 use Rattle.std.proofs.Common.{◌≡◌, ◌<◌, ◌==◌, ℕ, Bool, true, false, not, refl, if◌then◌else◌, Option, Some, None, unwrap_or, IsTrue, List, [], ◌∷◌, ◌++◌, map, get_or, sym, ap, ap₂, subst, ◌∙◌}
 use Rattle.std.specs.Prelude.{is_some}
 use Rattle.std.specs.List.{All}
-use Rattle.std.proofs.lemmas.List.Elements.{All-cons, All-head, All-nil, All-push, All-tail}
+use Rattle.std.proofs.lemmas.List.Elements.{All-cons, All-head, All-nil, All-tail}
 use Rattle.pci_picture.specs.Drawings.{Group, IsGroup, members_of_groups, sections_of}
 use Rattle.pci_picture.specs.Headings.{Headed, headed, is_lost, lines_below_headings, number_of_section}
 use Rattle.pci_picture.specs.Maps.{headed_member}
 use Rattle.pci_picture.specs.Roots.{AreRoots, IsHomed, IsHomedSection, Listed, home_of, root_of}
-use Rattle.pci_picture.specs.Slots.{IsOfLine, bus_of_line, bus_of_slot, is_io_line, slot_of_key}
+use Rattle.pci_picture.specs.Slots.{IsOfLine, bus_of_line, bus_of_slot, slot_of_key}
 use Rattle.pci_picture.specs.declared.map.Heading.TheVariants.{Section as InSection, Lost}
 use Rattle.pci_picture.specs.declared.plan.Member.{Member}
 

@@ -1,5 +1,5 @@
 -- Which functions the text of `show` lists.
-use Rattle.std.specs.Prelude.{◌≡◌, ℕ, Bool, ◌+◌, ◌*◌, ◌&&◌, ◌==◌, Some, None, List, [], ◌∷◌, ◌++◌, take, drop, fold, slice_index, nat_eq, codes, if◌then◌else◌}
+use Rattle.std.specs.Prelude.{ℕ, Bool, ◌+◌, ◌*◌, ◌&&◌, ◌==◌, Some, None, List, [], ◌∷◌, ◌++◌, take, drop, fold, slice_index, nat_eq, codes, if◌then◌else◌}
 use Rattle.std.specs.Int.{w64, trailing_zeros}
 use Rattle.std.specs.List.{slice_split, starts_with}
 use Rattle.std.specs.List.Sorted.{IsPermutation, IsNonDecreasingBy}

@@ -1,4 +1,4 @@
-use Rattle.std.proofs.Common.{◌+◌, rules, length, take, set, Some, ap, subst, ◌∙◌, sym}
+use Rattle.std.proofs.Common.{◌+◌, rules, length, take, set, ap, subst, ◌∙◌, sym}
 use Rattle.std.proofs.lemmas.List.{length-set, take_all}
 use Rattle.pci_picture.specs.Roots.{AreBridges, listed_functions}
 use Rattle.pci_picture.proofs.Roots.{above_all, bridges_more, bridges_none, bridges_same}

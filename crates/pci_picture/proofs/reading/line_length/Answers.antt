@@ -1,4 +1,4 @@
-use Rattle.std.proofs.Common.{◌+◌, ◌≡◌, ◌≤◌, arith, length}
+use Rattle.std.proofs.Common.{◌≡◌, ◌≤◌, arith, length}
 use Rattle.std.specs.List.{position_or_len}
 use Rattle.pci_picture.specs.Lines.{is_feed}
 use Rattle.pci_picture.proofs.Feeds.{none_in_16, one_in_16, whole_16}

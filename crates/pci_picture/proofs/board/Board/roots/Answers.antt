@@ -1,4 +1,4 @@
-use Rattle.std.proofs.Common.{length, get_or, ap, sym, subst, ◌∙◌, arith}
+use Rattle.std.proofs.Common.{subst, ◌∙◌, arith}
 use Rattle.std.proofs.lemmas.List.{length-set}
 use Rattle.pci_picture.specs.Roots.{AreAbove, listed_functions}
 use Rattle.pci_picture.proofs.Roots.{root_found, roots_more}
