@@ -9,7 +9,7 @@ use Rattle.std.proofs.lemmas.List.Folds.{prefix_len-append}
 use Rattle.std.proofs.lemmas.List.Sums.{prefix_len-le-length}
 use lib.Lanes.{mask_l, top}
 use Rattle.pci_picture.specs.Lines.{is_feed}
-use Rattle.pci_picture.specs.Listings.{first_of_16}
+use Rattle.pci_picture.specs.Bits.{lowest_of_16}
 
 -- ---- sixteen bytes
 
@@ -18,7 +18,7 @@ agreed p q all [] low = refl
 agreed p q all (x ∷ v) low =
     ap₂ (λ b l. b ∷ l) (agree_below_at p q 256 x all (All-head (λ y. y < 256) x v low)) (agreed p q all v (All-tail (λ y. y < 256) x v low))
 
-run_is : (p : ℕ → Bool) (v : List ℕ) → length v ≡ 16 → first_of_16 (mask_l (map p v)) ≡ position_or_len p v
+run_is : (p : ℕ → Bool) (v : List ℕ) → length v ≡ 16 → lowest_of_16 (mask_l (map p v)) ≡ position_or_len p v
 run_is p v long =
     elim (cases_eq (mask_l (map p v)) 0) [
       | inl none ↦ cond-true _ _ _ (eq-eqb _ _ none) ∙ sym (leading_from_mask_l p v none ∙ long)
@@ -26,14 +26,14 @@ run_is p v long =
     ]
 
 -- a lane is set just where its byte is a line feed
-pub feed_found : (v z : List ℕ) (place : ℕ) (f : ℕ → ℕ) → length v ≡ 16 → ((k : ℕ) → get_or v k 0 < 256) → place ≡ first_of_16 (mask_l (map (top 7) z) % 2 ^ 64)
+pub feed_found : (v z : List ℕ) (place : ℕ) (f : ℕ → ℕ) → length v ≡ 16 → ((k : ℕ) → get_or v k 0 < 256) → place ≡ lowest_of_16 (mask_l (map (top 7) z) % 2 ^ 64)
     → z ≡ map f v → agree_below (λ x. top 7 (f x)) is_feed 256 ≡ true → place ≡ position_or_len is_feed v
 feed_found v z place f long fits found lanes all =
     let low : All (λ x. x < 256) v = All-from_get_or (λ x. x < 256) v 0 (λ k below. fits k) in
     let mask : mask_l (map (top 7) z) % 2 ^ 64 ≡ mask_l (map is_feed v) =
     ap (λ l. mask_l l % 2 ^ 64) (ap (map (top 7)) lanes ∙ map-map (top 7) f v ∙ agreed (λ x. top 7 (f x)) is_feed all v low)
     ∙ mask_l-mod (map is_feed v) 64 (omega (arith, length-map v is_feed, long)) in
-    found ∙ ap first_of_16 mask ∙ run_is is_feed v long
+    found ∙ ap lowest_of_16 mask ∙ run_is is_feed v long
 
 -- ---- what is left of a text
 

@@ -12,14 +12,14 @@ use Rattle.std.proofs.lemmas.List.Sorted.{IsPermutation-append_comm, IsPermutati
 use Rattle.pci_picture.specs.Drawings.{AreGrouped, AreOfSection, AreOfSections, Group, IsGroup, members_of_groups, sections_of}
 use Rattle.pci_picture.specs.Headings.{AreSectionsOf, Headed, IsSectionOf, is_below_heading, is_lost, is_below_no_heading, is_section, lines_below_headings}
 use Rattle.pci_picture.specs.Maps.{AreMembersOf, headed_line, headed_member, lines_of_regions, regions_of_members, regions_under}
-use Rattle.pci_picture.specs.Roots.{IsHomed, Listed}
+use Rattle.pci_picture.specs.Roots.{IsLostByRoot, Listed}
 use Rattle.pci_picture.specs.Spots.{AreBoxesStanding, Section, BoxSpot, all_of, lines_drawn}
 use Rattle.pci_picture.specs.declared.map.Heading.{Heading}
 use Rattle.pci_picture.specs.declared.map.Heading.TheVariants.{Section as InSection, Lost, Off}
 use Rattle.pci_picture.specs.declared.map.Line.{Line}
 use Rattle.pci_picture.specs.declared.plan.Member.{Member}
 use Rattle.pci_picture.proofs.Anys.{any_at, any_next}
-use Rattle.pci_picture.proofs.Homes.{homed_groups}
+use Rattle.pci_picture.proofs.Lost.{groups_by_root}
 use Rattle.pci_picture.proofs.Filtered.{filter_map, filter_permuted, filter_twice}
 
 -- ---- regions below headings
@@ -290,8 +290,8 @@ group_more members part begin end y bottom number spots more done joined down al
     }
 
 pub grouped : (functions : List Listed) (lines : List Line) (members : List Member) (count end : ℕ) (spots : List BoxSpot) → length members ≤ count
-    → AreMembersOf lines members → All (IsHomed functions) members → AreGrouped members count end spots → AreOfSections functions lines end spots
-grouped functions lines members count end spots past are homed done =
+    → AreMembersOf lines members → All (IsLostByRoot functions) members → AreGrouped members count end spots → AreOfSections functions lines end spots
+grouped functions lines members count end spots past are by_root done =
     let regions : List Headed = map headed_line lines in
     let taken : members_of_groups done.groups ≡ members = done.taken ∙ take_all count members past in
     let drawn : lines_of_regions (regions_of_members members) ≡ lines_drawn spots =
@@ -318,6 +318,6 @@ grouped functions lines members count end spots past are homed done =
             (ap (λ ms. lines_below_headings is_lost (map headed_member ms)) (sym taken) ∙ all_lost done.groups done.each)
             (below_permuted is_lost regions (map headed_member members) are.seated);
       };
-      homed = homed_groups functions done.groups done.each (subst (All (IsHomed functions)) (sym taken) homed);
+      by_root = groups_by_root functions done.groups done.each (subst (All (IsLostByRoot functions)) (sym taken) by_root);
       stand = done.stand;
     }

@@ -16,7 +16,7 @@ pub mod Taken
 pub mod Headings
 pub mod Filtered
 pub mod Members
-pub mod Homes
+pub mod Lost
 pub mod Groups
 pub mod Once
 pub mod Sections

@@ -8,7 +8,7 @@ use Rattle.std.proofs.lemmas.List.Sorted.{IsPermutation-map}
 use Rattle.std.proofs.lemmas.List.Splits.{slice_split_first, slice_split_none}
 use Rattle.std.proofs.lemmas.List.Sums.{fails_before_first}
 use Rattle.pci_picture.specs.Lines.{is_feed, is_slot}
-use Rattle.pci_picture.specs.Listings.{AreListedIn, functions_listed, is_bus_line, is_function_line, list_line, told_function, told_secondary, with_secondary}
+use Rattle.pci_picture.specs.Listings.{AreFunctionsListed, functions_listed, is_bus_line, is_function_line, list_line, function_of_line, told_secondary, with_secondary}
 use Rattle.pci_picture.specs.Roots.{Listed, listed_function, listed_functions}
 use Rattle.pci_picture.specs.declared.function.Function.{Function}
 
@@ -72,7 +72,7 @@ rises_listed (function ∷ functions) rises i j d up inside =
     omega (arith, low, high, less)
 
 pub by_slot : (functions sorted : List Function) (show : List ℕ) → listed_functions functions ≡ functions_listed show → IsPermutation functions sorted
-    → IsNonDecreasingBy (λ (function : Function). function.number) sorted → AreListedIn show (listed_functions sorted)
+    → IsNonDecreasingBy (λ (function : Function). function.number) sorted → AreFunctionsListed show (listed_functions sorted)
 by_slot functions sorted show is moved rises = record {
   all = subst (λ l. IsPermutation l (listed_functions sorted)) is (IsPermutation-map listed_function functions sorted moved);
   sorted = rises_listed sorted rises;
@@ -81,7 +81,7 @@ by_slot functions sorted show is moved rises = record {
 -- ---- one line
 
 pub line_function : (functions after : List Function) (function : Function) (line : List ℕ) → after ≡ functions ++ function ∷ []
-    → is_function_line line ≡ true → listed_function function ≡ told_function line
+    → is_function_line line ≡ true → listed_function function ≡ function_of_line line
     → listed_functions after ≡ list_line (listed_functions functions) line
 line_function functions after function line new is told =
     ap listed_functions new ∙ map-append listed_function functions (function ∷ [])

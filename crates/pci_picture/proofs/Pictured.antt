@@ -1,16 +1,16 @@
 -- What is said of a picture, of where its regions out of place are.
 use Rattle.std.proofs.Common.{ℕ, List, Result, Ok, Err, IfOk}
-use Rattle.pci_picture.specs.Boxes.{IsHomedBy, IsPictureOf}
-use Rattle.pci_picture.specs.Homed.{IsHomedIn}
-use Rattle.pci_picture.specs.Listings.{AreListedIn}
+use Rattle.pci_picture.specs.Boxes.{IsDrawnByRoots, IsPictureOf}
+use Rattle.pci_picture.specs.ByRoots.{IsDrawnByRootsOfShow}
+use Rattle.pci_picture.specs.Listings.{AreFunctionsListed}
 use Rattle.pci_picture.specs.Roots.{Listed}
 
 pub drawn_of : {T E : Type 0} (functions : List Listed) (map : List ℕ) (result : Result T E) (bytes : T → List ℕ)
-    → IfOk result (λ text. IsHomedBy functions map (bytes text)) → IfOk result (λ text. IsPictureOf map (bytes text))
+    → IfOk result (λ text. IsDrawnByRoots functions map (bytes text)) → IfOk result (λ text. IsPictureOf map (bytes text))
 drawn_of functions map (Err e) bytes is = tt
 drawn_of functions map (Ok text) bytes is = is.picture
 
-pub homed_in : {T E : Type 0} (functions : List Listed) (show map : List ℕ) (result : Result T E) (bytes : T → List ℕ) → AreListedIn show functions
-    → IfOk result (λ text. IsHomedBy functions map (bytes text)) → IfOk result (λ text. IsHomedIn show map (bytes text))
-homed_in functions show map (Err e) bytes listed is = tt
-homed_in functions show map (Ok text) bytes listed is = record { functions = functions; listed = listed; drawn = is }
+pub drawn_by_roots : {T E : Type 0} (functions : List Listed) (show map : List ℕ) (result : Result T E) (bytes : T → List ℕ) → AreFunctionsListed show functions
+    → IfOk result (λ text. IsDrawnByRoots functions map (bytes text)) → IfOk result (λ text. IsDrawnByRootsOfShow show map (bytes text))
+drawn_by_roots functions show map (Err e) bytes listed is = tt
+drawn_by_roots functions show map (Ok text) bytes listed is = record { functions = functions; listed = listed; drawn = is }

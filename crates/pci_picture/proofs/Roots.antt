@@ -4,7 +4,7 @@ use Rattle.std.specs.List.{filter}
 use Rattle.std.proofs.lemmas.Bool.{cases_eq, eq-eqb, ne_eqb}
 use Rattle.std.proofs.lemmas.List.{append-nil, get_or-replicate, get_or-set_same, get_or-set_other, map_more}
 use Rattle.std.proofs.lemmas.List.Elements.{filter-append}
-use Rattle.pci_picture.specs.Roots.{AreAbove, AreBridges, Listed, bus_above, bus_of_bridge, first_bus, go_up, leads_to, listed_function, listed_functions, root_of}
+use Rattle.pci_picture.specs.Roots.{AreBusesAbove, AreBridges, Listed, bus_above, bus_of_bridge, first_bus, go_up, is_bridge_to, listed_function, listed_functions, root_bus_of}
 use Rattle.pci_picture.specs.Slots.{bus_of_slot}
 use Rattle.pci_picture.specs.declared.function.Buses.{Buses}
 use Rattle.pci_picture.specs.declared.function.Function.{Function}
@@ -13,21 +13,21 @@ pub bridges_none : AreBridges [] (replicate 256 None)
 bridges_none bus small = get_or-replicate 256 bus None None small
 
 -- one more function that is no bridge to a bus
-other_bridge : (functions : List Listed) (function : Listed) (bus : ℕ) → leads_to bus function ≡ false
+other_bridge : (functions : List Listed) (function : Listed) (bus : ℕ) → is_bridge_to bus function ≡ false
     → bus_of_bridge (functions ++ function ∷ []) bus ≡ bus_of_bridge functions bus
 other_bridge functions function bus off =
-    ap first_bus (filter-append (leads_to bus) functions (function ∷ []) ∙ rw off (append-nil (filter (leads_to bus) functions)))
+    ap first_bus (filter-append (is_bridge_to bus) functions (function ∷ []) ∙ rw off (append-nil (filter (is_bridge_to bus) functions)))
 
 first_of_more : (some : List Listed) (function : Listed) → first_bus (some ++ function ∷ []) ≡ Some (unwrap_or (first_bus some) (bus_of_slot function.slot))
 first_of_more [] function = refl
 first_of_more (one ∷ some) function = refl
 
 -- one more bridge to it
-this_bridge : (functions : List Listed) (function : Listed) (bus : ℕ) → leads_to bus function ≡ true
+this_bridge : (functions : List Listed) (function : Listed) (bus : ℕ) → is_bridge_to bus function ≡ true
     → bus_of_bridge (functions ++ function ∷ []) bus ≡ Some (unwrap_or (bus_of_bridge functions bus) (bus_of_slot function.slot))
 this_bridge functions function bus on =
-    ap first_bus (filter-append (leads_to bus) functions (function ∷ []) ∙ rw on refl)
-    ∙ first_of_more (filter (leads_to bus) functions) function
+    ap first_bus (filter-append (is_bridge_to bus) functions (function ∷ []) ∙ rw on refl)
+    ∙ first_of_more (filter (is_bridge_to bus) functions) function
 
 listed_more : (functions : List Function) (i : ℕ) (function : Function) → i < length functions → function ≡ get_or functions i function
     → listed_functions (take (i + 1) functions) ≡ listed_functions (take i functions) ++ listed_function function ∷ []
@@ -66,7 +66,7 @@ bridges_more functions i function buses table number inside at is long named was
           ∙ sym (other_bridge before one bus (rw is (ne_eqb buses.secondary bus (λ e. apart (sym e)))))
     ])
 
-pub above_all : (functions : List Listed) (table : List (Option ℕ)) → length table ≡ 256 → AreBridges functions table → AreAbove functions (set table 0 None)
+pub above_all : (functions : List Listed) (table : List (Option ℕ)) → length table ≡ 256 → AreBridges functions table → AreBusesAbove functions (set table 0 None)
 above_all functions table long was bus small = elim (cases_eq bus 0) [
   | inl same ↦
       ap (λ k. get_or (set table 0 None) k None) same
@@ -112,11 +112,11 @@ above_is_low : (functions : List Listed) (bus : ℕ) → bus < 256 → unwrap_or
 above_is_low functions bus small =
     elim (bus == 0) as (λ b. unwrap_or (if b then None else bus_of_bridge functions bus) bus < 256) [
       | true ↦ small
-      | false ↦ first_is_low (filter (leads_to bus) functions) bus small
+      | false ↦ first_is_low (filter (is_bridge_to bus) functions) bus small
     ]
 
 -- a table of the buses above leads to the same root
-same_way : (functions : List Listed) (table : List (Option ℕ)) → AreAbove functions table → (n bus : ℕ) → bus < 256
+same_way : (functions : List Listed) (table : List (Option ℕ)) → AreBusesAbove functions table → (n bus : ℕ) → bus < 256
     → go_up (λ b. get_or table b None) n bus ≡ go_up (bus_above functions) n bus
 unfolding go_up
 same_way functions table are zero bus small = refl
@@ -124,18 +124,18 @@ same_way functions table are (suc n) bus small =
     ap (λ o. go_up (λ b. get_or table b None) n (unwrap_or o bus)) (are bus small)
     ∙ same_way functions table are n (unwrap_or (bus_above functions bus) bus) (above_is_low functions bus small)
 
-pub root_found : (functions : List Listed) (table : List (Option ℕ)) (bus : ℕ) → AreAbove functions table → bus < 256
-    → go_up (λ b. get_or table b None) 256 bus ≡ root_of functions bus
-unfolding root_of
+pub root_found : (functions : List Listed) (table : List (Option ℕ)) (bus : ℕ) → AreBusesAbove functions table → bus < 256
+    → go_up (λ b. get_or table b None) 256 bus ≡ root_bus_of functions bus
+unfolding root_bus_of
 root_found functions table bus are small = same_way functions table are 256 bus small
 
 -- one root more
-pub roots_more : (functions : List Listed) (roots : List ℕ) (i root : ℕ) → i < length roots → root ≡ root_of functions i
-    → ((bus : ℕ) → bus < i → get_or roots bus 0 ≡ root_of functions bus)
-    → (bus : ℕ) → bus < i + 1 → get_or (set roots i root) bus 0 ≡ root_of functions bus
+pub roots_more : (functions : List Listed) (roots : List ℕ) (i root : ℕ) → i < length roots → root ≡ root_bus_of functions i
+    → ((bus : ℕ) → bus < i → get_or roots bus 0 ≡ root_bus_of functions bus)
+    → (bus : ℕ) → bus < i + 1 → get_or (set roots i root) bus 0 ≡ root_bus_of functions bus
 roots_more functions roots i root inside is was bus less = elim (cases_eq bus i) [
   | inl same ↦
-      ap (λ k. get_or (set roots i root) k 0) same ∙ get_or-set_same roots i root 0 inside ∙ is ∙ ap (root_of functions) (sym same)
+      ap (λ k. get_or (set roots i root) k 0) same ∙ get_or-set_same roots i root 0 inside ∙ is ∙ ap (root_bus_of functions) (sym same)
   | inr apart ↦ get_or-set_other roots i bus root 0 apart ∙ was bus (omega (arith, less, apart))
 ]
 

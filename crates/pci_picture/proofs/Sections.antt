@@ -5,13 +5,13 @@ use Rattle.std.specs.List.Sorted.{IsNonDecreasingBy, IsPermutation}
 use Rattle.std.proofs.lemmas.Bool.{cases_lt, eqb-true}
 use Rattle.std.proofs.lemmas.List.{append_assoc, map-append, map_more, take_more, take-append-drop, take-take, drop-take, take_all, length-take, length-drop, get_or-take, get_or-drop, get_or_default}
 use Rattle.std.proofs.lemmas.List.Sorted.{IsPermutation-trans, IsPermutation-append_left, IsPermutation-map}
-use Rattle.pci_picture.specs.Boxes.{IsDrawnOf, IsHomedBy}
+use Rattle.pci_picture.specs.Boxes.{IsDrawnOf, IsDrawnByRoots}
 use Rattle.pci_picture.specs.Canvases.{AddsToCanvas, AddsSome, HasDrawn}
 use Rattle.pci_picture.specs.Drawings.{AreGrouped, AreOfSection, AreOfSections, IsRunOfSection, sections_of}
 use Rattle.pci_picture.specs.Headings.{AreSectionsOf, headed_regions}
 use Rattle.pci_picture.specs.Lines.{is_feed, region_lines}
 use Rattle.pci_picture.specs.Maps.{AreMembersOf, IsReadOf, lines_of_regions, regions_under, regions_of_members, regions_placed, lines_read}
-use Rattle.pci_picture.specs.Roots.{IsHomed, Listed}
+use Rattle.pci_picture.specs.Roots.{IsLostByRoot, Listed}
 use Rattle.pci_picture.specs.Spots.{BoxSpot, spot_at, lines_drawn, all_of}
 use Rattle.pci_picture.specs.declared.canvas.Canvas.{Canvas}
 use Rattle.pci_picture.specs.declared.map.Line.{Line}
@@ -144,11 +144,11 @@ section_more members part begin end y bottom member first before after up within
     }
 
 pub all_sections : {A : Type 0} (functions : List Listed) (lines : List Line) (members : List Member) (begin y : ℕ) (first after : Canvas A) → length members ≤ begin
-    → AreMembersOf lines members → All (IsHomed functions) members → AddsSome (AreGrouped members begin y) first after
+    → AreMembersOf lines members → All (IsLostByRoot functions) members → AddsSome (AreGrouped members begin y) first after
     → AddsSome (AreOfSections functions lines y) first after
-all_sections functions lines members begin y first after past are homed done = record {
+all_sections functions lines members begin y first after past are by_root done = record {
   spots = done.spots;
-  hold = grouped functions lines members begin y done.spots past are homed done.hold;
+  hold = grouped functions lines members begin y done.spots past are by_root done.hold;
   adds = done.adds;
 }
 
@@ -164,7 +164,7 @@ pub whole_picture : {A T E : Type 0} (functions : List Listed) (map : List ℕ) 
     → HasDrawn [] new → AddsToCanvas [] new before → AddsSome (AreOfSections functions read.lines.items y) before between
     → AddsSome (λ spots. lines_drawn spots ≡ lines_of_regions read.off.items) between last
     → ((spots : List BoxSpot) → HasDrawn spots last → IfOk result (λ text. IsDrawnOf spots height (bytes text)))
-    → IfOk result (λ text. IsHomedBy functions map (bytes text))
+    → IfOk result (λ text. IsDrawnByRoots functions map (bytes text))
 whole_picture functions map read new before between last y height (Err e) bytes told down none kept some off finished = tt
 whole_picture functions map read new before between last y height (Ok text) bytes told down none kept some off finished =
     let joined : some.spots ++ off.spots ≡ all_of some.hold.sections ++ off.spots = ap (λ l. l ++ off.spots) (sym some.hold.joined) in
@@ -189,5 +189,5 @@ whole_picture functions map read new before between last y height (Ok text) byte
             (finished (some.spots ++ off.spots) (off.adds.behind some.spots (some.adds.behind [] (kept.behind [] none))));
         stand = λ small. some.hold.stand (omega (arith, down, small));
       };
-      homed = some.hold.homed;
+      by_root = some.hold.by_root;
     }

@@ -5,7 +5,7 @@ use Rattle.std.specs.List.Sorted.{IsPermutation}
 use Rattle.pci_picture.specs.Elements.{box_text, words_text, axis_text, tick_text, gap_text}
 use Rattle.pci_picture.specs.Headings.{AreSectionsOf, headed_regions, is_below_no_heading, lines_below_headings}
 use Rattle.pci_picture.specs.Lines.{is_feed, line_if_region, region_lines}
-use Rattle.pci_picture.specs.Roots.{IsHomedSection, Listed}
+use Rattle.pci_picture.specs.Roots.{AreLostByRoot, Listed}
 use Rattle.pci_picture.specs.Spots.{Section, BoxSpot, spot_at, lines_drawn, all_of, EachStands}
 use Rattle.pci_picture.specs.Whole.{picture_text}
 
@@ -81,9 +81,9 @@ pub record IsPictureOf (map text : List ℕ) : Type 0 where
 
 -- the same, where each region out of place is in the section of the root from which its bus is reached, by the functions that
 -- are listed, and of its space
-pub record IsHomedBy (functions : List Listed) (map text : List ℕ) : Type 0 where
+pub record IsDrawnByRoots (functions : List Listed) (map text : List ℕ) : Type 0 where
   pub picture : IsPictureOf map text
-  pub homed : All (IsHomedSection functions) picture.sections
+  pub by_root : All (AreLostByRoot functions) picture.sections
 
 -- sections that have what stands below their headings and what is out of place, and a list of what is off, have each region of
 -- the map exactly once, as often as it stands there

@@ -4,7 +4,7 @@ use Rattle.std.specs.List.{All, AllPairs, flat_map}
 use Rattle.std.specs.List.Sorted.{IsPermutation, IsNonDecreasingBy}
 use Rattle.pci_picture.specs.Headings.{AreSectionsOf, is_lost, lines_below_headings}
 use Rattle.pci_picture.specs.Maps.{headed_line, headed_member, lines_of_regions, regions_of_members, regions_under}
-use Rattle.pci_picture.specs.Roots.{IsHomedSection, Listed}
+use Rattle.pci_picture.specs.Roots.{AreLostByRoot, Listed}
 use Rattle.pci_picture.specs.Spots.{Section, BoxSpot, first_address, region_last_address, lines_drawn, all_of, Rise, AreBoxesStanding, EachStands}
 use Rattle.pci_picture.specs.Stacked.{height_at}
 use Rattle.pci_picture.specs.declared.heights.Run.{Run}
@@ -80,5 +80,5 @@ pub record AreOfSections (functions : List Listed) (lines : List Line) (end : â„
   pub joined : all_of sections â‰¡ spots
   pub each_once : IsPermutation (lines_of_regions (regions_under lines)) (lines_drawn spots)
   pub below_headings : AreSectionsOf (map headed_line lines) sections
-  pub homed : All (IsHomedSection functions) sections
+  pub by_root : All (AreLostByRoot functions) sections
   pub stand : EachStands end sections

@@ -12,5 +12,6 @@ pub mod Drawings
 pub mod Cuts
 pub mod Slots
 pub mod Roots
+pub mod Bits
 pub mod Listings
-pub mod Homed
+pub mod ByRoots

@@ -1,18 +1,13 @@
 -- Which functions the text of `show` lists.
-use Rattle.std.specs.Prelude.{ℕ, Bool, ◌+◌, ◌*◌, ◌&&◌, ◌==◌, Some, None, List, [], ◌∷◌, ◌++◌, take, drop, fold, slice_index, nat_eq, codes, if◌then◌else◌}
-use Rattle.std.specs.Int.{w64, trailing_zeros}
+use Rattle.std.specs.Prelude.{ℕ, Bool, ◌+◌, ◌*◌, ◌&&◌, Some, None, List, [], ◌∷◌, ◌++◌, take, drop, fold, slice_index, nat_eq, codes, if◌then◌else◌}
 use Rattle.std.specs.List.{slice_split, starts_with}
 use Rattle.std.specs.List.Sorted.{IsPermutation, IsNonDecreasingBy}
 use Rattle.pci_picture.specs.Lines.{hex_digit_value, hex_value, is_feed, is_number, is_register, is_slot, nth_word, unindented_line, words_in_line}
 use Rattle.pci_picture.specs.Roots.{Listed}
 
 -- the number of a slot `bb:dd.f`, in hex `bbddf`
-unfoldable pub slot_value : List ℕ → ℕ
-slot_value word = hex_value (take 2 word) * 4096 + hex_value (take 2 (drop 3 word)) * 16 + hex_digit_value (slice_index word 6)
-
--- the place of the lowest of sixteen bits that is set, or 16
-abbrev pub first_of_16 : ℕ → ℕ
-first_of_16 bits = if bits == 0 then 16 else trailing_zeros w64 bits
+unfoldable pub slot_number_of : List ℕ → ℕ
+slot_number_of word = hex_value (take 2 word) * 4096 + hex_value (take 2 (drop 3 word)) * 16 + hex_digit_value (slice_index word 6)
 
 -- ---- lines
 
@@ -26,8 +21,8 @@ is_bus_line line =
     starts_with nat_eq (unindented_line line) (codes "bus ")
     && is_register (nth_word (words_in_line line) 2) && is_register (nth_word (words_in_line line) 3)
 
-abbrev pub told_function : List ℕ → Listed
-told_function line = record { slot = slot_value (take 7 line); secondary = None }
+abbrev pub function_of_line : List ℕ → Listed
+function_of_line line = record { slot = slot_number_of (take 7 line); secondary = None }
 
 abbrev pub told_secondary : List ℕ → ℕ
 told_secondary line = hex_value (nth_word (words_in_line line) 2)
@@ -44,13 +39,13 @@ with_secondary (function ∷ next ∷ functions) bus = function ∷ with_seconda
 abbrev pub list_line : List Listed → List ℕ → List Listed
 list_line functions line =
     if is_function_line line
-    then functions ++ told_function line ∷ []
+    then functions ++ function_of_line line ∷ []
     else (if is_bus_line line then with_secondary functions (told_secondary line) else functions)
 
 abbrev pub functions_listed : List ℕ → List Listed
 functions_listed show = fold list_line [] (slice_split is_feed show)
 
 -- these are the functions that a text lists, by rising slot
-pub record AreListedIn (show : List ℕ) (functions : List Listed) : Type 0 where
+pub record AreFunctionsListed (show : List ℕ) (functions : List Listed) : Type 0 where
   pub all : IsPermutation (functions_listed show) functions
   pub sorted : IsNonDecreasingBy (λ (function : Listed). function.slot) functions

@@ -18,8 +18,8 @@ is_bus bus None = false
 is_bus bus (Some number) = number == bus
 
 -- a function is a bridge with this secondary bus
-abbrev pub leads_to : ℕ → Listed → Bool
-leads_to bus function = is_bus bus function.secondary
+abbrev pub is_bridge_to : ℕ → Listed → Bool
+is_bridge_to bus function = is_bus bus function.secondary
 
 abbrev pub first_bus : List Listed → Option ℕ
 first_bus [] = None
@@ -27,7 +27,7 @@ first_bus (function ∷ functions) = Some (bus_of_slot function.slot)
 
 -- the bus of the first bridge listed with this secondary bus
 abbrev pub bus_of_bridge : List Listed → ℕ → Option ℕ
-bus_of_bridge functions bus = first_bus (filter (leads_to bus) functions)
+bus_of_bridge functions bus = first_bus (filter (is_bridge_to bus) functions)
 
 -- that is the bus above a bus; bus 0 has none
 abbrev pub bus_above : List Listed → ℕ → Option ℕ
@@ -39,20 +39,20 @@ go_up above zero bus = bus
 go_up above (suc steps) bus = go_up above steps (unwrap_or (above bus) bus)
 
 -- the root bus from which a bus is reached: there are 256 buses, so no way up is longer
-unfoldable pub root_of : List Listed → ℕ → ℕ
-root_of functions bus = go_up (bus_above functions) 256 bus
+unfoldable pub root_bus_of : List Listed → ℕ → ℕ
+root_bus_of functions bus = go_up (bus_above functions) 256 bus
 
 -- the number of the section of a region out of place: that of the root from which its bus is reached, and of its space
-abbrev pub home_of : List Listed → List ℕ → ℕ
-home_of functions line = number_of_section (root_of functions (bus_of_line line)) (is_io_line line)
+abbrev pub section_by_root : List Listed → List ℕ → ℕ
+section_by_root functions line = number_of_section (root_bus_of functions (bus_of_line line)) (is_io_line line)
 
--- in a section are those regions out of place whose home it is
-abbrev pub IsHomedSection : List Listed → Section → Type 0
-IsHomedSection functions section = All (λ line. section.number ≡ home_of functions line) section.lost
+-- the regions out of place of a section are of its root and of its space
+abbrev pub AreLostByRoot : List Listed → Section → Type 0
+AreLostByRoot functions section = All (λ line. section.number ≡ section_by_root functions line) section.lost
 
--- a member out of place has the number of its home
-abbrev pub IsHomed : List Listed → Member → Type 0
-IsHomed functions member = IsTrue member.is_lost → member.section ≡ home_of functions member.region.line.now
+-- a member out of place is in the section of its root and of its space
+abbrev pub IsLostByRoot : List Listed → Member → Type 0
+IsLostByRoot functions member = IsTrue member.is_lost → member.section ≡ section_by_root functions member.region.line.now
 
 -- ---- the functions of a board
 
@@ -71,9 +71,9 @@ abbrev pub AreBridges : List Listed → List (Option ℕ) → Type 0
 AreBridges functions table = (bus : ℕ) → bus < 256 → slice_index_or table bus None ≡ bus_of_bridge functions bus
 
 -- at each bus the one above it
-abbrev pub AreAbove : List Listed → List (Option ℕ) → Type 0
-AreAbove functions table = (bus : ℕ) → bus < 256 → slice_index_or table bus None ≡ bus_above functions bus
+abbrev pub AreBusesAbove : List Listed → List (Option ℕ) → Type 0
+AreBusesAbove functions table = (bus : ℕ) → bus < 256 → slice_index_or table bus None ≡ bus_above functions bus
 
 -- at each bus its root
 abbrev pub AreRoots : List Listed → List ℕ → Type 0
-AreRoots functions table = (bus : ℕ) → bus < 256 → slice_index table bus ≡ root_of functions bus
+AreRoots functions table = (bus : ℕ) → bus < 256 → slice_index table bus ≡ root_bus_of functions bus

@@ -3,9 +3,9 @@ ghost use Rattle.std.specs.Prelude.{◌≡◌, [], ◌∷◌, Some, None, unwrap
 ghost use Rattle.std.specs.List.{slice_split};
 ghost use Rattle.pci_picture.specs.Boxes.{titled_line};
 ghost use Rattle.pci_picture.specs.Lines.{is_feed};
-ghost use Rattle.pci_picture.specs.Listings.{AreListedIn};
+ghost use Rattle.pci_picture.specs.Listings.{AreFunctionsListed};
 ghost use Rattle.pci_picture.specs.Maps.{IsReadOf};
-ghost use Rattle.pci_picture.specs.Roots.{AreAbove, AreRoots, go_up, listed_functions};
+ghost use Rattle.pci_picture.specs.Roots.{AreBusesAbove, AreRoots, go_up, listed_functions};
 
 use super::faults::{Fault, Faults};
 use super::function::{Buses, Function, Span, find};
@@ -75,7 +75,7 @@ fn names_of<A: Allocator + Copy>(
 
 /// For each bus the one above it: that of the first bridge listed whose secondary bus it is. Bus 0 has none.
 fn buses_above(functions: &[Function<'_>]) -> [Option<u8>; 256]
-    ensures { AreAbove (listed_functions functions.entry.now) result }
+    ensures { AreBusesAbove (listed_functions functions.entry.now) result }
 {
     let mut above = [None; 256];
     for function in functions {
@@ -116,7 +116,7 @@ impl<'a, A: Allocator + Copy> Board<'a, A> {
     /// Reads the board from the texts.
     pub fn read(alloc: A, texts: &Texts<'a>) -> Result<Board<'a, A>, OutOfMemory>
         ensures map { IfOk result (λ board. IsReadOf (slice_split is_feed texts.entry.now.map.now) board.map) }
-        ensures show { IfOk result (λ board. AreListedIn texts.entry.now.show.now (listed_functions board.functions.items)) }
+        ensures show { IfOk result (λ board. AreFunctionsListed texts.entry.now.show.now (listed_functions board.functions.items)) }
     {
         let mut functions = read_functions(alloc, texts.show)?;
         give_titles(&mut functions, texts.titles);

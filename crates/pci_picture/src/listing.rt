@@ -1,6 +1,6 @@
 //! The functions that the text of `show` lists.
 ghost use Rattle.std.specs.Prelude.{◌≡◌, is_some, IfOk, IfSome, OnOk};
-ghost use Rattle.pci_picture.specs.Listings.{AreListedIn, functions_listed, is_bus_line, is_function_line, list_line, told_function, told_secondary};
+ghost use Rattle.pci_picture.specs.Listings.{AreFunctionsListed, functions_listed, is_bus_line, is_function_line, list_line, function_of_line, told_secondary};
 ghost use Rattle.pci_picture.specs.Roots.{listed_function, listed_functions};
 
 use super::function::{Buses, Function, Span};
@@ -12,7 +12,7 @@ use std::alloc::Allocator;
 #[tactic(auto, unfolding(crate::specs::Listings::is_function_line))]
 fn function_of(line: &[u8]) -> Option<Function<'_>>
     ensures some { is_some result ≡ is_function_line line.now }
-    ensures told { IfSome result (λ function. listed_function function ≡ told_function line.now) }
+    ensures told { IfSome result (λ function. listed_function function ≡ function_of_line line.now) }
 {
     let slot = line.get(..7)?;
     let number = slot_number(slot)?;
@@ -85,7 +85,7 @@ pub fn read_functions<'a, A: Allocator + Copy>(
     alloc: A,
     show: &'a str,
 ) -> Result<Vec<Function<'a>, A>, OutOfMemory>
-    ensures { IfOk result (λ functions. AreListedIn show.entry.now (listed_functions functions.items)) }
+    ensures { IfOk result (λ functions. AreFunctionsListed show.entry.now (listed_functions functions.items)) }
 {
     let mut functions = functions_of(alloc, show.as_bytes())?;
     functions.sort_by_key(|function| function.number)?;

@@ -5,9 +5,9 @@ ghost use Rattle.std.specs.String.{string_bytes};
 ghost use Rattle.pci_picture.specs.Boxes.{IsPictureOf};
 ghost use Rattle.pci_picture.specs.Canvases.{AddsToCanvas, AddsSome};
 ghost use Rattle.pci_picture.specs.Drawings.{AreOfSections, IsRunOfSection};
-ghost use Rattle.pci_picture.specs.Homed.{IsHomedIn};
+ghost use Rattle.pci_picture.specs.ByRoots.{IsDrawnByRootsOfShow};
 ghost use Rattle.pci_picture.specs.Maps.{AreMembersOf, lines_of_regions};
-ghost use Rattle.pci_picture.specs.Roots.{IsHomed, listed_functions};
+ghost use Rattle.pci_picture.specs.Roots.{IsLostByRoot, listed_functions};
 ghost use Rattle.pci_picture.specs.Spots.{lines_drawn, spot_at};
 ghost use Rattle.pci_picture.specs.Whole.{IsPictureText};
 
@@ -154,7 +154,7 @@ fn members<'a, A: Allocator + Copy>(
     board: &Board<'a, A>,
 ) -> Result<Vec<Member<'a>, A>, OutOfMemory>
     ensures moved { IfOk result (λ members. AreMembersOf board.entry.now.map.lines.items members.items) }
-    ensures homed { IfOk result (λ members. All (IsHomed (listed_functions board.entry.now.functions.items)) members.items) }
+    ensures by_root { IfOk result (λ members. All (IsLostByRoot (listed_functions board.entry.now.functions.items)) members.items) }
 {
     let roots = board.roots();
     let mut members = Vec::new(alloc);
@@ -316,7 +316,7 @@ pub fn picture_of<A: Allocator + Copy>(
     ensures drawn { IfOk result (λ text. IsPictureOf texts.entry.now.map.now (string_bytes text)) }
     // a region out of place is drawn in the section of the root from which its bus is reached, by the functions that `show`
     // lists, and of its space
-    ensures homed { IfOk result (λ text. IsHomedIn texts.entry.now.show.now texts.entry.now.map.now (string_bytes text)) }
+    ensures by_root { IfOk result (λ text. IsDrawnByRootsOfShow texts.entry.now.show.now texts.entry.now.map.now (string_bytes text)) }
 {
     let board = Board::read(alloc, texts)?;
     let levels = board.map.depth() as u64;

@@ -1,7 +1,8 @@
 //! Words, numbers and slots of a line.
 ghost use Rattle.std.specs.Prelude.{◌≡◌, ◌≤◌, ◌<◌, length, is_some, IfSome};
 ghost use Rattle.std.specs.List.{after_first, before_first, position_or_len};
-ghost use Rattle.pci_picture.specs.Listings.{first_of_16, slot_value};
+ghost use Rattle.pci_picture.specs.Bits.{lowest_of_16};
+ghost use Rattle.pci_picture.specs.Listings.{slot_number_of};
 ghost use Rattle.pci_picture.specs.Slots.{bus_of_slot, bus_of_word, digits_of_word, slot_of_key};
 ghost use Rattle.pci_picture.specs.Spots.{IsExtentWord};
 ghost use Rattle.pci_picture.specs.Lines.{leading_blanks, unindented_line, words_in_line, is_feed, nth_word, digit_of, hex_number_of, decimal_digit_of, decimal_number, is_register, is_slot, is_range, is_told_number, hex_value};
@@ -45,8 +46,8 @@ pub fn stripped(line: &[u8]) -> &[u8]
 
 /// The place of the lowest of sixteen bits that is set, 16 where none is.
 #[inline(always)]
-fn first_of_16(bits: u64) -> usize
-    ensures { result ≡ first_of_16 bits }
+fn lowest_of_16(bits: u64) -> usize
+    ensures { result ≡ lowest_of_16 bits }
 {
     if bits == 0 {
         16
@@ -61,7 +62,7 @@ fn feed_of_16(sixteen: &[u8; 16]) -> usize
     ensures { result ≡ position_or_len is_feed sixteen.now }
 {
     let feeds = u8x16::from_array(*sixteen).simd_eq(u8x16::splat(b'\n'));
-    first_of_16(feeds.to_bitmask())
+    lowest_of_16(feeds.to_bitmask())
 }
 
 /// How many bytes stand before the first line feed.
@@ -149,9 +150,9 @@ pub fn hex_byte(digits: &[u8]) -> Option<u8>
 }
 
 /// The number of a slot `bb:dd.f`, in hex `bbddf`.
-#[tactic(auto, unfolding(crate::specs::Lines::is_slot, crate::specs::Slots::bus_of_slot, crate::specs::Listings::slot_value))]
+#[tactic(auto, unfolding(crate::specs::Lines::is_slot, crate::specs::Slots::bus_of_slot, crate::specs::Listings::slot_number_of))]
 pub fn slot_number(text: &[u8]) -> Option<u32>
-    ensures value { IfSome result (λ number. number ≡ slot_value text.now) }
+    ensures value { IfSome result (λ number. number ≡ slot_number_of text.now) }
     ensures some { is_some result ≡ is_slot text.now }
     ensures bus { IfSome result (λ number. bus_of_slot number ≡ bus_of_word text.now) }
 {

@@ -1,7 +1,7 @@
 use Rattle.std.proofs.Common.{arith, refl, sym, subst}
 use Rattle.std.specs.List.{All}
 use Rattle.pci_picture.specs.Maps.{AreMembersOf}
-use Rattle.pci_picture.specs.Roots.{IsHomed, listed_functions}
+use Rattle.pci_picture.specs.Roots.{IsLostByRoot, listed_functions}
 use Rattle.pci_picture.proofs.Boxes.{up_to}
 use Rattle.pci_picture.proofs.Sections.{no_section, section_more, all_sections}
 use Rattle.pci_picture.proofs.picture.draw_sections.Goals as goal
@@ -31,5 +31,5 @@ returns-clause-drawn g c =
     let functions = listed_functions c.args.board.now.functions.items in
     all_sections functions c.args.board.now.map.lines.items c.as_slice-members.result.now c.loop-begin.begin c.loop-begin.y c.args.canvas.now c.loop-begin.canvas
     (omega arith) (subst (AreMembersOf c.args.board.now.map.lines.items) (sym c.as_slice-members.ensures.value) c.in_ok-sorted.ensures.moved)
-    (subst (All (IsHomed functions)) (sym c.as_slice-members.ensures.value) c.in_ok-sorted.ensures.homed)
+    (subst (All (IsLostByRoot functions)) (sym c.as_slice-members.ensures.value) c.in_ok-sorted.ensures.by_root)
     c.loop-begin.invariant.adds

@@ -7,8 +7,8 @@ use Rattle.std.proofs.lemmas.List.{take_all}
 use Rattle.std.proofs.lemmas.List.Elements.{All-push}
 use Rattle.std.proofs.lemmas.List.Sorted.{All-permutation, IsPermutation-map, answers_always}
 use Rattle.pci_picture.specs.Maps.{headed_line, headed_member, rank_of, regions_under}
-use Rattle.pci_picture.specs.Roots.{IsHomed, listed_functions}
-use Rattle.pci_picture.proofs.Homes.{home_if_lost, home_told}
+use Rattle.pci_picture.specs.Roots.{IsLostByRoot, listed_functions}
+use Rattle.pci_picture.proofs.Lost.{section_if_lost, section_told}
 use Rattle.pci_picture.proofs.Members.{sorted_by_first}
 use Rattle.pci_picture.proofs.Sections.{sorted_members}
 use Rattle.pci_picture.proofs.picture.members.Goals as goal
@@ -20,11 +20,11 @@ loop-line-preserved g c =
     record {
       moved = grind (arith, common_steps);
       seated = grind (arith, common_steps);
-      homed =
-          subst (All (IsHomed functions)) (sym c.in_ok-push.ensures.items)
-          (All-push (IsHomed functions) c.loop-line.members.items _ c.loop-line.invariant.homed
-          (home_if_lost line.section c.section_number.result c.unwrap_or-section.result _ c.is_none.result c.is_none.ensures c.unwrap_or-section.ensures
-          (home_told functions c.roots-roots.result line.region.line.now line.region.key line.region.digits c.slot_of.result c.bus_of.result c.section_number.result
+      by_root =
+          subst (All (IsLostByRoot functions)) (sym c.in_ok-push.ensures.items)
+          (All-push (IsLostByRoot functions) c.loop-line.members.items _ c.loop-line.invariant.by_root
+          (section_if_lost line.section c.section_number.result c.unwrap_or-section.result _ c.is_none.result c.is_none.ensures c.unwrap_or-section.ensures
+          (section_told functions c.roots-roots.result line.region.line.now line.region.key line.region.digits c.slot_of.result c.bus_of.result c.section_number.result
           c.roots-roots.ensures line.region.is_of_line c.slot_of.ensures c.bus_of.ensures c.bus_of.type_inv c.section_number.ensures)));
     }
 
@@ -46,5 +46,5 @@ returns g c =
             (λ x y. ordering_then (nat_cmp ((rank_of x).0) ((rank_of y).0)) (nat_cmp ((rank_of x).1) ((rank_of y).1)))
             c.sort_by_key.new.self.items (c.in_ok-sort_by_key.ensures.sorted (λ m. (m.section, m.is_lost, rank_of m)) (answers_always _ _ _ (λ f a r h k. search rules)));
       };
-      homed = All-permutation (IsHomed (listed_functions c.args.board.now.functions.items)) c.loop-line.members.items c.sort_by_key.new.self.items c.in_ok-sort_by_key.ensures.permutation c.loop-line.invariant.homed;
+      by_root = All-permutation (IsLostByRoot (listed_functions c.args.board.now.functions.items)) c.loop-line.members.items c.sort_by_key.new.self.items c.in_ok-sort_by_key.ensures.permutation c.loop-line.invariant.by_root;
     }

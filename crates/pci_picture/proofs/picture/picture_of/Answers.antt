@@ -2,7 +2,7 @@ use Rattle.std.proofs.Common.{[]}
 use Rattle.std.specs.String.{string_bytes}
 use Rattle.pci_picture.specs.Roots.{listed_functions}
 use Rattle.pci_picture.proofs.Boxes.{then_draws, up_to}
-use Rattle.pci_picture.proofs.Pictured.{drawn_of, homed_in}
+use Rattle.pci_picture.proofs.Pictured.{drawn_of, drawn_by_roots}
 use Rattle.pci_picture.proofs.Sections.{whole_picture}
 use Rattle.pci_picture.proofs.picture.picture_of.Goals as goal
 
@@ -17,5 +17,5 @@ returns g c =
     record {
       closed = c.finish.ensures.closed;
       drawn = drawn_of functions c.args.texts.now.map.now c.finish.result (λ text. string_bytes text) whole;
-      homed = homed_in functions c.args.texts.now.show.now c.args.texts.now.map.now c.finish.result (λ text. string_bytes text) c.in_ok-board.ensures.show whole;
+      by_root = drawn_by_roots functions c.args.texts.now.show.now c.args.texts.now.map.now c.finish.result (λ text. string_bytes text) c.in_ok-board.ensures.show whole;
     }

@@ -1,12 +1,12 @@
 -- A picture of the texts of `show` and `map`.
 use Rattle.std.specs.Prelude.{ℕ, List}
-use Rattle.pci_picture.specs.Boxes.{IsHomedBy}
-use Rattle.pci_picture.specs.Listings.{AreListedIn}
+use Rattle.pci_picture.specs.Boxes.{IsDrawnByRoots}
+use Rattle.pci_picture.specs.Listings.{AreFunctionsListed}
 use Rattle.pci_picture.specs.Roots.{Listed}
 
 -- each region out of place is drawn in the section of the root from which its bus is reached, by the functions that `show`
 -- lists, and of its space
-pub record IsHomedIn (show map text : List ℕ) : Type 0 where
+pub record IsDrawnByRootsOfShow (show map text : List ℕ) : Type 0 where
   pub functions : List Listed
-  pub listed : AreListedIn show functions
-  pub drawn : IsHomedBy functions map text
+  pub listed : AreFunctionsListed show functions
+  pub drawn : IsDrawnByRoots functions map text
