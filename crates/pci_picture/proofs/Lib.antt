@@ -11,6 +11,7 @@ pub mod Marked
 pub mod Framed
 pub mod Apart
 pub mod Positions
+pub mod Nths
 pub mod Titles
 pub mod Taken
 pub mod Headings

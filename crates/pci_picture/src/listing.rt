@@ -1,12 +1,58 @@
 //! The functions that the text of `show` lists.
 ghost use Rattle.std.specs.Prelude.{◌≡◌, is_some, IfOk, IfSome, OnOk};
 ghost use Rattle.pci_picture.specs.Listings.{AreFunctionsListed, functions_listed, is_bus_line, is_function_line, list_line, function_of_line, told_secondary};
+ghost use Rattle.pci_picture.specs.Lines.{nth_word, words_in_line};
 ghost use Rattle.pci_picture.specs.Roots.{listed_function, listed_functions};
 
 use super::function::{Buses, Function, Span};
 use super::memory::OutOfMemory;
 use super::reading::{cut_line, hex_byte, hex_number, slot_number, stripped, word};
 use std::alloc::Allocator;
+
+/// What a line `S type T vendor V device D class C command X status X` says of a function.
+#[derive(Clone, Copy)]
+struct Values<'a> {
+    vendor: &'a [u8],
+    device: &'a [u8],
+    class: &'a [u8],
+    command: &'a [u8],
+}
+
+/// The values of a line that ends before Command.
+const NO_VALUES: Values<'static> = Values {
+    vendor: &[],
+    device: &[],
+    class: &[],
+    command: &[],
+};
+
+/// The values of a line, from one pass over its words.
+#[tactic(auto, unfolding(crate::specs::Lines::words_in_line))]
+fn values_of(line: &[u8]) -> Values<'_>
+    ensures { result.command.now ≡ nth_word (words_in_line line.now) 10 }
+{
+    let mut words = line
+        .split(|byte| *byte == b' ')
+        .filter(|word| !word.is_empty());
+    let Some(vendor) = words.nth(4) else {
+        return NO_VALUES;
+    };
+    let Some(device) = words.nth(1) else {
+        return NO_VALUES;
+    };
+    let Some(class) = words.nth(1) else {
+        return NO_VALUES;
+    };
+    let Some(command) = words.nth(1) else {
+        return NO_VALUES;
+    };
+    Values {
+        vendor,
+        device,
+        class,
+        command,
+    }
+}
 
 /// The function of a line `S type T vendor V device D class C command X status X`.
 #[tactic(auto, unfolding(crate::specs::Listings::is_function_line))]
@@ -16,13 +62,14 @@ fn function_of(line: &[u8]) -> Option<Function<'_>>
 {
     let slot = line.get(..7)?;
     let number = slot_number(slot)?;
-    let command = hex_number(word(line, 10))?;
+    let values = values_of(line);
+    let command = hex_number(values.command)?;
     Some(Function {
         slot,
         number,
-        vendor: word(line, 4),
-        device: word(line, 6),
-        class: word(line, 8),
+        vendor: values.vendor,
+        device: values.device,
+        class: values.class,
         is_on: command & 3 != 0,
         buses: None,
         title: &[],
