@@ -29,3 +29,8 @@ pub mod HexDigits
 pub mod DecimalDigits
 pub mod Ranges
 pub mod Examples
+pub mod SideBySide
+pub mod Seated
+pub mod Lined
+pub mod SeatedUpTo
+pub mod Counted

@@ -15,3 +15,5 @@ pub mod Roots
 pub mod Bits
 pub mod Listings
 pub mod ByRoots
+pub mod Lanes
+pub mod Seats

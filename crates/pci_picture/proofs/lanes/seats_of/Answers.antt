@@ -1,0 +1,54 @@
+use Rattle.std.proofs.Common.{arith, ap, subst, sym, ◌-◌, ◌+◌}
+use Rattle.std.specs.Vec.{vec_len}
+use Rattle.pci_picture.proofs.Counted.{AreCounted, added_counted, none_counted, opened_counted}
+use Rattle.pci_picture.proofs.SeatedUpTo.{IsSeatedUpTo, all_apart, all_parents, none_read, none_seated, one_read}
+use Rattle.pci_picture.proofs.lanes.seats_of.Goals as goal
+use Rattle.pci_picture.proofs.lanes.seats_of.Goals.{in-Some+in_ok-add, in_default}
+
+pub loop-region-init : goal.loop-region-init
+loop-region-init g c = record {
+  seated = none_seated c.args.regions.now c.new.result.items c.new-levels.result.items c.new.ensures.items c.new-levels.ensures.items;
+  counted = none_counted c.new.result.items c.new-2.result.items c.new-levels.result.items c.new.ensures.items c.new-levels.ensures.items;
+}
+
+pub loop-region-preserved : goal.loop-region-preserved
+loop-region-preserved g c = record {
+  seated =
+      elim c.match-last_mut.branch [
+        | in-Some+in_ok-add w ↦
+            let some = (w.in-Some.ensures.item.3).0 in
+            subst (λ s. IsSeatedUpTo c.args.regions.now (c.loop-region.region-index + 1) s.seats.items c.match-last_mut.levels.items) (sym w.seats-is)
+            (one_read c.args.regions.now c.loop-region.region-index (vec_len c.open_level.new.levels - 1) c.len.result c.loop-region.seats.seats.items
+            w.add.new.self.seats.items c.loop-region.levels.items c.open_level.new.levels.items c.match-last_mut.levels.items w.in-Some.level.now w.add.new.level
+            c.region-item.result (omega arith) c.region-item.is (omega arith) c.in_ok-open_level.ensures.kept c.in_ok-open_level.ensures.opened
+            (omega arith) (w.in-Some.ensures.item.3).1 w.in_ok-add.ensures.given (ap (λ v. v.items) w.levels-is) c.loop-region.invariant.seated)
+        | in_default w ↦
+            none_read c.args.regions.now c.loop-region.region-index c.len.result (c.loop-region.region-index + 1) c.match-last_mut.seats.seats.items
+            c.loop-region.levels.items c.open_level.new.levels.items c.match-last_mut.levels.items c.region-item.result (omega arith) c.region-item.is
+            c.in_ok-open_level.ensures.kept c.in_ok-open_level.ensures.opened (omega (arith, w.in_default.ensures.item.3))
+      ];
+  counted =
+      let mid = opened_counted c.len.result c.region-item.result.depth c.loop-region.seats.seats.items c.loop-region.seats.lanes.items
+      c.loop-region.levels.items c.open_level.new.levels.items c.in_ok-open_level.ensures.kept c.in_ok-open_level.ensures.opened c.loop-region.invariant.counted in
+      elim c.match-last_mut.branch [
+        | in-Some+in_ok-add w ↦
+            subst (λ s. AreCounted s.seats.items s.lanes.items c.match-last_mut.levels.items) (sym w.seats-is)
+            (added_counted (vec_len c.open_level.new.levels - 1) c.loop-region.seats.seats.items w.add.new.self.seats.items
+            c.loop-region.seats.lanes.items w.add.new.self.lanes.items c.open_level.new.levels.items c.match-last_mut.levels.items
+            w.in-Some.level.now w.add.new.level (let some = (w.in-Some.ensures.item.3).0 in omega arith) (w.in-Some.ensures.item.3).1
+            (ap (λ v. v.items) w.levels-is) w.in_ok-add.ensures.lane mid)
+        | in_default w ↦
+            subst (λ s. AreCounted s.seats.items s.lanes.items c.match-last_mut.levels.items) (sym w.seats-is)
+            (subst (λ v. AreCounted c.loop-region.seats.seats.items c.loop-region.seats.lanes.items v.items) (sym w.levels-is) mid)
+      ];
+}
+
+pub returns : goal.returns
+returns g c = record {
+  count = λ deep. let is = c.loop-region.invariant.seated.count deep in omega arith;
+  parents = λ indented. all_parents c.args.regions.now c.loop-region.region-index c.loop-region.seats.seats.items c.loop-region.levels.items
+      (omega arith) c.loop-region.invariant.seated indented;
+  apart = λ indented rise. all_apart c.args.regions.now c.loop-region.region-index c.loop-region.seats.seats.items c.loop-region.levels.items
+      (omega arith) c.loop-region.invariant.seated indented rise;
+  lanes = c.loop-region.invariant.counted.have;
+}

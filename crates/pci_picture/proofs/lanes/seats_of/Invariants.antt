@@ -1,0 +1,9 @@
+use Rattle.pci_picture.proofs.Counted.{AreCounted}
+use Rattle.pci_picture.proofs.SeatedUpTo.{IsSeatedUpTo}
+use Rattle.pci_picture.proofs.lanes.seats_of.Given as goal
+
+abbrev pub invariant-loop-region : goal.invariant-loop-region
+invariant-loop-region g l = record {
+  seated : IsSeatedUpTo l.regions l.region-index l.seats.seats.items l.levels.items;
+  counted : AreCounted l.seats.seats.items l.seats.lanes.items l.levels.items;
+}

@@ -1,0 +1,13 @@
+use Rattle.std.proofs.Common.{arith}
+use Rattle.pci_picture.proofs.SideBySide.{width_of_lane}
+use Rattle.pci_picture.proofs.lanes.width_of.Goals as goal
+
+pub returns-then-seat : goal.returns-then-seat
+returns-then-seat c =
+    width_of_lane c.args.outer c.args.seat.lane c.args.lanes c.lanes_to.result _ c.lanes_to.ensures.least c.lanes_to.ensures.most
+    c.lane_left-begin.ensures c.lane_left-end.ensures (λ rises. (omega arith, omega arith))
+
+pub returns-else-seat : goal.returns-else-seat
+returns-else-seat c =
+    width_of_lane c.args.outer c.args.seat.lane c.args.lanes c.lanes_to.result _ c.lanes_to.ensures.least c.lanes_to.ensures.most
+    c.lane_left-begin.ensures c.lane_left-end.ensures (λ rises. (rises, omega arith))
