@@ -34,3 +34,4 @@ pub mod Seated
 pub mod Lined
 pub mod SeatedUpTo
 pub mod Counted
+pub mod Beside

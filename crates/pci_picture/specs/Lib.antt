@@ -17,3 +17,4 @@ pub mod Listings
 pub mod ByRoots
 pub mod Lanes
 pub mod Seats
+pub mod Sides

@@ -1,11 +1,13 @@
 //! Where each part of a section stands: its heights, the widths of its lines, and the ranges that its faults tell.
 
-ghost use Rattle.std.specs.Prelude.{◌≡◌, ◌<◌, ◌≤◌, ◌-◌, ◌^◌, ◌++◌, IfOk, OnOk, true, false};
+ghost use Rattle.std.specs.Prelude.{◌≡◌, ◌<◌, ◌≤◌, ◌-◌, ◌^◌, ◌++◌, IfOk, OnOk, max, true, false};
 ghost use Rattle.std.specs.List.{All};
 ghost use Rattle.std.specs.List.Sorted.{IsNonDecreasingBy};
 ghost use Rattle.pci_picture.specs.Cuts.{AddsEnds, IsRegionCut, KeepsCuts};
 ghost use Rattle.pci_picture.specs.Drawings.{ArePlanned, IsFramed};
+ghost use Rattle.pci_picture.specs.Lanes.{IsIndented};
 ghost use Rattle.pci_picture.specs.Maps.{lines_of_regions, regions_of_members, regions_placed};
+ghost use Rattle.pci_picture.specs.Sides.{AddsWidths, StandBesideIn, count_in_place, widths_placed};
 ghost use Rattle.pci_picture.specs.Stacked.{height_at};
 
 use super::elements::Frame;
@@ -297,6 +299,8 @@ impl<'a, A: Allocator + Copy> Plan<'a, A> {
         ensures planned { IfOk result (λ plan. plan.heights.bottom < 2 ^ 64 - 1
             → ArePlanned (lines_of_regions (regions_of_members members.entry.now)) plan.heights.runs.items plan.heights.bottom) }
         ensures down { IfOk result (λ plan. site.now.y ≤ plan.heights.bottom) }
+        ensures beside { IfOk result (λ plan. StandBesideIn site.now (count_in_place members.entry.now)
+            (regions_of_members members.entry.now) plan.placed.items) }
     {
         let regions = regions_of(alloc, members)?;
         let every = regions.as_slice();
@@ -330,7 +334,9 @@ fn regions_of<'a, A: Allocator + Copy>(
 }
 
 /// How many members stand before the first one that is lost.
-fn lost_from(members: &[Member<'_>]) -> usize {
+fn lost_from(members: &[Member<'_>]) -> usize
+    ensures { result ≡ count_in_place members.entry.now }
+{
     members
         .iter()
         .position(|member| member.is_lost)
@@ -344,7 +350,8 @@ fn placed_of<'a, A: Allocator + Copy>(
     regions: &[Region<'a>],
     index: usize,
 ) -> Result<Vec<Placed<'a>, A>, OutOfMemory>
-    ensures { IfOk result (λ placed. regions_placed placed.items ≡ regions.entry.now) }
+    ensures regions { IfOk result (λ placed. regions_placed placed.items ≡ regions.entry.now) }
+    ensures beside { IfOk result (λ placed. StandBesideIn site.now index regions.entry.now placed.items) }
 {
     let left = site.x.saturating_add(AXIS);
     let edge = left.saturating_add(site.width);
@@ -381,7 +388,9 @@ fn place<'a, A: Allocator + Copy>(
     column: u64,
     is_lost: bool,
 ) -> Result<(), OutOfMemory>
-    ensures { OnOk result (regions_placed placed.new.items ≡ regions_placed placed.old.items ++ regions.entry.now) }
+    ensures regions { OnOk result (regions_placed placed.new.items ≡ regions_placed placed.old.items ++ regions.entry.now) }
+    ensures widths { OnOk result (IsIndented regions.entry.now → AddsWidths whole.left whole.right regions.entry.now
+        (widths_placed placed.old.items) (widths_placed placed.new.items)) }
 {
     let widths = widths(alloc, regions, whole.left, whole.right, column)?;
     for (index, region) in regions.iter().enumerate() {
@@ -397,9 +406,11 @@ fn place<'a, A: Allocator + Copy>(
 
 /// Where the box of a region stands.
 pub fn frame_of<A: Allocator + Copy>(heights: &Heights<A>, placed: &Placed<'_>) -> Frame
-    ensures { IsNonDecreasingBy (λ run. run.begin) heights.now.runs.items
+    ensures framed { IsNonDecreasingBy (λ run. run.begin) heights.now.runs.items
         → IsFramed (height_at heights.now.runs.items heights.now.bottom)
         placed.entry.now.region.first placed.entry.now.region.last result.y result.height }
+    ensures left { result.x ≡ placed.entry.now.width.left }
+    ensures width { result.width ≡ max 1 (placed.entry.now.width.right - placed.entry.now.width.left - 2) }
 {
     let y = heights.y(u128::from(placed.region.first));
     let end = heights.y(u128::from(placed.region.last) + 1);

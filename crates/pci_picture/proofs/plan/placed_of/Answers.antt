@@ -1,6 +1,29 @@
-use Rattle.std.proofs.Common.{rules}
+use Rattle.std.proofs.Common.{rules, arith, sym, ◌∙◌, ◌≡◌, length}
+use Rattle.std.proofs.lemmas.Bool.{eqb-true}
+use Rattle.pci_picture.proofs.Beside.{placed_beside}
 use Rattle.pci_picture.proofs.Sections.{both_places}
 use Rattle.pci_picture.proofs.plan.placed_of.Goals as goal
+use Rattle.pci_picture.proofs.plan.placed_of.Goals.{then-is_empty, else-is_empty}
 
-pub returns : goal.returns
-returns g c = search (rules, both_places)
+pub returns-clause-regions : goal.returns-clause-regions
+returns-clause-regions g c = search (rules, both_places)
+
+pub returns-clause-beside : goal.returns-clause-beside
+returns-clause-beside g c =
+    placed_beside c.args.site.now c.args.regions.now _ _ c.args.index c.min.result _ _ _ _ _ _ _
+    c.min.ensures c.split_at.ensures.front c.split_at.ensures.back c.new-placed.ensures.items
+    c.in_ok-place.ensures.widths c.in_ok-place-2.ensures.widths
+    (elim c.if-is_empty.branch [
+      | then-is_empty w ↦ record {
+        in_row = λ sides. omega (arith, sides.wide, sides.uncut, w.split-is, c.saturating_add-left.ensures, c.saturating_add-edge.ensures);
+        behind = λ sides. omega (arith, sides.wide, sides.uncut, w.split-is, c.saturating_add-left.ensures, c.saturating_add-edge.ensures, c.saturating_add-beside.ensures);
+        room = λ sides some.
+            let none : length c.split_at.result.1.now ≡ 0 = eqb-true _ 0 (sym c.is_empty.ensures ∙ w.if-is_empty.true) in
+            absurd (omega (arith, none, some));
+      }
+      | else-is_empty w ↦ record {
+        in_row = λ sides. omega (arith, sides.wide, sides.uncut, w.split-is, w.saturating_sub-split.ensures, c.saturating_add-left.ensures, c.saturating_add-edge.ensures);
+        behind = λ sides. omega (arith, sides.wide, sides.uncut, w.split-is, w.saturating_sub-split.ensures, c.saturating_add-left.ensures, c.saturating_add-edge.ensures, c.saturating_add-beside.ensures);
+        room = λ sides some. omega (arith, sides.wide, sides.uncut, w.split-is, w.saturating_sub-split.ensures, c.saturating_add-left.ensures, c.saturating_add-edge.ensures, c.saturating_add-beside.ensures);
+      }
+    ])

@@ -7,7 +7,7 @@ use Rattle.pci_picture.proofs.Marked.{planned}
 use Rattle.pci_picture.proofs.plan.Plan.of.Goals as goal
 
 pub returns-clause-placed : goal.returns-clause-placed
-returns-clause-placed g c = c.in_ok-placed.ensures ∙ c.as_slice-every.ensures.value ∙ c.in_ok-regions.ensures
+returns-clause-placed g c = c.in_ok-placed.ensures.regions ∙ c.as_slice-every.ensures.value ∙ c.in_ok-regions.ensures
 
 pub returns-clause-planned : goal.returns-clause-planned
 returns-clause-planned g c small =
