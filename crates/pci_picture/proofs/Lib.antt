@@ -34,4 +34,5 @@ pub mod Seated
 pub mod Lined
 pub mod SeatedUpTo
 pub mod Counted
+pub mod Crowded
 pub mod Beside

@@ -12,9 +12,10 @@ use Rattle.pci_picture.specs.Seats.{HasParent, IsLevelAdded, IsSeatGiven, seat_a
 -- a level that was pushed behind all others
 pub level_added : {A : Type 0} (count depth : ℕ) (old kept new : List (Level A)) (level : Level A) → kept ≡ take depth old → length old ≤ depth
     → new ≡ kept ++ (level ∷ []) → (depth ≤ 1 → level.parent ≡ None) → (1 < depth → 0 < count → level.parent ≡ Some (count - 1))
-    → level.until ≡ None → IsLevelAdded count depth old new
-level_added count depth old kept new level is short added top inner empty = record {
+    → level.until ≡ None → level.ends.items ≡ [] → IsLevelAdded count depth old new
+level_added count depth old kept new level is short added top inner empty no_lane = record {
   is_empty = empty;
+  no_lane = no_lane;
   level = level;
   added = added ∙ ap (λ l. l ++ (level ∷ [])) (is ∙ take_all depth old short);
   is_top = top;

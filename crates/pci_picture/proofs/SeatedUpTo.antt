@@ -6,9 +6,10 @@ use Rattle.std.specs.List.{slice_index, slice_index_or}
 use Rattle.pci_picture.specs.declared.lanes.Level.{Level}
 use Rattle.pci_picture.specs.declared.lanes.Seat.{Seat}
 use Rattle.pci_picture.specs.declared.region.Region.{Region}
-use Rattle.pci_picture.specs.Lanes.{AreDeep, IsIndented, SiblingsRise, depth_at, first_address_at, last_address_at}
-use Rattle.pci_picture.specs.Seats.{AreSeatedApart, HaveParents, IsLevelAdded, IsSeatGiven}
+use Rattle.pci_picture.specs.Lanes.{AreDeep, AreRanges, IsIndented, SiblingsRise, depth_at, first_address_at, last_address_at}
+use Rattle.pci_picture.specs.Seats.{AreSeatedApart, HaveLanes, HaveParents, IsLaneAdded, IsLevelAdded, IsSeatGiven}
 use Rattle.pci_picture.proofs.Seated.{IsMapped, opened, seated}
+use Rattle.pci_picture.proofs.Crowded.{AreCrowded, opened_crowded, seated_crowded}
 use Rattle.pci_picture.proofs.Lined.{AreLined, opened_lines, seated_lines}
 
 -- what is known of the lines before an index
@@ -92,19 +93,17 @@ pub number_at : (f : Region → ℕ) (regions : List Region) (i : ℕ) (region :
     → slice_index (map f regions) i ≡ f region
 number_at f regions i region inside is = get_or-map f regions i region 0 inside ∙ ap f (sym is)
 
--- the same of the region that the loop reads
-pub one_read : {A : Type 0} (regions : List Region) (n t count : ℕ) (seats after : List Seat) (old mid levels : List (Level A)) (level new : Level A) (region : Region)
+-- the step of the region that the loop reads
+step_read : {A : Type 0} (regions : List Region) (n t count : ℕ) (seats after : List Seat) (old mid : List (Level A)) (level new : Level A) (region : Region)
     → n < length regions → region ≡ slice_index_or regions n region → count ≡ length seats
     → (region.depth ≤ length old → mid ≡ take region.depth old) → (length old < region.depth → IsLevelAdded count region.depth old mid)
     → t + 1 ≡ length mid → ((d : Level A) → level ≡ slice_index_or mid t d) → IsSeatGiven region.first region.last level new seats after
-    → levels ≡ set mid t new → IsSeatedUpTo regions n seats old → IsSeatedUpTo regions (n + 1) after levels
-one_read regions n t count seats after old mid levels level new region inside is count_is kept added at level_is given levels_are up =
+    → IsStep regions n t seats after old mid level new
+step_read regions n t count seats after old mid level new region inside is count_is kept added at level_is given =
     let depth : region.depth ≡ depth_at regions n = sym (number_at (λ r. r.depth) regions n region inside is) in
     let first : region.first ≡ first_address_at regions n = sym (number_at (λ r. r.first) regions n region inside is) in
     let last : region.last ≡ last_address_at regions n = sym (number_at (λ r. r.last) regions n region inside is) in
-    subst (λ l. IsSeatedUpTo regions (n + 1) after l) (sym levels_are)
-    (one_seated regions n t seats after old mid level new inside
-    (record {
+    record {
       kept = subst (λ k. k ≤ length old → mid ≡ take k old) depth kept;
       added = subst (λ k. length old < depth_at regions n → IsLevelAdded k (depth_at regions n) old mid) count_is
           (subst (λ k. length old < k → IsLevelAdded count k old mid) depth added);
@@ -112,7 +111,45 @@ one_read regions n t count seats after old mid levels level new region inside is
       level_is = λ d. sym (level_is d);
       given = subst (λ a. IsSeatGiven (first_address_at regions n) a level new seats after) last
           (subst (λ a. IsSeatGiven a region.last level new seats after) first given);
-    }) up)
+    }
+
+pub one_read : {A : Type 0} (regions : List Region) (n t count : ℕ) (seats after : List Seat) (old mid levels : List (Level A)) (level new : Level A) (region : Region)
+    → n < length regions → region ≡ slice_index_or regions n region → count ≡ length seats
+    → (region.depth ≤ length old → mid ≡ take region.depth old) → (length old < region.depth → IsLevelAdded count region.depth old mid)
+    → t + 1 ≡ length mid → ((d : Level A) → level ≡ slice_index_or mid t d) → IsSeatGiven region.first region.last level new seats after
+    → levels ≡ set mid t new → IsSeatedUpTo regions n seats old → IsSeatedUpTo regions (n + 1) after levels
+one_read regions n t count seats after old mid levels level new region inside is count_is kept added at level_is given levels_are up =
+    subst (λ l. IsSeatedUpTo regions (n + 1) after l) (sym levels_are)
+    (one_seated regions n t seats after old mid level new inside
+    (step_read regions n t count seats after old mid level new region inside is count_is kept added at level_is given) up)
+
+pub one_crowded : {A : Type 0} (regions : List Region) (n t count : ℕ) (seats after : List Seat) (lanes more : List ℕ) (old mid levels : List (Level A)) (level new : Level A)
+    (region : Region) → n < length regions → region ≡ slice_index_or regions n region → count ≡ length seats
+    → (region.depth ≤ length old → mid ≡ take region.depth old) → (length old < region.depth → IsLevelAdded count region.depth old mid)
+    → t + 1 ≡ length mid → ((d : Level A) → level ≡ slice_index_or mid t d) → IsSeatGiven region.first region.last level new seats after
+    → IsLaneAdded level new seats after lanes more → levels ≡ set mid t new → IsIndented regions → SiblingsRise regions → AreRanges regions
+    → IsSeatedUpTo regions n seats old → HaveLanes seats lanes → AreCrowded regions n seats lanes old → AreCrowded regions (n + 1) after more levels
+one_crowded regions n t count seats after lanes more old mid levels level new region inside is count_is kept added at level_is given lane_added levels_are
+    indented rise ranges up have crowded =
+    let step = step_read regions n t count seats after old mid level new region inside is count_is kept added at level_is given in
+    let mapped = up.mapped indented in
+    subst (λ l. AreCrowded regions (n + 1) after more l) (sym levels_are)
+    (seated_crowded regions n t seats after lanes more mid level new rise ranges inside indented.deep
+    (opened regions n seats old mid indented inside mapped step.kept
+    (λ less. subst (λ (k : ℕ). IsLevelAdded k (depth_at regions n) old mid) mapped.count (step.added less)))
+    have step.at step.level_is step.given lane_added
+    (opened_crowded regions n (length seats) (depth_at regions n) seats lanes old mid step.kept step.added crowded))
+
+-- no line is deep where no level is left
+pub never_empty : {A : Type 0} (regions : List Region) (n count : ℕ) (old mid : List (Level A)) (region : Region)
+    → n < length regions → region ≡ slice_index_or regions n region
+    → (region.depth ≤ length old → mid ≡ take region.depth old) → (length old < region.depth → IsLevelAdded count region.depth old mid)
+    → length mid ≡ 0 → AreDeep regions → ⊥
+never_empty regions n count old mid region inside is kept added none deep =
+    let depth : region.depth ≡ depth_at regions n = sym (number_at (λ r. r.depth) regions n region inside is) in
+    no_level regions n count old mid inside
+    (subst (λ k. k ≤ length old → mid ≡ take k old) depth kept)
+    (subst (λ k. length old < k → IsLevelAdded count k old mid) depth added) none deep
 
 pub none_read : {A : Type 0} (regions : List Region) (n count m : ℕ) (seats : List Seat) (old mid levels : List (Level A)) (region : Region)
     → n < length regions → region ≡ slice_index_or regions n region

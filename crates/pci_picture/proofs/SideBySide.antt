@@ -1,15 +1,15 @@
 -- Lanes stand side by side.
-use Rattle.std.proofs.Common.{arith, ℕ, ◌≡◌, ◌≢◌, ◌+◌, ◌*◌, ◌-◌, ◌/◌, ◌<◌, ◌≤◌, List, [], ◌∷◌, ◌++◌, length, Option, None, Some, max, mul-le-mul_left, div-mul-le_self, subst, sym, ap, refl, ◌∙◌, inl, inr, Result, Ok, Err, IfOk}
+use Rattle.std.proofs.Common.{arith, ℕ, ◌≡◌, ◌≢◌, ◌+◌, ◌*◌, ◌-◌, ◌/◌, ◌<◌, ◌≤◌, List, [], ◌∷◌, ◌++◌, length, Option, None, Some, max, mul-le-mul_left, div-mul-le_self, add-mul, mul-suc, le_of_mul-le-mul_right, subst, sym, ap, refl, ◌∙◌, inl, inr}
 use native.Mathlib.Nat.{le_trans}
 use Rattle.std.proofs.lemmas.Bool.{cases_lt}
 use Rattle.std.proofs.lemmas.List.{get_or_append_left, get_or_push, get_or_default, get_or_past, length_push}
 use Rattle.std.proofs.lemmas.Nat.{div_below, le-div, row_fits_turned}
-use Rattle.std.specs.List.{All, slice_index_or}
+use Rattle.std.specs.List.{All, slice_index, slice_index_or}
 use Rattle.pci_picture.specs.declared.lanes.Seat.{Seat}
 use Rattle.pci_picture.specs.declared.lanes.Width.{Width}
 use Rattle.pci_picture.specs.declared.region.Region.{Region}
-use Rattle.pci_picture.specs.Lanes.{AreNested, BeginInside, IsOrdered, IsParent, SameParent, StandApart, StandSideBySide, StandsBetween, width_at}
-use Rattle.pci_picture.specs.Seats.{AreSeatedApart, AreWidthsOfSeats, HasParent, HaveParents, HasLane, HaveLanes, IsWidthOfLane, IsWidthOfSeat, lane_at, outer_at, seat_at}
+use Rattle.pci_picture.specs.Lanes.{AreNested, BeginInside, HasShare, HaveShares, HoldTogether, IsOrdered, IsParent, SameParent, StandApart, StandSideBySide, StandsBetween, width_at}
+use Rattle.pci_picture.specs.Seats.{AreSeatedApart, AreWidthsOfSeats, HasParent, HaveParents, HasLane, HaveLanes, HoldLanesTogether, IsWidthOfLane, IsWidthOfSeat, lane_at, outer_at, seat_at}
 
 div_rises : (a b n : ℕ) → 0 < n → a ≤ b → a / n ≤ b / n
 div_rises a b n some le =
@@ -29,11 +29,11 @@ pub lane_inside : (left right lane lanes : ℕ) → left ≤ right → (left ≤
 lane_inside left right lane lanes le = (omega arith, omega arith)
 
 -- a width that reaches from the begin of its lane to that of the next one
-pub width_of_lane : (outer : Width) (lane lanes next : ℕ) (width : Width) → lane ≤ next → next ≤ lane + 1
+pub width_of_lane : (outer : Width) (lane lanes next : ℕ) (width : Width) → lane ≤ next → next ≤ lane + 1 → (lane < lanes → next ≡ lane + 1)
     → width.left ≡ lane_at outer.inner outer.right lane lanes → width.right ≡ lane_at outer.inner outer.right next lanes
     → (width.left ≤ width.right → (width.left ≤ width.inner) × (width.inner ≤ width.right))
     → IsWidthOfLane outer lane lanes width
-width_of_lane outer lane lanes next width least most left right inner =
+width_of_lane outer lane lanes next width least most more left right inner =
     let rises : lane_at outer.inner outer.right lane lanes ≤ lane_at outer.inner outer.right next lanes =
     lane_rises outer.inner outer.right lane next lanes (omega arith) in
     let ends : lane_at outer.inner outer.right next lanes ≤ lane_at outer.inner outer.right (lane + 1) lanes =
@@ -42,6 +42,7 @@ width_of_lane outer lane lanes next width least most left right inner =
     record {
       begins = left;
       ends = subst (λ a. a ≤ lane_at outer.inner outer.right (lane + 1) lanes) (sym right) ends;
+      full = λ less. right ∙ ap (λ (k : ℕ). lane_at outer.inner outer.right k lanes) (more less);
       inner = (inner both).0;
       within = (inner both).1;
       inside = λ le. (
@@ -291,8 +292,64 @@ begin_all regions whole seats lanes widths placed count parents have = record {
       (subst (λ (w : Width). IsWidthOfLane w (seat_at seats i).lane (slice_index_or lanes (seat_at seats i).group 1) (width_at widths i)) outer here.is_lane) room;
 }
 
--- ---- what a call answered
+-- ---- how wide boxes are
 
-pub if_ok : {A E : Type 0} (P Q : A → Type 0) (r : Result A E) → ((v : A) → P v → Q v) → IfOk r P → IfOk r Q
-if_ok P Q (Ok v) step is = step v is
-if_ok P Q (Err e) step is = is
+share : (width lane lanes : ℕ) → 0 < lanes → width * lane / lanes + width / lanes ≤ width * (lane + 1) / lanes
+share width lane lanes some =
+    let one : width * lane / lanes * lanes ≤ width * lane = div-mul-le_self (width * lane) lanes in
+    let two : width / lanes * lanes ≤ width = div-mul-le_self width lanes in
+    let both : (width * lane / lanes + width / lanes) * lanes ≤ width * (lane + 1) =
+    omega (arith, add-mul (width * lane / lanes) (width / lanes) lanes, one, two, mul-suc width lane) in
+    le-div (width * lane / lanes + width / lanes) (width * (lane + 1)) lanes some both
+
+share_fits : (width lane lanes : ℕ) → lane < lanes → width * (lane + 1) / lanes ≤ width
+share_fits width lane lanes less =
+    let one : width * (lane + 1) / lanes * lanes ≤ width * (lane + 1) = div-mul-le_self (width * (lane + 1)) lanes in
+    let two : width * (lane + 1) ≤ width * lanes = mul-le-mul_left width (omega arith) in
+    le_of_mul-le-mul_right (le_trans one two) (omega arith)
+
+lane_wide : (left right lane lanes : ℕ) → lane < lanes → (right - left) / max 1 lanes ≤ lane_at left right (lane + 1) lanes - lane_at left right lane lanes
+lane_wide left right lane lanes less =
+    let one = share (right - left) lane (max 1 lanes) (omega arith) in
+    let two = share_fits (right - left) lane (max 1 lanes) (omega arith) in
+    omega (arith, one, two)
+
+-- a box has the share of its lane
+width_shares : (outer width : Width) (lanes : List ℕ) (group lane : ℕ) → HasLane lanes group lane
+    → IsWidthOfLane outer lane (slice_index_or lanes group 1) width → (outer.right - outer.inner) / slice_index lanes group ≤ width.right - width.left
+width_shares outer width lanes group lane has is =
+    let same : slice_index_or lanes group 1 ≡ slice_index lanes group = get_or_default lanes group 1 0 has.0 in
+    let lane_is : IsWidthOfLane outer lane (slice_index lanes group) width = subst (λ (n : ℕ). IsWidthOfLane outer lane n width) same is in
+    let wide = lane_wide outer.inner outer.right lane (slice_index lanes group) has.1 in
+    let most : max 1 (slice_index lanes group) ≡ slice_index lanes group = omega (arith, has.1) in
+    subst (λ (n : ℕ). (outer.right - outer.inner) / n ≤ width.right - width.left) most
+    (subst (λ (a : ℕ). (outer.right - outer.inner) / max 1 (slice_index lanes group) ≤ a - width.left) (sym (lane_is.full has.1))
+    (subst (λ (a : ℕ). (outer.right - outer.inner) / max 1 (slice_index lanes group)
+    ≤ lane_at outer.inner outer.right (lane + 1) (slice_index lanes group) - a) (sym lane_is.begins) wide))
+
+has_share : (regions : List Region) (outer width : Width) (i : ℕ) (lanes : List ℕ) (group lane : ℕ) → HasLane lanes group lane
+    → HoldTogether regions i (slice_index lanes group) → IsWidthOfLane outer lane (slice_index_or lanes group 1) width
+    → HasShare regions outer.inner outer.right i width
+has_share regions outer width i lanes group lane has together is = record {
+  n = slice_index lanes group;
+  some = omega (arith, has.1);
+  together = together;
+  wide = width_shares outer width lanes group lane has is;
+}
+
+pub shares_all : (regions : List Region) (whole : Width) (seats : List Seat) (lanes : List ℕ) (widths : List Width)
+    → AreWidthsOfSeats whole seats lanes widths (length regions) → length seats ≡ length regions → HaveParents regions seats → HaveLanes seats lanes
+    → HoldLanesTogether regions seats lanes → HaveShares regions whole.inner whole.right widths
+shares_all regions whole seats lanes widths placed count parents have together = record {
+  top = λ i inside none.
+      let here = placed i inside in
+      let outer : here.outer ≡ whole = here.is_top (no_parent regions i (seat_at seats i).parent (parents i inside) none) in
+      has_share regions whole (width_at widths i) i lanes (seat_at seats i).group (seat_at seats i).lane (have i (omega arith)) (together i inside)
+      (subst (λ (w : Width). IsWidthOfLane w (seat_at seats i).lane (slice_index_or lanes (seat_at seats i).group 1) (width_at widths i)) outer here.is_lane);
+  inner = λ p i inside parent.
+      let here = placed i inside in
+      let outer : here.outer ≡ width_at widths p =
+      here.is_inner p (seated_in_is regions i p (seat_at seats i).parent (parents i inside) parent) parent.before in
+      has_share regions (width_at widths p) (width_at widths i) i lanes (seat_at seats i).group (seat_at seats i).lane (have i (omega arith)) (together i inside)
+      (subst (λ (w : Width). IsWidthOfLane w (seat_at seats i).lane (slice_index_or lanes (seat_at seats i).group 1) (width_at widths i)) outer here.is_lane);
+}

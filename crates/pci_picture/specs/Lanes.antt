@@ -1,5 +1,5 @@
 -- Which line of a section stands inside which, and from where to where their boxes reach.
-use Rattle.std.specs.Prelude.{◌<◌, ◌≤◌, ◌+◌, ◌⊎◌, ◌↔◌, ℕ, List, map, length, slice_index, slice_index_or}
+use Rattle.std.specs.Prelude.{◌≡◌, ◌<◌, ◌≤◌, ◌+◌, ◌-◌, ◌/◌, ◌⊎◌, ◌↔◌, ℕ, List, map, length, slice_index, slice_index_or}
 use Rattle.pci_picture.specs.declared.lanes.Width.{Width}
 use Rattle.pci_picture.specs.declared.region.Region.{Region}
 
@@ -79,3 +79,30 @@ pub record BeginInside (regions : List Region) (left right : ℕ) (widths : List
   pub top : (i : ℕ) → i < length regions → ((p : ℕ) → IsParent regions p i → ⊥) → left < right → (width_at widths i).left < right
   pub inner : (p i : ℕ) → i < length regions → IsParent regions p i → (width_at widths p).inner < (width_at widths p).right
       → (width_at widths i).left < (width_at widths p).right
+
+-- no line ends before it begins
+abbrev pub AreRanges : List Region → Type 0
+AreRanges regions = (k : ℕ) → k < length regions → first_address_at regions k ≤ last_address_at regions k
+
+-- a line holds an address
+abbrev pub HoldsAt : List Region → ℕ → ℕ → Type 0
+HoldsAt regions k address = (first_address_at regions k ≤ address) × (address ≤ last_address_at regions k)
+
+-- some lines of one parent, numbered from 0 to n - 1, hold one address: the line at i has the same parent
+pub record HoldTogether (regions : List Region) (i n : ℕ) : Type 0 where
+  pub address : ℕ
+  pub number : ℕ → ℕ
+  pub lines : (k : ℕ) → k < n → (j : ℕ) × (j < length regions) × SameParent regions i j × HoldsAt regions j address × (number j ≡ k)
+
+-- a box is at least as wide as a room that is divided by some number of lines that hold one address together
+pub record HasShare (regions : List Region) (left right i : ℕ) (width : Width) : Type 0 where
+  pub n : ℕ
+  pub some : 0 < n
+  pub together : HoldTogether regions i n
+  pub wide : (right - left) / n ≤ width.right - width.left
+
+-- each box has its share of the room that it stands in: the room of its parent, or the whole
+pub record HaveShares (regions : List Region) (left right : ℕ) (widths : List Width) : Type 0 where
+  pub top : (i : ℕ) → i < length regions → ((p : ℕ) → IsParent regions p i → ⊥) → HasShare regions left right i (width_at widths i)
+  pub inner : (p i : ℕ) → i < length regions → IsParent regions p i
+      → HasShare regions (width_at widths p).inner (width_at widths p).right i (width_at widths i)

@@ -4,7 +4,7 @@ use Rattle.pci_picture.specs.declared.lanes.Level.{Level}
 use Rattle.pci_picture.specs.declared.lanes.Seat.{Seat}
 use Rattle.pci_picture.specs.declared.lanes.Width.{Width}
 use Rattle.pci_picture.specs.declared.region.Region.{Region}
-use Rattle.pci_picture.specs.Lanes.{IsParent, Overlap, width_at}
+use Rattle.pci_picture.specs.Lanes.{HoldTogether, IsParent, Overlap, width_at}
 
 -- where a lane begins, of some lanes that share the units between left and right
 abbrev pub lane_at : ℕ → ℕ → ℕ → ℕ → ℕ
@@ -19,6 +19,7 @@ outer_at widths (Some parent) whole = slice_index_or widths parent whole
 pub record IsWidthOfLane (outer : Width) (lane lanes : ℕ) (width : Width) : Type 0 where
   pub begins : width.left ≡ lane_at outer.inner outer.right lane lanes
   pub ends : width.right ≤ lane_at outer.inner outer.right (lane + 1) lanes
+  pub full : lane < lanes → width.right ≡ lane_at outer.inner outer.right (lane + 1) lanes
   pub inner : width.left ≤ width.inner
   pub within : width.inner ≤ width.right
   pub inside : outer.inner ≤ outer.right → (outer.inner ≤ width.left) × (width.right ≤ outer.right)
@@ -77,6 +78,10 @@ IsLaneGiven old first last lane new =
     ((lane ≡ length old) × (new ≡ old ++ (last ∷ [])))
     ⊎ ((lane < length old) × (slice_index old lane < first) × (new ≡ slice_set old lane last))
 
+-- no lane ends before an address
+abbrev pub NoneEndsBefore : ℕ → List ℕ → Type 0
+NoneEndsBefore first ends = (lane : ℕ) → lane < length ends → first ≤ slice_index ends lane
+
 -- a level is the same but for its lanes
 pub record SameButLanes {A : Type 0} (old new : Level A) : Type 0 where
   pub parent : new.parent ≡ old.parent
@@ -94,6 +99,8 @@ pub record IsSeatGiven {A : Type 0} (first last : ℕ) (old new : Level A) (befo
   pub is_group : JoinsGroup last old between ⊎ BeginsGroup first last old between
   pub is_same : SameButLanes between new
   pub is_lane : IsLaneGiven between.ends.items first last seat.lane new.ends.items
+  pub is_full : NoneEndsBefore old.least old.ends.items → seat.lane ≡ length between.ends.items → NoneEndsBefore first between.ends.items
+  pub is_least : first ≤ last → NoneEndsBefore old.least old.ends.items → NoneEndsBefore new.least new.ends.items
 
 -- a level with no line yet was added, for lines inside the last of those that were seated
 pub record IsLevelAdded {A : Type 0} (count depth : ℕ) (old new : List (Level A)) : Type 0 where
@@ -102,6 +109,7 @@ pub record IsLevelAdded {A : Type 0} (count depth : ℕ) (old new : List (Level 
   pub is_top : depth ≤ 1 → level.parent ≡ None
   pub is_inner : 1 < depth → 0 < count → level.parent ≡ Some (count - 1)
   pub is_empty : level.until ≡ None
+  pub no_lane : level.ends.items ≡ []
 
 -- the group of a lane has more lanes than the index of that lane
 abbrev pub HasLane : List ℕ → ℕ → ℕ → Type 0
@@ -121,6 +129,21 @@ IsGroupAmong (Some until) group count = group < count
 abbrev pub HaveLanes : List Seat → List ℕ → Type 0
 HaveLanes seats lanes = (k : ℕ) → k < length seats → HasLane lanes (seat_at seats k).group (seat_at seats k).lane
 
+-- no group has more lanes than before
+abbrev pub AddsNoLane : List ℕ → List ℕ → Type 0
+AddsNoLane old new = (group : ℕ) → slice_index new group ≤ slice_index old group
+
+-- one group has room for a lane at most, and no other one has more lanes than before
+pub record IsWidened (group lane : ℕ) (old new : List ℕ) : Type 0 where
+  pub few : slice_index new group ≤ max (slice_index old group) (lane + 1)
+  pub others : (other : ℕ) → other ≢ group → slice_index new other ≤ slice_index old other
+
+-- a level has the group that it had, or the next one behind some groups
+abbrev pub IsGroupGiven : {A : Type 0} → Level A → Level A → List ℕ → List ℕ → Type 0
+IsGroupGiven old new lanes more =
+    ((old.until ≢ None) × (new.group ≡ old.group) × (length more ≡ length lanes))
+    ⊎ ((new.group ≡ length lanes) × (length more ≡ length lanes + 1))
+
 -- a seat was added, and its group has its lane
 pub record IsLaneAdded {A : Type 0} (old new : Level A) (before after : List Seat) (lanes more : List ℕ) : Type 0 where
   pub seat : Seat
@@ -128,3 +151,10 @@ pub record IsLaneAdded {A : Type 0} (old new : Level A) (before after : List Sea
   pub group : seat.group ≡ new.group
   pub kept : KeepLanes lanes more
   pub has : IsGroupAmong old.until old.group (length lanes) → HasLane more seat.group seat.lane
+  pub is_group : IsGroupGiven old new lanes more
+  pub is_widened : IsWidened seat.group seat.lane lanes more
+
+-- a group has no more lanes than lines of one parent hold one address together
+abbrev pub HoldLanesTogether : List Region → List Seat → List ℕ → Type 0
+HoldLanesTogether regions seats lanes =
+    (i : ℕ) → i < length regions → HoldTogether regions i (slice_index lanes (seat_at seats i).group)

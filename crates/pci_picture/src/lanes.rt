@@ -2,8 +2,8 @@
 
 ghost use Rattle.std.specs.Prelude.{◌≡◌, ◌<◌, ◌≤◌, ◌⊎◌, ◌+◌, ◌-◌, ◌^◌, IfOk, IfSome, OnOk, Some, None, length, take, slice_index, slice_index_or};
 ghost use Rattle.std.specs.List.{All};
-ghost use Rattle.pci_picture.specs.Lanes.{AreDeep, AreNested, BeginInside, IsIndented, IsOrdered, SiblingsRise, StandSideBySide, StandsBetween};
-ghost use Rattle.pci_picture.specs.Seats.{AreSeatedApart, AreWidthsOfSeats, BeginsGroup, HasLane, HaveParents, HaveLanes, IsGroupAmong, IsLaneAdded, IsLaneGiven, IsLevelAdded, IsSeatGiven, IsWidthOfLane, JoinsGroup, KeepLanes, SameButLanes, lane_at, outer_at};
+ghost use Rattle.pci_picture.specs.Lanes.{AreDeep, AreNested, AreRanges, BeginInside, HaveShares, IsIndented, IsOrdered, SiblingsRise, StandSideBySide, StandsBetween};
+ghost use Rattle.pci_picture.specs.Seats.{AddsNoLane, AreSeatedApart, AreWidthsOfSeats, BeginsGroup, HasLane, HaveParents, HaveLanes, HoldLanesTogether, IsGroupAmong, IsGroupGiven, IsLaneAdded, IsLaneGiven, IsLevelAdded, IsSeatGiven, IsWidened, IsWidthOfLane, JoinsGroup, KeepLanes, NoneEndsBefore, SameButLanes, lane_at, outer_at};
 
 use super::memory::OutOfMemory;
 use super::region::{Part, Region};
@@ -51,7 +51,8 @@ struct Seats<A: Allocator> {
 impl<A: Allocator + Copy> Level<A> {
     /// A lane whose last line ended before an address, the least one.
     fn free_lane(&self, first: u64) -> Option<usize>
-        ensures { IfSome result (λ lane. (lane < length self.now.ends.items) × (slice_index self.now.ends.items lane < first)) }
+        ensures some { IfSome result (λ lane. (lane < length self.now.ends.items) × (slice_index self.now.ends.items lane < first)) }
+        ensures none { NoneEndsBefore self.now.least self.now.ends.items → result ≡ None → NoneEndsBefore first self.now.ends.items }
     {
         // where no lane ended before `first`, none is searched
         if first <= self.least {
@@ -65,6 +66,9 @@ impl<A: Allocator + Copy> Level<A> {
         ensures same { SameButLanes self.old self.new }
         ensures small { IfOk result (λ lane. lane + 1 < 2 ^ 64) }
         ensures given { IfOk result (λ lane. IsLaneGiven self.old.ends.items first last lane self.new.ends.items) }
+        ensures least { first ≤ last → NoneEndsBefore self.old.least self.old.ends.items → OnOk result (NoneEndsBefore self.new.least self.new.ends.items) }
+        ensures full { NoneEndsBefore self.old.least self.old.ends.items
+            → IfOk result (λ lane. lane ≡ length self.old.ends.items → NoneEndsBefore first self.old.ends.items) }
     {
         match self.free_lane(first) {
             Some(lane) => {
@@ -94,6 +98,8 @@ fn lanes_to(lane: usize) -> usize
 fn widen<A: Allocator + Copy>(lanes: &mut Vec<usize, A>, group: usize, lane: usize)
     ensures kept { KeepLanes lanes.old.items lanes.new.items }
     ensures has { group < length lanes.old.items → lane + 1 < 2 ^ 64 → HasLane lanes.new.items group lane }
+    ensures size { length lanes.new.items ≡ length lanes.old.items }
+    ensures widened { IsWidened group lane lanes.old.items lanes.new.items }
 {
     if let Some(count) = lanes.get_mut(group) {
         *count = (*count).max(lanes_to(lane));
@@ -107,6 +113,9 @@ impl<A: Allocator + Copy> Seats<A> {
         ensures parent { level.new.parent ≡ level.old.parent }
         ensures seats { self.new.seats.items ≡ self.old.seats.items }
         ensures kept { KeepLanes self.old.lanes.items self.new.lanes.items }
+        ensures no_lane { AddsNoLane self.old.lanes.items self.new.lanes.items }
+        ensures given { OnOk result (IsGroupGiven level.old level.new self.old.lanes.items self.new.lanes.items) }
+        ensures least { NoneEndsBefore level.old.least level.old.ends.items → OnOk result (NoneEndsBefore level.new.least level.new.ends.items) }
         ensures among { OnOk result (IsGroupAmong level.old.until level.old.group (length self.old.lanes.items)
             → level.new.group < length self.new.lanes.items) }
         ensures group { OnOk result (JoinsGroup last level.old level.new ⊎ BeginsGroup first last level.old level.new) }
@@ -189,6 +198,8 @@ fn seats_of<A: Allocator + Copy>(alloc: A, regions: &[Region<'_>]) -> Result<Sea
     ensures apart { IsIndented regions.entry.now → SiblingsRise regions.entry.now
         → IfOk result (λ seats. AreSeatedApart regions.entry.now seats.seats.items (length regions.entry.now)) }
     ensures lanes { IfOk result (λ seats. HaveLanes seats.seats.items seats.lanes.items) }
+    ensures together { IsIndented regions.entry.now → SiblingsRise regions.entry.now → AreRanges regions.entry.now
+        → IfOk result (λ seats. HoldLanesTogether regions.entry.now seats.seats.items seats.lanes.items) }
 {
     let mut seats = Seats {
         seats: Vec::new(alloc),
@@ -291,6 +302,8 @@ pub fn widths<A: Allocator + Copy>(
     ensures begin { IsIndented regions.entry.now → IfOk result (λ widths. BeginInside regions.entry.now left right widths.items) }
     ensures apart { IsIndented regions.entry.now → SiblingsRise regions.entry.now
         → IfOk result (λ widths. StandSideBySide regions.entry.now widths.items) }
+    ensures shares { IsIndented regions.entry.now → SiblingsRise regions.entry.now → AreRanges regions.entry.now
+        → IfOk result (λ widths. HaveShares regions.entry.now left right widths.items) }
 {
     let seats = seats_of(alloc, regions)?;
     let whole = Width {

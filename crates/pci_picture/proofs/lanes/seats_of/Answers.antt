@@ -1,7 +1,8 @@
 use Rattle.std.proofs.Common.{arith, ap, subst, sym, ◌-◌, ◌+◌}
 use Rattle.std.specs.Vec.{vec_len}
 use Rattle.pci_picture.proofs.Counted.{AreCounted, added_counted, none_counted, opened_counted}
-use Rattle.pci_picture.proofs.SeatedUpTo.{IsSeatedUpTo, all_apart, all_parents, none_read, none_seated, one_read}
+use Rattle.pci_picture.proofs.Crowded.{AreCrowded, all_together, none_crowded}
+use Rattle.pci_picture.proofs.SeatedUpTo.{IsSeatedUpTo, all_apart, all_parents, never_empty, none_read, none_seated, one_crowded, one_read}
 use Rattle.pci_picture.proofs.lanes.seats_of.Goals as goal
 use Rattle.pci_picture.proofs.lanes.seats_of.Goals.{in-Some+in_ok-add, in_default}
 
@@ -9,6 +10,8 @@ pub loop-region-init : goal.loop-region-init
 loop-region-init g c = record {
   seated = none_seated c.args.regions.now c.new.result.items c.new-levels.result.items c.new.ensures.items c.new-levels.ensures.items;
   counted = none_counted c.new.result.items c.new-2.result.items c.new-levels.result.items c.new.ensures.items c.new-levels.ensures.items;
+  crowded = λ indented rise ranges.
+      none_crowded c.args.regions.now c.new.result.items c.new-2.result.items c.new-levels.result.items c.new-2.ensures.items c.new-levels.ensures.items;
 }
 
 pub loop-region-preserved : goal.loop-region-preserved
@@ -41,6 +44,21 @@ loop-region-preserved g c = record {
             subst (λ s. AreCounted s.seats.items s.lanes.items c.match-last_mut.levels.items) (sym w.seats-is)
             (subst (λ v. AreCounted c.loop-region.seats.seats.items c.loop-region.seats.lanes.items v.items) (sym w.levels-is) mid)
       ];
+  crowded = λ indented rise ranges. elim c.match-last_mut.branch [
+    | in-Some+in_ok-add w ↦
+        let some = (w.in-Some.ensures.item.3).0 in
+        subst (λ s. AreCrowded c.args.regions.now (c.loop-region.region-index + 1) s.seats.items s.lanes.items c.match-last_mut.levels.items) (sym w.seats-is)
+        (one_crowded c.args.regions.now c.loop-region.region-index (vec_len c.open_level.new.levels - 1) c.len.result c.loop-region.seats.seats.items
+        w.add.new.self.seats.items c.loop-region.seats.lanes.items w.add.new.self.lanes.items c.loop-region.levels.items c.open_level.new.levels.items
+        c.match-last_mut.levels.items w.in-Some.level.now w.add.new.level c.region-item.result (omega arith) c.region-item.is (omega arith)
+        c.in_ok-open_level.ensures.kept c.in_ok-open_level.ensures.opened (omega arith) (w.in-Some.ensures.item.3).1 w.in_ok-add.ensures.given
+        w.in_ok-add.ensures.lane (ap (λ v. v.items) w.levels-is) indented rise ranges c.loop-region.invariant.seated c.loop-region.invariant.counted.have
+        (c.loop-region.invariant.crowded indented rise ranges))
+    | in_default w ↦
+        absurd (never_empty c.args.regions.now c.loop-region.region-index c.len.result c.loop-region.levels.items c.open_level.new.levels.items
+        c.region-item.result (omega arith) c.region-item.is c.in_ok-open_level.ensures.kept c.in_ok-open_level.ensures.opened
+        (omega (arith, w.in_default.ensures.item.3)) indented.deep)
+  ];
 }
 
 pub returns : goal.returns
@@ -51,4 +69,8 @@ returns g c = record {
   apart = λ indented rise. all_apart c.args.regions.now c.loop-region.region-index c.loop-region.seats.seats.items c.loop-region.levels.items
       (omega arith) c.loop-region.invariant.seated indented rise;
   lanes = c.loop-region.invariant.counted.have;
+  together = λ indented rise ranges. all_together c.args.regions.now c.loop-region.region-index c.loop-region.seats.seats.items
+      c.loop-region.seats.lanes.items c.loop-region.levels.items (omega arith)
+      (all_parents c.args.regions.now c.loop-region.region-index c.loop-region.seats.seats.items c.loop-region.levels.items (omega arith)
+      c.loop-region.invariant.seated indented) (c.loop-region.invariant.crowded indented rise ranges);
 }

@@ -5,9 +5,11 @@ use Rattle.pci_picture.proofs.lanes.width_of.Goals as goal
 pub returns-then-seat : goal.returns-then-seat
 returns-then-seat c =
     width_of_lane c.args.outer c.args.seat.lane c.args.lanes c.lanes_to.result _ c.lanes_to.ensures.least c.lanes_to.ensures.most
+    (λ less. let more = c.lanes_to.ensures.more (omega (arith, less)) in omega arith)
     c.lane_left-begin.ensures c.lane_left-end.ensures (λ rises. (omega arith, omega arith))
 
 pub returns-else-seat : goal.returns-else-seat
 returns-else-seat c =
     width_of_lane c.args.outer c.args.seat.lane c.args.lanes c.lanes_to.result _ c.lanes_to.ensures.least c.lanes_to.ensures.most
+    (λ less. let more = c.lanes_to.ensures.more (omega (arith, less)) in omega arith)
     c.lane_left-begin.ensures c.lane_left-end.ensures (λ rises. (rises, omega arith))

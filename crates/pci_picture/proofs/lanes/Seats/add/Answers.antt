@@ -12,4 +12,6 @@ returns-clause-given g c = record {
   is_group = c.in_ok-begin.ensures.group;
   is_same = c.in_ok-lane.ensures.same;
   is_lane = c.in_ok-lane.ensures.given;
+  is_full = λ none fresh. c.in_ok-lane.ensures.full (c.in_ok-begin.ensures.least none) fresh;
+  is_least = λ range none. c.in_ok-lane.ensures.least range (c.in_ok-begin.ensures.least none);
 }
