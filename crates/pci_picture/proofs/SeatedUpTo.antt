@@ -1,14 +1,15 @@
 -- The seats of the lines before an index.
 use Rattle.std.proofs.Common.{arith, ◌≡◌, ◌<◌, ◌≤◌, ◌+◌, ℕ, List, [], map, length, take, set, sym, ap, subst, ◌∙◌, refl, inl, inr}
 use Rattle.std.proofs.lemmas.Bool.{cases_lt}
-use Rattle.std.proofs.lemmas.List.{length_push, length-take-le, get_or-map}
+use Rattle.std.proofs.lemmas.List.{get_or_default, length_push, length-take-le, get_or-map}
 use Rattle.std.specs.List.{slice_index, slice_index_or}
 use Rattle.pci_picture.specs.declared.lanes.Level.{Level}
 use Rattle.pci_picture.specs.declared.lanes.Seat.{Seat}
 use Rattle.pci_picture.specs.declared.region.Region.{Region}
 use Rattle.pci_picture.specs.Lanes.{AreDeep, AreRanges, IsIndented, SiblingsRise, depth_at, first_address_at, last_address_at}
-use Rattle.pci_picture.specs.Seats.{AreSeatedApart, HaveLanes, HaveParents, IsLaneAdded, IsLevelAdded, IsSeatGiven}
-use Rattle.pci_picture.proofs.Seated.{IsMapped, opened, seated}
+use Rattle.pci_picture.specs.Seats.{AreSeatedApart, HaveLanes, HaveParents, IsLaneAdded, HaveWindowsUpTo, IsLevelAdded, IsSeatGiven, IsWindowTold}
+use Rattle.pci_picture.specs.Cuts.{is_window_part}
+use Rattle.pci_picture.proofs.Seated.{IsMapped, opened, seat_before, seat_last, seated}
 use Rattle.pci_picture.proofs.Crowded.{AreCrowded, opened_crowded, seated_crowded}
 use Rattle.pci_picture.proofs.Lined.{AreLined, opened_lines, seated_lines}
 
@@ -160,6 +161,21 @@ none_read regions n count m seats old mid levels region inside is kept added non
     not_seated regions n count m seats old mid levels inside
     (subst (λ k. k ≤ length old → mid ≡ take k old) depth kept)
     (subst (λ k. length old < k → IsLevelAdded count k old mid) depth added) none
+
+-- one more seat says whether its line is a window
+pub windows_more : (regions : List Region) (n : ℕ) (seats after : List Seat) (region : Region) → n < length regions → region ≡ slice_index_or regions n region
+    → length seats ≡ n → IsWindowTold region seats after → HaveWindowsUpTo regions n seats → HaveWindowsUpTo regions (n + 1) after
+windows_more regions n seats after region inside is count told windows =
+    subst (λ s. HaveWindowsUpTo regions (n + 1) s) (sym told.added) (λ i d less. elim (cases_lt i n) [
+      | inl before ↦
+          subst (λ (s : Seat). s.is_window ≡ is_window_part (slice_index_or regions i d).part) (sym (seat_before seats told.seat i (omega arith))) (windows i d before)
+      | inr last ↦
+          let here : n ≡ i = omega arith in
+          let there : length seats ≡ i = omega arith in
+          subst (λ (s : Seat). s.is_window ≡ is_window_part (slice_index_or regions i d).part) (sym (seat_last seats told.seat i there))
+          (told.is_window ∙ ap (λ (r : Region). is_window_part r.part)
+          (is ∙ (get_or_default regions n region d inside ∙ ap (λ (k : ℕ). slice_index_or regions k d) here)))
+    ])
 
 -- behind the last line
 pub all_parents : {A : Type 0} (regions : List Region) (n : ℕ) (seats : List Seat) (levels : List (Level A)) → length regions ≤ n → IsSeatedUpTo regions n seats levels

@@ -1,5 +1,5 @@
 -- Lanes stand side by side.
-use Rattle.std.proofs.Common.{arith, ℕ, ◌≡◌, ◌≢◌, ◌+◌, ◌*◌, ◌-◌, ◌/◌, ◌<◌, ◌≤◌, List, [], ◌∷◌, ◌++◌, length, Option, None, Some, max, mul-le-mul_left, div-mul-le_self, add-mul, mul-suc, le_of_mul-le-mul_right, subst, sym, ap, refl, ◌∙◌, inl, inr}
+use Rattle.std.proofs.Common.{arith, ℕ, Bool, ◌≡◌, ◌≢◌, ◌+◌, ◌*◌, ◌-◌, ◌/◌, ◌<◌, ◌≤◌, List, [], ◌∷◌, ◌++◌, length, Option, None, Some, max, mul-le-mul_left, div-mul-le_self, add-mul, mul-suc, le_of_mul-le-mul_right, subst, sym, ap, refl, ◌∙◌, inl, inr}
 use native.Mathlib.Nat.{le_trans}
 use Rattle.std.proofs.lemmas.Bool.{cases_lt}
 use Rattle.std.proofs.lemmas.List.{get_or_append_left, get_or_push, get_or_default, get_or_past, length_push}
@@ -8,8 +8,8 @@ use Rattle.std.specs.List.{All, slice_index, slice_index_or}
 use Rattle.pci_picture.specs.declared.lanes.Seat.{Seat}
 use Rattle.pci_picture.specs.declared.lanes.Width.{Width}
 use Rattle.pci_picture.specs.declared.region.Region.{Region}
-use Rattle.pci_picture.specs.Lanes.{AreNested, BeginInside, HasShare, HaveShares, HoldTogether, IsOrdered, IsParent, SameParent, StandApart, StandSideBySide, StandsBetween, width_at}
-use Rattle.pci_picture.specs.Seats.{AreSeatedApart, AreWidthsOfSeats, HasParent, HaveParents, HasLane, HaveLanes, HoldLanesTogether, IsWidthOfLane, IsWidthOfSeat, lane_at, outer_at, seat_at}
+use Rattle.pci_picture.specs.Lanes.{AreNested, BeginInside, HasShare, HaveShares, HaveColumns, HoldTogether, IsOrdered, IsParent, SameParent, StandApart, StandSideBySide, StandsBetween, inner_begin, width_at}
+use Rattle.pci_picture.specs.Seats.{AreSeatedApart, AreWidthsOfSeats, HasParent, HaveParents, HasLane, HaveLanes, HaveSeatColumns, HaveWindows, HoldLanesTogether, IsWidthOfLane, IsWidthOfSeat, lane_at, outer_at, seat_at}
 
 div_rises : (a b n : ℕ) → 0 < n → a ≤ b → a / n ≤ b / n
 div_rises a b n some le =
@@ -251,6 +251,19 @@ lane_read whole read widths seated_in outer lane lanes count width outer_is read
 pub length_more : (widths new : List Width) (width : Width) (n : ℕ) → length widths ≡ n → new ≡ widths ++ (width ∷ []) → length new ≡ n + 1
 length_more widths new width n is added = ap (λ l. length l) added ∙ (length_push widths width ∙ ap (λ (k : ℕ). k + 1) is)
 
+pub columns_more : (seats : List Seat) (column : ℕ) (widths new : List Width) (width : Width) (n : ℕ) → length widths ≡ n → new ≡ widths ++ (width ∷ [])
+    → width.inner ≡ inner_begin (seat_at seats n).is_window column width → HaveSeatColumns seats column widths n → HaveSeatColumns seats column new (n + 1)
+columns_more seats column widths new width n is added inner columns =
+    subst (λ (l : List Width). HaveSeatColumns seats column l (n + 1)) (sym added) (λ k less. elim (cases_lt k n) [
+      | inl before ↦
+          subst (λ (w : Width). w.inner ≡ inner_begin (seat_at seats k).is_window column w) (sym (width_before widths width k (omega arith))) (columns k before)
+      | inr last ↦
+          let here : length widths ≡ k = omega arith in
+          let there : n ≡ k = omega arith in
+          subst (λ (w : Width). w.inner ≡ inner_begin (seat_at seats k).is_window column w) (sym (width_last widths width k here))
+          (subst (λ (i : ℕ). width.inner ≡ inner_begin (seat_at seats i).is_window column width) there inner)
+    ])
+
 -- ---- where boxes begin
 
 lane_begins : (left right lane lanes : ℕ) → left < right → lane < lanes → lane_at left right lane lanes < right
@@ -353,3 +366,8 @@ shares_all regions whole seats lanes widths placed count parents have together =
       has_share regions (width_at widths p) (width_at widths i) i lanes (seat_at seats i).group (seat_at seats i).lane (have i (omega arith)) (together i inside)
       (subst (λ (w : Width). IsWidthOfLane w (seat_at seats i).lane (slice_index_or lanes (seat_at seats i).group 1) (width_at widths i)) outer here.is_lane);
 }
+
+pub columns_all : (regions : List Region) (column : ℕ) (seats : List Seat) (widths : List Width) → HaveWindows regions seats
+    → HaveSeatColumns seats column widths (length regions) → HaveColumns regions column widths
+columns_all regions column seats widths windows columns i d inside =
+    subst (λ (b : Bool). (width_at widths i).inner ≡ inner_begin b column (width_at widths i)) (windows i d inside) (columns i inside)

@@ -1,5 +1,6 @@
 -- Which line of a section stands inside which, and from where to where their boxes reach.
-use Rattle.std.specs.Prelude.{◌≡◌, ◌<◌, ◌≤◌, ◌+◌, ◌-◌, ◌/◌, ◌⊎◌, ◌↔◌, ℕ, List, map, length, slice_index, slice_index_or}
+use Rattle.std.specs.Prelude.{◌≡◌, ◌<◌, ◌≤◌, ◌+◌, ◌-◌, ◌/◌, ◌⊎◌, ◌↔◌, ℕ, Bool, List, if◌then◌else◌, map, min, length, slice_index, slice_index_or}
+use Rattle.pci_picture.specs.Cuts.{is_window_part}
 use Rattle.pci_picture.specs.declared.lanes.Width.{Width}
 use Rattle.pci_picture.specs.declared.region.Region.{Region}
 
@@ -73,6 +74,16 @@ StandApart one other = (one.right ≤ other.left) ⊎ (other.right ≤ one.left)
 abbrev pub StandSideBySide : List Region → List Width → Type 0
 StandSideBySide regions widths = (i j : ℕ) → i < j → j < length regions → SameParent regions i j → Overlap regions i j
     → StandApart (width_at widths i) (width_at widths j)
+
+-- where the inside of a box begins: behind the text of a window, which has `column` units or all of a narrower box. Nothing
+-- stands inside any other region
+abbrev pub inner_begin : Bool → ℕ → Width → ℕ
+inner_begin is_window column width = if is_window then min (width.left + column) width.right else width.right
+
+-- each box has its inside there
+abbrev pub HaveColumns : List Region → ℕ → List Width → Type 0
+HaveColumns regions column widths = (i : ℕ) (d : Region) → i < length regions
+    → (width_at widths i).inner ≡ inner_begin (is_window_part (slice_index_or regions i d).part) column (width_at widths i)
 
 -- a box begins before the end of the room that it stands in, if that has a unit: the room of its parent, or the whole
 pub record BeginInside (regions : List Region) (left right : ℕ) (widths : List Width) : Type 0 where

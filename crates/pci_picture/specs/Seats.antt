@@ -1,10 +1,11 @@
 -- The lanes that lines of a section get.
 use Rattle.std.specs.Prelude.{◌≡◌, ◌≢◌, ◌<◌, ◌≤◌, ◌+◌, ◌-◌, ◌*◌, ◌/◌, ◌⊎◌, ◌++◌, ℕ, false, List, [], ◌∷◌, Option, None, Some, min, max, length, slice_index, slice_index_or, slice_set}
+use Rattle.pci_picture.specs.Cuts.{is_window_part}
 use Rattle.pci_picture.specs.declared.lanes.Level.{Level}
 use Rattle.pci_picture.specs.declared.lanes.Seat.{Seat}
 use Rattle.pci_picture.specs.declared.lanes.Width.{Width}
 use Rattle.pci_picture.specs.declared.region.Region.{Region}
-use Rattle.pci_picture.specs.Lanes.{HoldTogether, IsParent, Overlap, width_at}
+use Rattle.pci_picture.specs.Lanes.{HoldTogether, IsParent, Overlap, inner_begin, width_at}
 
 -- where a lane begins, of some lanes that share the units between left and right
 abbrev pub lane_at : ℕ → ℕ → ℕ → ℕ → ℕ
@@ -158,3 +159,21 @@ pub record IsLaneAdded {A : Type 0} (old new : Level A) (before after : List Sea
 abbrev pub HoldLanesTogether : List Region → List Seat → List ℕ → Type 0
 HoldLanesTogether regions seats lanes =
     (i : ℕ) → i < length regions → HoldTogether regions i (slice_index lanes (seat_at seats i).group)
+
+-- the seat that was added says whether its line is a window
+pub record IsWindowTold (region : Region) (before after : List Seat) : Type 0 where
+  pub seat : Seat
+  pub added : after ≡ before ++ (seat ∷ [])
+  pub is_window : seat.is_window ≡ is_window_part region.part
+
+-- the seats of the lines before an index say so
+abbrev pub HaveWindowsUpTo : List Region → ℕ → List Seat → Type 0
+HaveWindowsUpTo regions n seats = (i : ℕ) (d : Region) → i < n → (seat_at seats i).is_window ≡ is_window_part (slice_index_or regions i d).part
+
+abbrev pub HaveWindows : List Region → List Seat → Type 0
+HaveWindows regions seats = HaveWindowsUpTo regions (length regions) seats
+
+-- the inside of each box before an index begins where its seat says
+abbrev pub HaveSeatColumns : List Seat → ℕ → List Width → ℕ → Type 0
+HaveSeatColumns seats column widths n = (k : ℕ) → k < n
+    → (width_at widths k).inner ≡ inner_begin (seat_at seats k).is_window column (width_at widths k)

@@ -2,11 +2,11 @@
 
 ghost use Rattle.std.specs.Prelude.{◌≡◌, ◌<◌, ◌≤◌, ◌⊎◌, ◌+◌, ◌-◌, ◌^◌, IfOk, IfSome, OnOk, Some, None, length, take, slice_index, slice_index_or};
 ghost use Rattle.std.specs.List.{All};
-ghost use Rattle.pci_picture.specs.Lanes.{AreDeep, AreNested, AreRanges, BeginInside, HaveShares, IsIndented, IsOrdered, SiblingsRise, StandSideBySide, StandsBetween};
-ghost use Rattle.pci_picture.specs.Seats.{AddsNoLane, AreSeatedApart, AreWidthsOfSeats, BeginsGroup, HasLane, HaveParents, HaveLanes, HoldLanesTogether, IsGroupAmong, IsGroupGiven, IsLaneAdded, IsLaneGiven, IsLevelAdded, IsSeatGiven, IsWidened, IsWidthOfLane, JoinsGroup, KeepLanes, NoneEndsBefore, SameButLanes, lane_at, outer_at};
+ghost use Rattle.pci_picture.specs.Lanes.{AreDeep, AreNested, AreRanges, BeginInside, HaveColumns, HaveShares, inner_begin, IsIndented, IsOrdered, SiblingsRise, StandSideBySide, StandsBetween};
+ghost use Rattle.pci_picture.specs.Seats.{AddsNoLane, AreSeatedApart, AreWidthsOfSeats, BeginsGroup, HasLane, HaveParents, HaveLanes, HaveSeatColumns, HaveWindows, HoldLanesTogether, IsGroupAmong, IsGroupGiven, IsLaneAdded, IsLaneGiven, IsLevelAdded, IsSeatGiven, IsWidened, IsWidthOfLane, IsWindowTold, JoinsGroup, KeepLanes, NoneEndsBefore, SameButLanes, lane_at, outer_at};
 
 use super::memory::OutOfMemory;
-use super::region::{Part, Region};
+use super::region::Region;
 use std::alloc::Allocator;
 
 /// The place of a line among those of its parent: its lane, and which group it is of.
@@ -142,6 +142,7 @@ impl<A: Allocator + Copy> Seats<A> {
             self.old.seats.items self.new.seats.items) }
         ensures lane { OnOk result (IsLaneAdded level.old level.new self.old.seats.items self.new.seats.items
             self.old.lanes.items self.new.lanes.items) }
+        ensures window { OnOk result (IsWindowTold region.entry.now self.old.seats.items self.new.seats.items) }
     {
         self.begin(level, region.first, region.last)?;
         let lane = level.seat(region.first, region.last)?;
@@ -150,7 +151,7 @@ impl<A: Allocator + Copy> Seats<A> {
             lane,
             group: level.group,
             parent: level.parent,
-            is_window: region.part == Part::Window,
+            is_window: region.is_window(),
         })?;
         Ok(())
     }
@@ -198,6 +199,7 @@ fn seats_of<A: Allocator + Copy>(alloc: A, regions: &[Region<'_>]) -> Result<Sea
     ensures apart { IsIndented regions.entry.now → SiblingsRise regions.entry.now
         → IfOk result (λ seats. AreSeatedApart regions.entry.now seats.seats.items (length regions.entry.now)) }
     ensures lanes { IfOk result (λ seats. HaveLanes seats.seats.items seats.lanes.items) }
+    ensures windows { AreDeep regions.entry.now → IfOk result (λ seats. HaveWindows regions.entry.now seats.seats.items) }
     ensures together { IsIndented regions.entry.now → SiblingsRise regions.entry.now → AreRanges regions.entry.now
         → IfOk result (λ seats. HoldLanesTogether regions.entry.now seats.seats.items seats.lanes.items) }
 {
@@ -237,7 +239,8 @@ fn outer_of(widths: &[Width], parent: Option<usize>, whole: Width) -> Width
 
 /// The width of a seat, in one of `lanes` lanes inside another width.
 fn width_of(outer: Width, seat: Seat, lanes: usize, column: u64) -> Width
-    ensures { IsWidthOfLane outer seat.lane lanes result }
+    ensures lane { IsWidthOfLane outer seat.lane lanes result }
+    ensures inner { result.inner ≡ inner_begin seat.is_window column result }
 {
     let begin = lane_left(outer.inner, outer.right, seat.lane, lanes);
     let end = lane_left(outer.inner, outer.right, lanes_to(seat.lane), lanes);
@@ -273,6 +276,7 @@ fn widths_of<A: Allocator + Copy>(
 ) -> Result<Vec<Width, A>, OutOfMemory>
     ensures count { IfOk result (λ widths. length widths.items ≡ length seats.entry.now) }
     ensures placed { IfOk result (λ widths. AreWidthsOfSeats whole seats.entry.now lanes.entry.now widths.items (length seats.entry.now)) }
+    ensures columns { IfOk result (λ widths. HaveSeatColumns seats.entry.now column widths.items (length seats.entry.now)) }
     ensures ordered { IfOk result (λ widths. All IsOrdered widths.items) }
     ensures inside { whole.left ≤ whole.inner → whole.inner ≤ whole.right
         → IfOk result (λ widths. All (StandsBetween whole.left whole.right) widths.items) }
@@ -298,6 +302,7 @@ pub fn widths<A: Allocator + Copy>(
     ensures count { AreDeep regions.entry.now → IfOk result (λ widths. length widths.items ≡ length regions.entry.now) }
     ensures ordered { IfOk result (λ widths. All IsOrdered widths.items) }
     ensures inside { left ≤ right → IfOk result (λ widths. All (StandsBetween left right) widths.items) }
+    ensures columns { AreDeep regions.entry.now → IfOk result (λ widths. HaveColumns regions.entry.now column widths.items) }
     ensures nested { IsIndented regions.entry.now → IfOk result (λ widths. AreNested regions.entry.now widths.items) }
     ensures begin { IsIndented regions.entry.now → IfOk result (λ widths. BeginInside regions.entry.now left right widths.items) }
     ensures apart { IsIndented regions.entry.now → SiblingsRise regions.entry.now

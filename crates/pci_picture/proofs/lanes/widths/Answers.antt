@@ -1,9 +1,9 @@
 use Rattle.std.proofs.Common.{◌≡◌, ◌∙◌, ap, arith, length, subst, sym}
-use Rattle.pci_picture.specs.Seats.{AreSeatedApart, AreWidthsOfSeats, HaveParents, HaveLanes, HoldLanesTogether}
+use Rattle.pci_picture.specs.Seats.{AreSeatedApart, AreWidthsOfSeats, HaveParents, HaveLanes, HaveSeatColumns, HaveWindows, HoldLanesTogether}
 use Rattle.pci_picture.specs.declared.lanes.Width.{Width}
-use Rattle.pci_picture.specs.Lanes.{AreNested, BeginInside, HaveShares, StandSideBySide}
+use Rattle.pci_picture.specs.Lanes.{AreNested, BeginInside, HaveColumns, HaveShares, StandSideBySide}
 use Rattle.std.proofs.lemmas.Result.{IfOk-weaker}
-use Rattle.pci_picture.proofs.SideBySide.{apart_all, begin_all, nested_all, shares_all}
+use Rattle.pci_picture.proofs.SideBySide.{apart_all, begin_all, columns_all, nested_all, shares_all}
 use Rattle.pci_picture.proofs.lanes.widths.Goals as goal
 
 pub returns : goal.returns
@@ -17,6 +17,11 @@ returns g c =
           (λ w is. is ∙ (ap (λ l. length l) c.as_slice.ensures.value ∙ c.in_ok-seats.ensures.count deep)) c.widths_of.ensures.count;
       ordered = c.widths_of.ensures.ordered;
       inside = λ le. c.widths_of.ensures.inside (omega arith) le;
+      columns = λ deep. IfOk-weaker c.widths_of.result (λ w. HaveSeatColumns seats c.args.column w.items (length seats)) (λ w. HaveColumns regions c.args.column w.items)
+          (λ w is. columns_all regions c.args.column seats w.items
+          (subst (λ l. HaveWindows regions l) (sym c.as_slice.ensures.value) (c.in_ok-seats.ensures.windows deep))
+          (subst (λ n. HaveSeatColumns seats c.args.column w.items n) (ap (λ l. length l) c.as_slice.ensures.value ∙ c.in_ok-seats.ensures.count deep) is))
+          c.widths_of.ensures.columns;
       nested = λ indented. IfOk-weaker c.widths_of.result (λ w. AreWidthsOfSeats whole seats lanes w.items (length seats)) (λ w. AreNested regions w.items)
           (λ w placed. nested_all regions whole seats lanes w.items
           (subst (λ n. AreWidthsOfSeats whole seats lanes w.items n) (ap (λ l. length l) c.as_slice.ensures.value ∙ c.in_ok-seats.ensures.count indented.deep) placed)

@@ -3,8 +3,8 @@ use Rattle.pci_picture.proofs.lanes.Seats.add.Goals as goal
 
 pub returns-clause-given : goal.returns-clause-given
 returns-clause-given g c = record {
-  seat = record { lane = c.in_ok-lane.lane; group = c.seat.new.self.group; parent = c.seat.new.self.parent; is_window = c.eq.result };
-  added = c.in_ok-push.ensures.items ∙ ap (λ l. l ++ (record { lane = c.in_ok-lane.lane; group = c.seat.new.self.group; parent = c.seat.new.self.parent; is_window = c.eq.result } ∷ [])) c.in_ok-begin.ensures.seats;
+  seat = record { lane = c.in_ok-lane.lane; group = c.seat.new.self.group; parent = c.seat.new.self.parent; is_window = c.is_window.result };
+  added = c.in_ok-push.ensures.items ∙ ap (λ l. l ++ (record { lane = c.in_ok-lane.lane; group = c.seat.new.self.group; parent = c.seat.new.self.parent; is_window = c.is_window.result } ∷ [])) c.in_ok-begin.ensures.seats;
   parent = c.in_ok-lane.ensures.same.parent ∙ c.in_ok-begin.ensures.parent;
   kept = c.in_ok-lane.ensures.same.parent ∙ c.in_ok-begin.ensures.parent;
   group = refl;
