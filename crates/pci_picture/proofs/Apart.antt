@@ -5,7 +5,8 @@ use Rattle.std.proofs.lemmas.Bool.{cases_lt}
 use Rattle.pci_picture.specs.Spots.{first_address, region_last_address, BoxStandsAt, BoxesAreApart}
 use Rattle.pci_picture.proofs.Framed.{end_drawn}
 
-held_at : {X : Type 0} (P : X → Type 0) (xs : List X) (x : X) → All P xs → Contains xs x → P x
+-- what holds of all holds of one
+pub held_at : {X : Type 0} (P : X → Type 0) (xs : List X) (x : X) → All P xs → Contains xs x → P x
 held_at P xs x all (k, lt, is) = subst P is (all k x lt)
 
 not_above : (height_of : ℕ → ℕ) (low high : ℕ) → (low < high → height_of low < height_of high) → low ≤ high → height_of low ≤ height_of high

@@ -1,15 +1,21 @@
 -- No group has more lanes than lines of one parent hold one address together.
-use Rattle.std.proofs.Common.{arith, ◌≡◌, ◌≢◌, ◌<◌, ◌≤◌, ◌+◌, ◌⊎◌, ℕ, max, List, [], ◌∷◌, ◌++◌, Option, None, length, take, set, sym, ap, subst, ◌∙◌, refl, inl, inr, length-set, get_or-set_same, get_or-set_other, get_or-take}
+use Rattle.std.proofs.Common.{arith, ◌≡◌, ◌≢◌, ◌<◌, ◌≤◌, ◌+◌, ◌⊎◌, ℕ, zero, suc, max, List, [], ◌∷◌, ◌++◌, Option, None, length, take, set, sym, ap, subst, ◌∙◌, refl, inl, inr, length-set, get_or-set_same, get_or-set_other, get_or-take}
 use Rattle.std.proofs.lemmas.Bool.{cases_lt, cases_eq}
 use Rattle.std.proofs.lemmas.List.{get_or_append_left, get_or_past, get_or_push, length_push, length-take-le}
 use Rattle.std.specs.List.{slice_index, slice_index_or}
 use Rattle.pci_picture.specs.declared.lanes.Level.{Level}
 use Rattle.pci_picture.specs.declared.lanes.Seat.{Seat}
 use Rattle.pci_picture.specs.declared.region.Region.{Region}
-use Rattle.pci_picture.specs.Lanes.{AreDeep, AreRanges, HoldsAt, SiblingsRise, depth_at, first_address_at, last_address_at}
+use Rattle.pci_picture.specs.Lanes.{AreDeep, HoldsAt, SiblingsRise, depth_at, first_address_at, last_address_at}
 use Rattle.pci_picture.specs.Seats.{BeginsGroup, HasParent, HaveLanes, HaveParents, HoldLanesTogether, IsGroupGiven, IsLaneAdded, IsLaneGiven, IsLevelAdded, IsSeatGiven, IsWidened, JoinsGroup, NoneEndsBefore, seat_at}
 use Rattle.pci_picture.proofs.SideBySide.{same_parents}
 use Rattle.pci_picture.proofs.Seated.{IsOpened, IsParentOfLevel, level_before, parent_of_level, seat_before, seat_last}
+
+-- no line ends before it begins
+pub ranges : (regions : List Region) (k : ℕ) → k < length regions → first_address_at regions k ≤ last_address_at regions k
+ranges [] k less = absurd (omega arith)
+ranges (region ∷ regions) zero less = region.ends.rises
+ranges (region ∷ regions) (suc k) less = ranges regions k (omega arith)
 
 -- the line that was seated last in a lane
 pub record IsLastOfLane (regions : List Region) (n : ℕ) (seats : List Seat) (parent : Option ℕ) (group : ℕ) (ends : List ℕ) (k j : ℕ) : Type 0 where
@@ -385,11 +391,11 @@ one_seat first last old new seats after lanes more given added =
 
 -- the line at an index got its seat
 pub seated_crowded : {A : Type 0} (regions : List Region) (n t : ℕ) (seats after : List Seat) (lanes more : List ℕ) (levels : List (Level A)) (old new : Level A)
-    → SiblingsRise regions → AreRanges regions → n < length regions → AreDeep regions → IsOpened regions n seats levels → HaveLanes seats lanes
+    → SiblingsRise regions → n < length regions → AreDeep regions → IsOpened regions n seats levels → HaveLanes seats lanes
     → t + 1 ≡ length levels → ((d : Level A) → slice_index_or levels t d ≡ old)
     → IsSeatGiven (first_address_at regions n) (last_address_at regions n) old new seats after → IsLaneAdded old new seats after lanes more
     → AreCrowded regions n seats lanes levels → AreCrowded regions (n + 1) after more (set levels t new)
-seated_crowded {A = A} regions n t seats after lanes more levels old new rise ranges inside deep reached have at is given added crowded =
+seated_crowded {A = A} regions n t seats after lanes more levels old new rise inside deep reached have at is given added crowded =
     let reach : length levels ≡ depth_at regions n = reached.reach in
     let low_t : t < length levels = omega arith in
     let own : IsParentOfLevel regions n t old.parent =
@@ -398,7 +404,7 @@ seated_crowded {A = A} regions n t seats after lanes more levels old new rise ra
     let rises : RiseTo regions n seats old.parent =
     λ j less same. rise j n less inside
     (same_parents regions j n old.parent (subst (λ o. HasParent regions j o) same (reached.parents j less)) seated_in) in
-    let range : first_address_at regions n ≤ last_address_at regions n = ranges n inside in
+    let range : first_address_at regions n ≤ last_address_at regions n = ranges regions n inside in
     let known : IsLevelKnown regions n seats crowded.owners old =
     subst (λ l. IsLevelKnown regions n seats crowded.owners l) (is old) (crowded.known t old low_t) in
     let next = next_owners regions n seats crowded.owners lanes more old new crowded.long known added.is_group in

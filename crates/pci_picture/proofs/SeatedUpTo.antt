@@ -6,7 +6,7 @@ use Rattle.std.specs.List.{slice_index, slice_index_or}
 use Rattle.pci_picture.specs.declared.lanes.Level.{Level}
 use Rattle.pci_picture.specs.declared.lanes.Seat.{Seat}
 use Rattle.pci_picture.specs.declared.region.Region.{Region}
-use Rattle.pci_picture.specs.Lanes.{AreDeep, AreRanges, IsIndented, SiblingsRise, depth_at, first_address_at, last_address_at}
+use Rattle.pci_picture.specs.Lanes.{AreDeep, IsIndented, SiblingsRise, depth_at, first_address_at, last_address_at}
 use Rattle.pci_picture.specs.Seats.{AreSeatedApart, HaveLanes, HaveParents, IsLaneAdded, HaveWindowsUpTo, IsLevelAdded, IsSeatGiven, IsWindowTold}
 use Rattle.pci_picture.specs.Cuts.{is_window_part}
 use Rattle.pci_picture.proofs.Seated.{IsMapped, opened, seat_before, seat_last, seated}
@@ -128,14 +128,14 @@ pub one_crowded : {A : Type 0} (regions : List Region) (n t count : ℕ) (seats 
     (region : Region) → n < length regions → region ≡ slice_index_or regions n region → count ≡ length seats
     → (region.depth ≤ length old → mid ≡ take region.depth old) → (length old < region.depth → IsLevelAdded count region.depth old mid)
     → t + 1 ≡ length mid → ((d : Level A) → level ≡ slice_index_or mid t d) → IsSeatGiven region.first region.last level new seats after
-    → IsLaneAdded level new seats after lanes more → levels ≡ set mid t new → IsIndented regions → SiblingsRise regions → AreRanges regions
+    → IsLaneAdded level new seats after lanes more → levels ≡ set mid t new → IsIndented regions → SiblingsRise regions
     → IsSeatedUpTo regions n seats old → HaveLanes seats lanes → AreCrowded regions n seats lanes old → AreCrowded regions (n + 1) after more levels
 one_crowded regions n t count seats after lanes more old mid levels level new region inside is count_is kept added at level_is given lane_added levels_are
-    indented rise ranges up have crowded =
+    indented rise up have crowded =
     let step = step_read regions n t count seats after old mid level new region inside is count_is kept added at level_is given in
     let mapped = up.mapped indented in
     subst (λ l. AreCrowded regions (n + 1) after more l) (sym levels_are)
-    (seated_crowded regions n t seats after lanes more mid level new rise ranges inside indented.deep
+    (seated_crowded regions n t seats after lanes more mid level new rise inside indented.deep
     (opened regions n seats old mid indented inside mapped step.kept
     (λ less. subst (λ (k : ℕ). IsLevelAdded k (depth_at regions n) old mid) mapped.count (step.added less)))
     have step.at step.level_is step.given lane_added

@@ -91,10 +91,6 @@ pub record BeginInside (regions : List Region) (left right : ℕ) (widths : List
   pub inner : (p i : ℕ) → i < length regions → IsParent regions p i → (width_at widths p).inner < (width_at widths p).right
       → (width_at widths i).left < (width_at widths p).right
 
--- no line ends before it begins
-abbrev pub AreRanges : List Region → Type 0
-AreRanges regions = (k : ℕ) → k < length regions → first_address_at regions k ≤ last_address_at regions k
-
 -- a line holds an address
 abbrev pub HoldsAt : List Region → ℕ → ℕ → Type 0
 HoldsAt regions k address = (first_address_at regions k ≤ address) × (address ≤ last_address_at regions k)

@@ -1,7 +1,7 @@
 -- From where to where the boxes of a section reach, once their regions were placed.
 use Rattle.std.specs.Prelude.{◌≡◌, ◌<◌, ◌≤◌, ◌+◌, ◌^◌, ℕ, List, map, length, ◌++◌, take, drop}
 use Rattle.std.specs.List.{All, Contains, position_or_len}
-use Rattle.pci_picture.specs.Lanes.{StandSideBySide, IsIndented, SiblingsRise, StandsBetween}
+use Rattle.pci_picture.specs.Lanes.{AreNested, BeginInside, HaveColumns, HaveShares, IsIndented, SiblingsRise, StandSideBySide, StandsBetween}
 use Rattle.pci_picture.specs.declared.lanes.Width.{Width}
 use Rattle.pci_picture.specs.declared.plan.Member.{Member}
 use Rattle.pci_picture.specs.declared.plan.Placed.{Placed}
@@ -11,13 +11,21 @@ use Rattle.pci_picture.specs.declared.region.Region.{Region}
 abbrev pub widths_placed : List Placed → List Width
 widths_placed places = map (λ placed. placed.width) places
 
--- widths for some regions were added, between two ends: those of one parent with an address in common stand side by side
-pub record AddsWidths (left right : ℕ) (regions : List Region) (old new : List Width) : Type 0 where
+-- the widths of some regions between two ends, where a window has `column` units for its own text
+pub record AreWidthsIn (left right column : ℕ) (regions : List Region) (widths : List Width) : Type 0 where
+  pub count : length widths ≡ length regions
+  pub between : left ≤ right → All (StandsBetween left right) widths
+  pub columns : HaveColumns regions column widths
+  pub nested : AreNested regions widths
+  pub begin : BeginInside regions left right widths
+  pub apart : SiblingsRise regions → StandSideBySide regions widths
+  pub shares : SiblingsRise regions → HaveShares regions left right widths
+
+-- such widths were added
+pub record AddsWidths (left right column : ℕ) (regions : List Region) (old new : List Width) : Type 0 where
   pub more : List Width
   pub added : new ≡ old ++ more
-  pub count : length more ≡ length regions
-  pub apart : SiblingsRise regions → StandSideBySide regions more
-  pub between : left ≤ right → All (StandsBetween left right) more
+  pub are : AreWidthsIn left right column regions more
 
 -- the boxes of a section have room for what is out of place, and end below 2^64
 pub record HasSides (site : Site) : Type 0 where
@@ -28,15 +36,29 @@ pub record HasSides (site : Site) : Type 0 where
 abbrev pub count_in_place : List Member → ℕ
 count_in_place members = position_or_len (λ member. member.is_lost) members
 
--- first the boxes of regions in place, then those of regions out of place. In either part those of one parent with an address
--- in common stand side by side. What is out of place stands behind the ends of all that is in place
+-- the ends between which a section's boxes stand. Those in place have the section's whole width, less 240 units where some regions
+-- are out of place. These begin 8 units behind
+pub record AreSides (site : Site) (lost : List Region) (left split beside edge : ℕ) : Type 0 where
+  pub from : left ≡ site.x + 132
+  pub upto : edge ≡ site.x + 132 + site.width
+  pub all : length lost ≡ 0 → split ≡ edge
+  pub less : 0 < length lost → split + 240 ≡ edge
+  pub behind : beside ≡ split + 8
+
+-- first the boxes of regions in place, then those of regions out of place, each between their ends. What is out of place stands
+-- behind the ends of all that is in place
 pub record StandBeside (site : Site) (inside lost : List Region) (widths : List Width) : Type 0 where
   pub inner : List Width
   pub outer : List Width
   pub joined : widths ≡ inner ++ outer
-  pub inner_apart : SiblingsRise inside → StandSideBySide inside inner
-  pub outer_apart : SiblingsRise lost → StandSideBySide lost outer
-  pub beside : HasSides site → (one other : Width) → Contains inner one → Contains outer other → one.right < other.left
+  pub left : ℕ
+  pub split : ℕ
+  pub beside : ℕ
+  pub edge : ℕ
+  pub sides : HasSides site → AreSides site lost left split beside edge
+  pub in_place : AreWidthsIn left split site.column inside inner
+  pub out_of_place : AreWidthsIn beside edge site.column lost outer
+  pub behind : HasSides site → (one other : Width) → Contains inner one → Contains outer other → one.right < other.left
 
 -- the lines of a section are indented by one step at most, those in place and those out of place
 pub record AreIndented (count : ℕ) (regions : List Region) : Type 0 where

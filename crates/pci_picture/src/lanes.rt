@@ -2,7 +2,7 @@
 
 ghost use Rattle.std.specs.Prelude.{◌≡◌, ◌<◌, ◌≤◌, ◌⊎◌, ◌+◌, ◌-◌, ◌^◌, IfOk, IfSome, OnOk, Some, None, length, take, slice_index, slice_index_or};
 ghost use Rattle.std.specs.List.{All};
-ghost use Rattle.pci_picture.specs.Lanes.{AreDeep, AreNested, AreRanges, BeginInside, HaveColumns, HaveShares, inner_begin, IsIndented, IsOrdered, SiblingsRise, StandSideBySide, StandsBetween};
+ghost use Rattle.pci_picture.specs.Lanes.{AreDeep, AreNested, BeginInside, HaveColumns, HaveShares, inner_begin, IsIndented, IsOrdered, SiblingsRise, StandSideBySide, StandsBetween};
 ghost use Rattle.pci_picture.specs.Seats.{AddsNoLane, AreSeatedApart, AreWidthsOfSeats, BeginsGroup, HasLane, HaveParents, HaveLanes, HaveSeatColumns, HaveWindows, HoldLanesTogether, IsGroupAmong, IsGroupGiven, IsLaneAdded, IsLaneGiven, IsLevelAdded, IsSeatGiven, IsWidened, IsWidthOfLane, IsWindowTold, JoinsGroup, KeepLanes, NoneEndsBefore, SameButLanes, lane_at, outer_at};
 
 use super::memory::OutOfMemory;
@@ -200,7 +200,7 @@ fn seats_of<A: Allocator + Copy>(alloc: A, regions: &[Region<'_>]) -> Result<Sea
         → IfOk result (λ seats. AreSeatedApart regions.entry.now seats.seats.items (length regions.entry.now)) }
     ensures lanes { IfOk result (λ seats. HaveLanes seats.seats.items seats.lanes.items) }
     ensures windows { AreDeep regions.entry.now → IfOk result (λ seats. HaveWindows regions.entry.now seats.seats.items) }
-    ensures together { IsIndented regions.entry.now → SiblingsRise regions.entry.now → AreRanges regions.entry.now
+    ensures together { IsIndented regions.entry.now → SiblingsRise regions.entry.now
         → IfOk result (λ seats. HoldLanesTogether regions.entry.now seats.seats.items seats.lanes.items) }
 {
     let mut seats = Seats {
@@ -307,7 +307,7 @@ pub fn widths<A: Allocator + Copy>(
     ensures begin { IsIndented regions.entry.now → IfOk result (λ widths. BeginInside regions.entry.now left right widths.items) }
     ensures apart { IsIndented regions.entry.now → SiblingsRise regions.entry.now
         → IfOk result (λ widths. StandSideBySide regions.entry.now widths.items) }
-    ensures shares { IsIndented regions.entry.now → SiblingsRise regions.entry.now → AreRanges regions.entry.now
+    ensures shares { IsIndented regions.entry.now → SiblingsRise regions.entry.now
         → IfOk result (λ widths. HaveShares regions.entry.now left right widths.items) }
 {
     let seats = seats_of(alloc, regions)?;

@@ -389,7 +389,7 @@ fn place<'a, A: Allocator + Copy>(
     is_lost: bool,
 ) -> Result<(), OutOfMemory>
     ensures regions { OnOk result (regions_placed placed.new.items ≡ regions_placed placed.old.items ++ regions.entry.now) }
-    ensures widths { OnOk result (IsIndented regions.entry.now → AddsWidths whole.left whole.right regions.entry.now
+    ensures widths { OnOk result (IsIndented regions.entry.now → AddsWidths whole.left whole.right column regions.entry.now
         (widths_placed placed.old.items) (widths_placed placed.new.items)) }
 {
     let widths = widths(alloc, regions, whole.left, whole.right, column)?;

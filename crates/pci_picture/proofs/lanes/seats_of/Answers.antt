@@ -12,7 +12,7 @@ loop-region-init g c = record {
   seated = none_seated c.args.regions.now c.new.result.items c.new-levels.result.items c.new.ensures.items c.new-levels.ensures.items;
   counted = none_counted c.new.result.items c.new-2.result.items c.new-levels.result.items c.new.ensures.items c.new-levels.ensures.items;
   windows = λ deep i d less. absurd (omega arith);
-  crowded = λ indented rise ranges.
+  crowded = λ indented rise.
       none_crowded c.args.regions.now c.new.result.items c.new-2.result.items c.new-levels.result.items c.new-2.ensures.items c.new-levels.ensures.items;
 }
 
@@ -56,7 +56,7 @@ loop-region-preserved g c = record {
         c.region-item.result (omega arith) c.region-item.is c.in_ok-open_level.ensures.kept c.in_ok-open_level.ensures.opened
         (omega (arith, w.in_default.ensures.item.3)) deep)
   ];
-  crowded = λ indented rise ranges. elim c.match-last_mut.branch [
+  crowded = λ indented rise. elim c.match-last_mut.branch [
     | in-Some+in_ok-add w ↦
         let some = (w.in-Some.ensures.item.3).0 in
         subst (λ s. AreCrowded c.args.regions.now (c.loop-region.region-index + 1) s.seats.items s.lanes.items c.match-last_mut.levels.items) (sym w.seats-is)
@@ -64,8 +64,8 @@ loop-region-preserved g c = record {
         w.add.new.self.seats.items c.loop-region.seats.lanes.items w.add.new.self.lanes.items c.loop-region.levels.items c.open_level.new.levels.items
         c.match-last_mut.levels.items w.in-Some.level.now w.add.new.level c.region-item.result (omega arith) c.region-item.is (omega arith)
         c.in_ok-open_level.ensures.kept c.in_ok-open_level.ensures.opened (omega arith) (w.in-Some.ensures.item.3).1 w.in_ok-add.ensures.given
-        w.in_ok-add.ensures.lane (ap (λ v. v.items) w.levels-is) indented rise ranges c.loop-region.invariant.seated c.loop-region.invariant.counted.have
-        (c.loop-region.invariant.crowded indented rise ranges))
+        w.in_ok-add.ensures.lane (ap (λ v. v.items) w.levels-is) indented rise c.loop-region.invariant.seated c.loop-region.invariant.counted.have
+        (c.loop-region.invariant.crowded indented rise))
     | in_default w ↦
         absurd (never_empty c.args.regions.now c.loop-region.region-index c.len.result c.loop-region.levels.items c.open_level.new.levels.items
         c.region-item.result (omega arith) c.region-item.is c.in_ok-open_level.ensures.kept c.in_ok-open_level.ensures.opened
@@ -82,8 +82,8 @@ returns g c = record {
       (omega arith) c.loop-region.invariant.seated indented rise;
   lanes = c.loop-region.invariant.counted.have;
   windows = λ deep. subst (λ n. HaveWindowsUpTo c.args.regions.now n c.loop-region.seats.seats.items) (omega arith) (c.loop-region.invariant.windows deep);
-  together = λ indented rise ranges. all_together c.args.regions.now c.loop-region.region-index c.loop-region.seats.seats.items
+  together = λ indented rise. all_together c.args.regions.now c.loop-region.region-index c.loop-region.seats.seats.items
       c.loop-region.seats.lanes.items c.loop-region.levels.items (omega arith)
       (all_parents c.args.regions.now c.loop-region.region-index c.loop-region.seats.seats.items c.loop-region.levels.items (omega arith)
-      c.loop-region.invariant.seated indented) (c.loop-region.invariant.crowded indented rise ranges);
+      c.loop-region.invariant.seated indented) (c.loop-region.invariant.crowded indented rise);
 }

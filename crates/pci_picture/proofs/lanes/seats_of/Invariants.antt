@@ -1,4 +1,4 @@
-use Rattle.pci_picture.specs.Lanes.{AreDeep, AreRanges, IsIndented, SiblingsRise}
+use Rattle.pci_picture.specs.Lanes.{AreDeep, IsIndented, SiblingsRise}
 use Rattle.pci_picture.specs.Seats.{HaveWindowsUpTo}
 use Rattle.pci_picture.proofs.Counted.{AreCounted}
 use Rattle.pci_picture.proofs.Crowded.{AreCrowded}
@@ -10,6 +10,6 @@ invariant-loop-region g l = record {
   seated : IsSeatedUpTo l.regions l.region-index l.seats.seats.items l.levels.items;
   counted : AreCounted l.seats.seats.items l.seats.lanes.items l.levels.items;
   windows : AreDeep l.regions → HaveWindowsUpTo l.regions l.region-index l.seats.seats.items;
-  crowded : IsIndented l.regions → SiblingsRise l.regions → AreRanges l.regions
+  crowded : IsIndented l.regions → SiblingsRise l.regions
       → AreCrowded l.regions l.region-index l.seats.seats.items l.seats.lanes.items l.levels.items;
 }

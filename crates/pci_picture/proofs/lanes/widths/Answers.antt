@@ -38,7 +38,7 @@ returns g c =
           (subst (λ n. AreWidthsOfSeats whole seats lanes w.items n) (ap (λ l. length l) c.as_slice.ensures.value ∙ c.in_ok-seats.ensures.count indented.deep) placed)
           (subst (λ l. HaveParents regions l) (sym c.as_slice.ensures.value) (c.in_ok-seats.ensures.parents indented))
           (subst (λ l. AreSeatedApart regions l (length regions)) (sym c.as_slice.ensures.value) (c.in_ok-seats.ensures.apart indented rise))) c.widths_of.ensures.placed;
-      shares = λ indented rise ranges. IfOk-weaker c.widths_of.result (λ w. AreWidthsOfSeats whole seats lanes w.items (length seats)) (λ w. HaveShares regions c.args.left c.args.right w.items)
+      shares = λ indented rise. IfOk-weaker c.widths_of.result (λ w. AreWidthsOfSeats whole seats lanes w.items (length seats)) (λ w. HaveShares regions c.args.left c.args.right w.items)
           (λ w placed. shares_all regions whole seats lanes w.items
           (subst (λ n. AreWidthsOfSeats whole seats lanes w.items n) (ap (λ l. length l) c.as_slice.ensures.value ∙ c.in_ok-seats.ensures.count indented.deep) placed)
           (ap (λ l. length l) c.as_slice.ensures.value ∙ c.in_ok-seats.ensures.count indented.deep)
@@ -47,5 +47,5 @@ returns g c =
           (subst (λ l. HaveLanes c.in_ok-seats.seats.seats.items l) (sym c.as_slice-2.ensures.value) c.in_ok-seats.ensures.lanes))
           (subst (λ l. HoldLanesTogether regions l lanes) (sym c.as_slice.ensures.value)
           (subst (λ l. HoldLanesTogether regions c.in_ok-seats.seats.seats.items l) (sym c.as_slice-2.ensures.value)
-          (c.in_ok-seats.ensures.together indented rise ranges)))) c.widths_of.ensures.placed;
+          (c.in_ok-seats.ensures.together indented rise)))) c.widths_of.ensures.placed;
     }

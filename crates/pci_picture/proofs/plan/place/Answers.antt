@@ -11,7 +11,13 @@ returns-clause-widths g c indented =
       more = widths;
       added = c.loop-index.invariant.widths indented.deep
           ∙ ap (λ l. widths_placed c.args.placed.now.items ++ l) (take_all c.loop-index.index widths (omega (arith, count, c.loop-index-test.false)));
-      count = count;
-      apart = c.in_ok-widths.ensures.apart indented;
-      between = c.in_ok-widths.ensures.inside;
+      are = record {
+        count = count;
+        between = c.in_ok-widths.ensures.inside;
+        columns = c.in_ok-widths.ensures.columns indented.deep;
+        nested = c.in_ok-widths.ensures.nested indented;
+        begin = c.in_ok-widths.ensures.begin indented;
+        apart = c.in_ok-widths.ensures.apart indented;
+        shares = c.in_ok-widths.ensures.shares indented;
+      };
     }

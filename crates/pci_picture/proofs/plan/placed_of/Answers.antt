@@ -1,5 +1,5 @@
-use Rattle.std.proofs.Common.{rules, arith, sym, ◌∙◌, ◌≡◌, length}
-use Rattle.std.proofs.lemmas.Bool.{eqb-true}
+use Rattle.std.proofs.Common.{rules, arith, sym, ap, ◌∙◌, ◌≡◌, ◌==◌, ℕ, length}
+use Rattle.std.proofs.lemmas.Bool.{both_ways, eqb-true}
 use Rattle.pci_picture.proofs.Beside.{placed_beside}
 use Rattle.pci_picture.proofs.Sections.{both_places}
 use Rattle.pci_picture.proofs.plan.placed_of.Goals as goal
@@ -14,16 +14,21 @@ returns-clause-beside g c =
     c.min.ensures c.split_at.ensures.front c.split_at.ensures.back c.new-placed.ensures.items
     c.in_ok-place.ensures.widths c.in_ok-place-2.ensures.widths
     (elim c.if-is_empty.branch [
-      | then-is_empty w ↦ record {
-        in_row = λ sides. omega (arith, sides.wide, sides.uncut, w.split-is, c.saturating_add-left.ensures, c.saturating_add-edge.ensures);
-        behind = λ sides. omega (arith, sides.wide, sides.uncut, w.split-is, c.saturating_add-left.ensures, c.saturating_add-edge.ensures, c.saturating_add-beside.ensures);
-        room = λ sides some.
-            let none : length c.split_at.result.1.now ≡ 0 = eqb-true _ 0 (sym c.is_empty.ensures ∙ w.if-is_empty.true) in
-            absurd (omega (arith, none, some));
-      }
-      | else-is_empty w ↦ record {
-        in_row = λ sides. omega (arith, sides.wide, sides.uncut, w.split-is, w.saturating_sub-split.ensures, c.saturating_add-left.ensures, c.saturating_add-edge.ensures);
-        behind = λ sides. omega (arith, sides.wide, sides.uncut, w.split-is, w.saturating_sub-split.ensures, c.saturating_add-left.ensures, c.saturating_add-edge.ensures, c.saturating_add-beside.ensures);
-        room = λ sides some. omega (arith, sides.wide, sides.uncut, w.split-is, w.saturating_sub-split.ensures, c.saturating_add-left.ensures, c.saturating_add-edge.ensures, c.saturating_add-beside.ensures);
-      }
+      | then-is_empty w ↦ λ sides.
+          let none : length c.split_at.result.1.now ≡ 0 = eqb-true _ 0 (sym c.is_empty.ensures ∙ w.if-is_empty.true) in
+          record {
+            from = omega (arith, sides.uncut, c.saturating_add-left.ensures);
+            upto = omega (arith, sides.uncut, c.saturating_add-left.ensures, c.saturating_add-edge.ensures);
+            all = λ is. w.split-is;
+            less = λ some. absurd (omega (arith, none, some));
+            behind = omega (arith, sides.uncut, w.split-is, c.saturating_add-left.ensures, c.saturating_add-edge.ensures, c.saturating_add-beside.ensures);
+          }
+      | else-is_empty w ↦ λ sides.
+          record {
+            from = omega (arith, sides.uncut, c.saturating_add-left.ensures);
+            upto = omega (arith, sides.uncut, c.saturating_add-left.ensures, c.saturating_add-edge.ensures);
+            all = λ is. absurd (both_ways _ w.if-is_empty.false (c.is_empty.ensures ∙ ap (λ (n : ℕ). n == 0) is));
+            less = λ some. omega (arith, sides.wide, sides.uncut, w.split-is, w.saturating_sub-split.ensures, c.saturating_add-left.ensures, c.saturating_add-edge.ensures);
+            behind = omega (arith, sides.wide, sides.uncut, w.split-is, w.saturating_sub-split.ensures, c.saturating_add-left.ensures, c.saturating_add-edge.ensures, c.saturating_add-beside.ensures);
+          }
     ])
