@@ -54,7 +54,7 @@ pub placed_beside : (site : Site) (regions front back : List Region) (index n le
     → n ≡ min index (length regions) → front ≡ take n regions → back ≡ drop n regions → none ≡ []
     → (IsIndented front → AddsWidths left split site.column front (widths_placed none) (widths_placed some))
     → (IsIndented back → AddsWidths beside edge site.column back (widths_placed some) (widths_placed all))
-    → (HasSides site → AreSides site back left split beside edge) → StandBesideIn site index regions all
+    → (HasSides site → AreSides site back left split beside edge) → StandBesideIn site index regions (widths_placed all)
 placed_beside site regions front back index n left split beside edge none some all is_n is_front is_back empty first second is indented =
     let in_place : front ≡ take index regions = is_front ∙ ap (λ k. take k regions) is_n ∙ take_min index regions in
     let out : back ≡ drop index regions = is_back ∙ ap (λ k. drop k regions) is_n ∙ drop_min index regions in

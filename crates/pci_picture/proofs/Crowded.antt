@@ -150,27 +150,35 @@ new_last : (regions : List Region) (n : ℕ) (seats : List Seat) (seat : Seat) (
     → HaveLast regions n seats parent group ends → HaveLast regions (n + 1) (seats ++ (seat ∷ [])) parent group new
 new_last regions n seats seat parent group first ends new count seated_in is_group (inl fresh) last k less = elim (cases_lt k (length ends)) [
   | inl early ↦
-      let one = last k early in
-      (one.0, last_before regions n seats seat parent group ends new k one.0 count
-      (ap (λ l. slice_index l k) fresh.1 ∙ get_or_append_left ends (last_address_at regions n ∷ []) 0 k early) one.1)
+      let one = last k early in (
+        one.0,
+        last_before regions n seats seat parent group ends new k one.0 count
+            (ap (λ l. slice_index l k) fresh.1 ∙ get_or_append_left ends (last_address_at regions n ∷ []) 0 k early) one.1,
+      )
   | inr late ↦
       let pushed : length new ≡ length ends + 1 = ap (λ l. length l) fresh.1 ∙ length_push ends (last_address_at regions n) in
-      let here : length ends ≡ k = omega arith in
-      (n, last_own regions n seats seat parent group new k count seated_in is_group (fresh.0 ∙ here)
-      (ap (λ l. slice_index l k) fresh.1 ∙ get_or_push ends (last_address_at regions n) 0 k here))
+      let here : length ends ≡ k = omega arith in (
+        n,
+        last_own regions n seats seat parent group new k count seated_in is_group (fresh.0 ∙ here)
+            (ap (λ l. slice_index l k) fresh.1 ∙ get_or_push ends (last_address_at regions n) 0 k here),
+      )
 ]
 new_last regions n seats seat parent group first ends new count seated_in is_group (inr reused) last k less =
     let size : length new ≡ length ends = ap (λ l. length l) reused.2 ∙ length-set ends seat.lane (last_address_at regions n) in
     elim (cases_eq k seat.lane) [
       | inl here ↦
           let at : slice_index new seat.lane ≡ last_address_at regions n =
-          ap (λ l. slice_index l seat.lane) reused.2 ∙ get_or-set_same ends seat.lane (last_address_at regions n) 0 reused.0 in
-          (n, last_own regions n seats seat parent group new k count seated_in is_group (sym here)
-          (ap (λ (i : ℕ). slice_index new i) here ∙ at))
+          ap (λ l. slice_index l seat.lane) reused.2 ∙ get_or-set_same ends seat.lane (last_address_at regions n) 0 reused.0 in (
+            n,
+            last_own regions n seats seat parent group new k count seated_in is_group (sym here)
+                (ap (λ (i : ℕ). slice_index new i) here ∙ at),
+          )
       | inr other ↦
-          let one = last k (omega arith) in
-          (one.0, last_before regions n seats seat parent group ends new k one.0 count
-          (ap (λ l. slice_index l k) reused.2 ∙ get_or-set_other ends seat.lane k (last_address_at regions n) 0 other) one.1)
+          let one = last k (omega arith) in (
+            one.0,
+            last_before regions n seats seat parent group ends new k one.0 count
+                (ap (λ l. slice_index l k) reused.2 ∙ get_or-set_other ends seat.lane k (last_address_at regions n) 0 other) one.1,
+          )
     ]
 
 holder_before : (regions : List Region) (n : ℕ) (seats : List Seat) (seat : Seat) (parent : Option ℕ) (address k j : ℕ)
@@ -209,22 +217,26 @@ fresh_holders regions n seats seat parent group more ends count seated_in range 
     | inl early ↦
         let one = last k early in
         let begins : first_address_at regions one.0 ≤ first_address_at regions n = rises one.0 one.1.before one.1.seated_in in
-        let ends_there : last_address_at regions one.0 ≡ slice_index ends k = one.1.ends_at in
-        (one.0, holder_before regions n seats seat parent (first_address_at regions n) k one.0 count (record {
-          before = one.1.before;
-          seated_in = one.1.seated_in;
-          lane = one.1.lane;
-          holds = (begins, omega (arith, full k early));
-        }))
+        let ends_there : last_address_at regions one.0 ≡ slice_index ends k = one.1.ends_at in (
+          one.0,
+          holder_before regions n seats seat parent (first_address_at regions n) k one.0 count (record {
+            before = one.1.before;
+            seated_in = one.1.seated_in;
+            lane = one.1.lane;
+            holds = (begins, omega (arith, full k early));
+          }),
+        )
     | inr late ↦
         let at = seat_last seats seat n count in
-        let here : seat.lane ≡ k = omega arith in
-        (n, record {
-          before = omega arith;
-          seated_in = ap (λ (s : Seat). s.parent) at ∙ seated_in;
-          lane = ap (λ (s : Seat). s.lane) at ∙ here;
-          holds = (omega arith, range);
-        })
+        let here : seat.lane ≡ k = omega arith in (
+          n,
+          record {
+            before = omega arith;
+            seated_in = ap (λ (s : Seat). s.parent) at ∙ seated_in;
+            lane = ap (λ (s : Seat). s.lane) at ∙ here;
+            holds = (omega arith, range);
+          },
+        )
   ];
 }
 
@@ -270,31 +282,34 @@ next_owners : {A : Type 0} (regions : List Region) (n : ℕ) (seats : List Seat)
     → length owners ≡ length lanes → IsLevelKnown regions n seats owners old → IsGroupGiven old new lanes more
     → (next : List (Option ℕ)) × IsNext owners more old new next
 next_owners regions n seats owners lanes more old new long known (inl stays) =
-    let among : old.group < length owners = known.among stays.0 in
-    (owners, record {
-      long = long ∙ sym stays.2;
-      longer = omega arith;
-      same = λ g less. refl;
-      own = ap (λ (g : ℕ). slice_index_or owners g None) stays.1 ∙ known.owner stays.0;
-      among = omega (arith, stays.1);
-    })
+    let among : old.group < length owners = known.among stays.0 in (
+      owners,
+      record {
+        long = long ∙ sym stays.2;
+        longer = omega arith;
+        same = λ g less. refl;
+        own = ap (λ (g : ℕ). slice_index_or owners g None) stays.1 ∙ known.owner stays.0;
+        among = omega (arith, stays.1);
+      },
+    )
 next_owners regions n seats owners lanes more old new long known (inr begins) =
     let pushed = length_push owners old.parent in
-    let there : length owners ≡ new.group = long ∙ sym begins.0 in
-    (owners ++ (old.parent ∷ []), record {
-      long = omega (arith, begins.1);
-      longer = omega arith;
-      same = λ g less. get_or_append_left owners (old.parent ∷ []) None g less;
-      own = get_or_push owners old.parent None new.group there;
-      among = omega arith;
-    })
+    let there : length owners ≡ new.group = long ∙ sym begins.0 in (
+      owners ++ (old.parent ∷ []),
+      record {
+        long = omega (arith, begins.1);
+        longer = omega arith;
+        same = λ g less. get_or_append_left owners (old.parent ∷ []) None g less;
+        own = get_or_push owners old.parent None new.group there;
+        among = omega arith;
+      },
+    )
 
 -- what the loop did with one line
 pub record IsSeating {A : Type 0} (regions : List Region) (n t : ℕ) (seats : List Seat) (seat : Seat) (lanes more : List ℕ) (levels : List (Level A)) (old new : Level A)
     (owners next : List (Option ℕ)) : Type 0 where
   pub count : length seats ≡ n
   pub low : t < length levels
-  pub at : (d : Level A) → slice_index_or levels t d ≡ old
   pub seated_in : seat.parent ≡ old.parent
   pub kept : new.parent ≡ old.parent
   pub group : seat.group ≡ new.group
@@ -424,7 +439,6 @@ seated_crowded {A = A} regions n t seats after lanes more levels old new rise in
     (crowded_more regions n t seats given.seat lanes more levels old new next.0 crowded have (record {
       count = reached.count;
       low = low_t;
-      at = is;
       seated_in = given.parent;
       kept = given.kept;
       group = given.group;
@@ -449,9 +463,12 @@ all_together regions n seats lanes levels all parents crowded i inside =
       number = λ j. (seat_at seats j).lane;
       lines = λ k less.
           let one = holders.lines k less in
-          let there : one.0 < length regions = omega (arith, one.1.before, all) in
-          (one.0, there,
-          same_parents regions i one.0 (seat_at seats i).parent (parents i inside)
-          (subst (λ o. HasParent regions one.0 o) (one.1.seated_in ∙ owner) (parents one.0 there)),
-          one.1.holds, one.1.lane);
+          let there : one.0 < length regions = omega (arith, one.1.before, all) in (
+            one.0,
+            there,
+            same_parents regions i one.0 (seat_at seats i).parent (parents i inside)
+                (subst (λ o. HasParent regions one.0 o) (one.1.seated_in ∙ owner) (parents one.0 there)),
+            one.1.holds,
+            one.1.lane,
+          );
     }

@@ -1,27 +1,30 @@
 -- The boxes of a section stand where the heights of its runs have their addresses.
-use Rattle.std.proofs.Common.{◌≡◌, ◌≤◌, ◌<◌, ◌+◌, ◌-◌, ◌^◌, ℕ, List, [], ◌∷◌, ◌++◌, take, length, get_or, refl, inl, inr, sym, ap, subst, ◌∙◌, arith}
+use Rattle.std.proofs.Common.{◌≡◌, ◌≤◌, ◌<◌, ◌+◌, ◌-◌, ◌^◌, ℕ, List, [], ◌∷◌, ◌++◌, take, length, map, max, get_or, refl, inl, inr, sym, ap, subst, ◌∙◌, arith}
 use Rattle.std.specs.List.{All, Any, Contains}
 use Rattle.std.specs.List.Sorted.{IsNonDecreasingBy}
 use Rattle.std.proofs.lemmas.List.{map-append, map_more, take_all}
 use Rattle.std.proofs.lemmas.List.Elements.{All-append, All-cons, All-nil, Contains-get_or}
 use Rattle.pci_picture.specs.Canvases.{AddsToCanvas, AddsSome}
-use Rattle.pci_picture.specs.Drawings.{IsFramed, IsFramedAt, ArePlanned, AreFramed, AreOfSection}
-use Rattle.pci_picture.specs.Maps.{lines_of_regions, regions_placed}
+use Rattle.pci_picture.specs.Drawings.{IsFramed, IsFramedAt, ArePlanned, AreFramed, AreOfSection, sides_of_width}
+use Rattle.pci_picture.specs.Maps.{lines_of_regions, regions_of_members, regions_placed}
+use Rattle.pci_picture.specs.Sides.{StandBesideIn, count_in_place, widths_placed}
 use Rattle.pci_picture.specs.Spots.{BoxSpot, first_address, region_last_address, spot_at, lines_drawn, IsEndOf, Rise, BoxStandsAt}
 use Rattle.pci_picture.specs.Stacked.{height_at}
 use Rattle.pci_picture.specs.declared.canvas.Canvas.{Canvas}
 use Rattle.pci_picture.specs.declared.heights.Run.{Run}
+use Rattle.pci_picture.specs.declared.plan.Member.{Member}
 use Rattle.pci_picture.specs.declared.plan.Placed.{Placed}
+use Rattle.pci_picture.specs.declared.plan.Site.{Site}
 use Rattle.pci_picture.specs.declared.region.Region.{Region}
 use Rattle.pci_picture.proofs.Anys.{any_at, any_mapped}
 use Rattle.pci_picture.proofs.Boxes.{then_adds, then_keeps, then_some, unchanged}
 
 -- ---- one box more
 
-framed_at : (region : Region) (height_of : ℕ → ℕ) (y height : ℕ) → IsFramed height_of region.first region.last y height
-    → IsFramedAt height_of (spot_at y height region.line.now)
+framed_at : (region : Region) (height_of : ℕ → ℕ) (x y width height : ℕ) → IsFramed height_of region.first region.last y height
+    → IsFramedAt height_of (spot_at x y width height region.line.now)
 unfolding first_address region_last_address
-framed_at region height_of y height framed =
+framed_at region height_of x y width height framed =
     let first : region.first ≡ first_address region.line.now = region.ends.first_is in
     let last : region.last ≡ region_last_address region.line.now = region.ends.last_is in
     record {
@@ -35,39 +38,47 @@ framed_at region height_of y height framed =
 pub none_framed : {A : Type 0} (runs : List Run) (bottom : ℕ) (canvas : Canvas A) → AddsSome (AreFramed [] runs bottom) canvas canvas
 none_framed runs bottom canvas = record {
   spots = [];
-  hold = record { drawn = refl; framed = λ sorted. All-nil (IsFramedAt (height_at runs bottom)) };
+  hold = record { drawn = refl; sides = refl; framed = λ sorted. All-nil (IsFramedAt (height_at runs bottom)) };
   adds = unchanged canvas;
 }
 
-pub box_more : {A : Type 0} (places : List Placed) (i : ℕ) (placed : Placed) (runs : List Run) (bottom y height : ℕ) (first before between after : Canvas A)
+pub box_more : {A : Type 0} (places : List Placed) (i : ℕ) (placed : Placed) (runs : List Run) (bottom x y width height : ℕ) (first before between after : Canvas A)
     → i < length places → placed ≡ get_or places i placed
-    → AddsSome (AreFramed (lines_of_regions (regions_placed (take i places))) runs bottom) first before
+    → AddsSome (AreFramed (take i places) runs bottom) first before
     → (IsNonDecreasingBy (λ (run : Run). run.begin) runs → IsFramed (height_at runs bottom) placed.region.first placed.region.last y height)
-    → AddsToCanvas (spot_at y height placed.region.line.now ∷ []) before between → AddsToCanvas [] between after
-    → AddsSome (AreFramed (lines_of_regions (regions_placed (take (i + 1) places))) runs bottom) first after
-box_more places i placed runs bottom y height first before between after inside at done framed one kept =
+    → x ≡ placed.width.left → width ≡ max 1 (placed.width.right - placed.width.left - 2)
+    → AddsToCanvas (spot_at x y width height placed.region.line.now ∷ []) before between → AddsToCanvas [] between after
+    → AddsSome (AreFramed (take (i + 1) places) runs bottom) first after
+box_more places i placed runs bottom x y width height first before between after inside at done framed left wide one kept =
     let more : lines_of_regions (regions_placed (take (i + 1) places)) ≡ lines_of_regions (regions_placed (take i places)) ++ placed.region.line.now ∷ [] =
     ap lines_of_regions (map_more (λ p. p.region) places i placed inside)
     ∙ map-append (λ r. r.line.now) (regions_placed (take i places)) _
     ∙ ap (λ p. lines_of_regions (regions_placed (take i places)) ++ p.region.line.now ∷ []) (sym at) in
-    let spot : BoxSpot = spot_at y height placed.region.line.now in
+    let widths : widths_placed (take (i + 1) places) ≡ widths_placed (take i places) ++ placed.width ∷ [] =
+    map_more (λ p. p.width) places i placed inside ∙ ap (λ (p : Placed). widths_placed (take i places) ++ p.width ∷ []) (sym at) in
+    let sides : map sides_of_width (widths_placed (take (i + 1) places)) ≡ map sides_of_width (widths_placed (take i places)) ++ (x, width) ∷ [] =
+    ap (map sides_of_width) widths ∙ map-append sides_of_width (widths_placed (take i places)) (placed.width ∷ [])
+    ∙ ap (λ (s : ℕ). map sides_of_width (widths_placed (take i places)) ++ (s, max 1 (placed.width.right - placed.width.left - 2)) ∷ []) (sym left)
+    ∙ ap (λ (s : ℕ). map sides_of_width (widths_placed (take i places)) ++ (x, s) ∷ []) (sym wide) in
+    let spot : BoxSpot = spot_at x y width height placed.region.line.now in
     record {
       spots = done.spots ++ spot ∷ [];
       hold = record {
         drawn = map-append (λ s. s.line) done.spots (spot ∷ []) ∙ ap (λ l. l ++ placed.region.line.now ∷ []) done.hold.drawn ∙ sym more;
+        sides = map-append (λ (s : BoxSpot). (s.x, s.width)) done.spots (spot ∷ []) ∙ ap (λ l. l ++ (x, width) ∷ []) done.hold.sides ∙ sym sides;
         framed = λ sorted.
             All-append (IsFramedAt (height_at runs bottom)) done.spots (spot ∷ []) (done.hold.framed sorted)
-            (All-cons (IsFramedAt (height_at runs bottom)) spot [] (framed_at placed.region (height_at runs bottom) y height (framed sorted))
+            (All-cons (IsFramedAt (height_at runs bottom)) spot [] (framed_at placed.region (height_at runs bottom) x y width height (framed sorted))
             (All-nil (IsFramedAt (height_at runs bottom))));
       };
       adds = then_keeps (done.spots ++ spot ∷ []) first between after (then_adds done.spots (spot ∷ []) first before between done.adds one) kept;
     }
 
 pub all_framed : {A : Type 0} (places : List Placed) (i : ℕ) (runs : List Run) (bottom : ℕ) (first after : Canvas A) → length places ≤ i
-    → AddsSome (AreFramed (lines_of_regions (regions_placed (take i places))) runs bottom) first after
-    → AddsSome (AreFramed (lines_of_regions (regions_placed places)) runs bottom) first after
+    → AddsSome (AreFramed (take i places) runs bottom) first after
+    → AddsSome (AreFramed places runs bottom) first after
 all_framed places i runs bottom first after past done =
-    subst (λ l. AddsSome (AreFramed (lines_of_regions (regions_placed l)) runs bottom) first after) (take_all i places past) done
+    subst (λ l. AddsSome (AreFramed l runs bottom) first after) (take_all i places past) done
 
 -- ---- the boxes of a section stand
 
@@ -93,27 +104,32 @@ all_stand height_of spots rise framed k d lt =
     (omega (arith, up)))
     (framed k d lt)
 
-of_section : (lines every : List (List ℕ)) (runs : List Run) (bottom end : ℕ) (spots : List BoxSpot) → AreFramed every runs bottom spots → every ≡ lines
-    → bottom ≤ end → (bottom < 2 ^ 64 - 1 → ArePlanned lines runs bottom) → AreOfSection lines end spots
-of_section lines every runs bottom end spots framed is above planned = record {
-  drawn = framed.drawn ∙ is;
-  stand = λ small.
-      let plan : ArePlanned lines runs bottom = planned (omega (arith, above, small)) in
-      let rise : Rise (lines_drawn spots) (height_at runs bottom) =
-      subst (λ l. Rise l (height_at runs bottom)) (sym (framed.drawn ∙ is)) plan.rise in
-      record {
-        height_of = height_at runs bottom;
-        rise = rise;
-        stand = all_stand (height_at runs bottom) spots rise (framed.framed plan.sorted);
-      };
-}
+of_section : (site : Site) (members : List Member) (placed : List Placed) (runs : List Run) (bottom end : ℕ) (spots : List BoxSpot) → AreFramed placed runs bottom spots
+    → regions_placed placed ≡ regions_of_members members → bottom ≤ end
+    → (bottom < 2 ^ 64 - 1 → ArePlanned (lines_of_regions (regions_of_members members)) runs bottom)
+    → StandBesideIn site (count_in_place members) (regions_of_members members) (widths_placed placed) → AreOfSection site members end spots
+of_section site members placed runs bottom end spots framed is above planned beside =
+    let drawn : lines_drawn spots ≡ lines_of_regions (regions_of_members members) = framed.drawn ∙ ap lines_of_regions is in
+    record {
+      drawn = drawn;
+      stand = λ small.
+          let plan = planned (omega (arith, above, small)) in
+          let rise : Rise (lines_drawn spots) (height_at runs bottom) = subst (λ l. Rise l (height_at runs bottom)) (sym drawn) plan.rise in
+          record {
+            height_of = height_at runs bottom;
+            rise = rise;
+            stand = all_stand (height_at runs bottom) spots rise (framed.framed plan.sorted);
+          };
+      beside = record { widths = widths_placed placed; sides = framed.sides; beside = beside };
+    }
 
-pub adds_section : {A : Type 0} (lines every : List (List ℕ)) (runs : List Run) (bottom end : ℕ) (before between after : Canvas A)
-    → AddsToCanvas [] before between → AddsSome (AreFramed every runs bottom) between after → every ≡ lines
-    → bottom ≤ end → (bottom < 2 ^ 64 - 1 → ArePlanned lines runs bottom) → AddsSome (AreOfSection lines end) before after
-adds_section lines every runs bottom end before between after head done is above planned =
-    then_some (AreOfSection lines end) before between after head (record {
+pub adds_section : {A : Type 0} (site : Site) (members : List Member) (placed : List Placed) (runs : List Run) (bottom end : ℕ) (before between after : Canvas A)
+    → AddsToCanvas [] before between → AddsSome (AreFramed placed runs bottom) between after → regions_placed placed ≡ regions_of_members members
+    → bottom ≤ end → (bottom < 2 ^ 64 - 1 → ArePlanned (lines_of_regions (regions_of_members members)) runs bottom)
+    → StandBesideIn site (count_in_place members) (regions_of_members members) (widths_placed placed) → AddsSome (AreOfSection site members end) before after
+adds_section site members placed runs bottom end before between after head done is above planned beside =
+    then_some (AreOfSection site members end) before between after head (record {
       spots = done.spots;
-      hold = of_section lines every runs bottom end done.spots done.hold is above planned;
+      hold = of_section site members placed runs bottom end done.spots done.hold is above planned beside;
       adds = done.adds;
     })

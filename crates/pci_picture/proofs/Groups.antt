@@ -18,6 +18,7 @@ use Rattle.pci_picture.specs.declared.map.Heading.{Heading}
 use Rattle.pci_picture.specs.declared.map.Heading.TheVariants.{Section as InSection, Lost, Off}
 use Rattle.pci_picture.specs.declared.map.Line.{Line}
 use Rattle.pci_picture.specs.declared.plan.Member.{Member}
+use Rattle.pci_picture.specs.declared.plan.Site.{Site}
 use Rattle.pci_picture.proofs.Anys.{any_at, any_next}
 use Rattle.pci_picture.proofs.Lost.{groups_by_root}
 use Rattle.pci_picture.proofs.Filtered.{filter_map, filter_permuted, filter_twice}
@@ -256,14 +257,14 @@ no_group members y = record {
   stand = λ small. All-nil (λ section. AreBoxesStanding section.spots);
 }
 
-pub group_more : (members part : List Member) (begin end y bottom number : ℕ) (spots more : List BoxSpot) (done : AreGrouped members begin y spots)
+pub group_more : (site : Site) (members part : List Member) (begin end y bottom number : ℕ) (spots more : List BoxSpot) (done : AreGrouped members begin y spots)
     → take end members ≡ take begin members ++ part → y ≤ bottom
     → All (λ member. member.section ≡ number) part
     → All (λ section. section.number < number) (sections_of done.groups)
     → ((d : Member) → end < length members → number < (get_or members end d).section)
-    → AreOfSection (lines_of_regions (regions_of_members part)) bottom more
+    → AreOfSection site part bottom more
     → AreGrouped members end bottom (spots ++ more)
-group_more members part begin end y bottom number spots more done joined down alike less next last =
+group_more site members part begin end y bottom number spots more done joined down alike less next last =
     let section : Section = record { number = number; spots = more; lost = lines_below_headings is_lost (map headed_member part) } in
     let group : Group = record { section = section; members = part } in
     let before : List Section = sections_of done.groups in

@@ -4,6 +4,7 @@ use Rattle.std.specs.List.{slice_get}
 use Rattle.std.specs.Option.{unwrap_or}
 use Rattle.std.specs.Iterator.{AlwaysYields, Yields, YieldsThen}
 use Rattle.std.proofs.lemmas.Iterator.{YieldsList}
+use Rattle.std.proofs.lemmas.List.{drop-drop}
 
 module _ {S A B : Type 0} (steps : S → Option A → S → Type 0) (v : A → B) where
   left_after : (xs : List A) (x : A) (all : List B) (s t u : S) → Yields steps s xs t → steps t (Some x) u → AlwaysYields steps v s all
@@ -13,22 +14,12 @@ module _ {S A B : Type 0} (steps : S → Option A → S → Type 0) (v : A → B
   left_after (a ∷ xs) x [] s t u y p g = absurd (g a y.0 y.1)
   left_after (a ∷ xs) x (b ∷ all) s t u y p g = left_after xs x all y.0 t u y.2 p (g.1 a y.0 y.1).1
 
-drop_none : {X : Type 0} (n : ℕ) → drop {A = X} n [] ≡ []
-drop_none zero = refl
-drop_none (suc n) = refl
-
-drop_behind : {X : Type 0} (k n m : ℕ) (all : List X) → k + n ≡ m → drop n (drop k all) ≡ drop m all
-drop_behind zero n m all is = ap (λ j. drop j all) (omega (arith, is))
-drop_behind (suc k) n m [] is = drop_none n ∙ sym (drop_none m)
-drop_behind (suc k) n zero (x ∷ all) is = absurd (omega (arith, is))
-drop_behind (suc k) n (suc m) (x ∷ all) is = drop_behind k n m all (omega (arith, is))
-
 -- behind the item at an index of what is left
 pub nth_leaves : {S A B : Type 0} {steps : S → Option A → S → Type 0} {v : A → B} {s : S} (all : List B) (x : A) (u : S) (k n m : ℕ)
     → ((xs : List A) × YieldsThen steps s xs (Some x) u × (length xs ≡ n)) → YieldsList steps v s (drop k all) → k + suc n ≡ m
     → YieldsList steps v u (drop m all)
 nth_leaves {S} {A} {B} {steps} {v} {s} all x u k n m h e is = record {
-  runs = subst (AlwaysYields steps v u) (drop_behind k (suc n) m all is)
+  runs = subst (AlwaysYields steps v u) (drop-drop (suc n) k all ∙ ap (λ j. drop j all) (omega (arith, is)))
       (subst (λ j. AlwaysYields steps v u (drop (suc j) (drop k all))) h.2 (left_after steps v h.0 x (drop k all) s h.1.0 u h.1.1 h.1.2 e.runs));
 }
 

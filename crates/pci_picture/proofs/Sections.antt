@@ -17,6 +17,7 @@ use Rattle.pci_picture.specs.declared.canvas.Canvas.{Canvas}
 use Rattle.pci_picture.specs.declared.map.Line.{Line}
 use Rattle.pci_picture.specs.declared.map.Map.{Map}
 use Rattle.pci_picture.specs.declared.plan.Member.{Member}
+use Rattle.pci_picture.specs.declared.plan.Site.{Site}
 use Rattle.pci_picture.specs.declared.plan.Placed.{Placed}
 use Rattle.pci_picture.specs.declared.region.Region.{Region}
 use Rattle.pci_picture.proofs.Boxes.{then_adds, then_some, unchanged}
@@ -72,15 +73,15 @@ none_off (region ∷ regions) canvas is = let l : length (region ∷ regions) �
 pub no_rows : {A : Type 0} (canvas : Canvas A) → AddsSome (λ spots. lines_drawn spots ≡ lines_of_regions []) canvas canvas
 no_rows canvas = record { spots = []; hold = refl; adds = unchanged canvas }
 
-pub row_more : {A : Type 0} (regions : List Region) (i : ℕ) (region : Region) (y : ℕ) (first before after : Canvas A) → i < length regions
+pub row_more : {A : Type 0} (regions : List Region) (i : ℕ) (region : Region) (x y width : ℕ) (first before after : Canvas A) → i < length regions
     → region ≡ get_or regions i region
-    → AddsSome (λ spots. lines_drawn spots ≡ lines_of_regions (take i regions)) first before → AddsToCanvas (spot_at y 13 region.line.now ∷ []) before after
+    → AddsSome (λ spots. lines_drawn spots ≡ lines_of_regions (take i regions)) first before → AddsToCanvas (spot_at x y width 13 region.line.now ∷ []) before after
     → AddsSome (λ spots. lines_drawn spots ≡ lines_of_regions (take (i + 1) regions)) first after
-row_more regions i region y first before after inside at done one =
+row_more regions i region x y width first before after inside at done one =
     let more : lines_of_regions (take (i + 1) regions) ≡ lines_of_regions (take i regions) ++ region.line.now ∷ [] =
     map_more (λ r. r.line.now) regions i region inside
     ∙ ap (λ r. lines_of_regions (take i regions) ++ r.line.now ∷ []) (sym at) in
-    let spot : BoxSpot = spot_at y 13 region.line.now in
+    let spot : BoxSpot = spot_at x y width 13 region.line.now in
     record {
       spots = done.spots ++ spot ∷ [];
       hold = map-append (λ s. s.line) done.spots (spot ∷ []) ∙ ap (λ l. l ++ region.line.now ∷ []) done.hold ∙ sym more;
@@ -119,13 +120,13 @@ between number here there is up apart =
       | inr more ↦ absurd (apart (omega (arith, up, more)))
     ]
 
-pub section_more : {A : Type 0} (members part : List Member) (begin end y bottom : ℕ) (member : Member) (first before after : Canvas A) → begin < end
+pub section_more : {A : Type 0} (site : Site) (members part : List Member) (begin end y bottom : ℕ) (member : Member) (first before after : Canvas A) → begin < end
     → end ≤ length members → member ≡ get_or members begin member → part ≡ take (end - begin) (drop begin members) → y ≤ bottom
     → IsNonDecreasingBy (λ (m : Member). m.section) members → IsRunOfSection members begin end
     → AddsSome (AreGrouped members begin y) first before
-    → AddsSome (AreOfSection (lines_of_regions (regions_of_members part)) bottom) before after
+    → AddsSome (AreOfSection site part bottom) before after
     → AddsSome (AreGrouped members end bottom) first after
-section_more members part begin end y bottom member first before after up within at is down sorted run done adds =
+section_more site members part begin end y bottom member first before after up within at is down sorted run done adds =
     let joined : take end members ≡ take begin members ++ part =
     ap (λ n. take n members) (omega arith) ∙ take_both begin (end - begin) members ∙ ap (λ l. take begin members ++ l) (sym is) in
     let number : ℕ = member.section in
@@ -134,7 +135,7 @@ section_more members part begin end y bottom member first before after up within
     record {
       spots = done.spots ++ adds.spots;
       hold =
-          group_more members part begin end y bottom number done.spots adds.spots done.hold joined down
+          group_more site members part begin end y bottom number done.spots adds.spots done.hold joined down
           (subst (All (λ m. m.section ≡ number)) (sym is) (part_alike members begin end number (omega arith) within there run))
           (subst (λ n. All (λ section. section.number < n) (sections_of done.hold.groups)) (there member) (done.hold.below member (omega arith)))
           (λ d inside. between number ((get_or members begin d).section) ((get_or members end d).section) (there d)

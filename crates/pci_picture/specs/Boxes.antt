@@ -9,20 +9,22 @@ use Rattle.pci_picture.specs.Roots.{AreLostByRoot, Listed}
 use Rattle.pci_picture.specs.Spots.{Section, BoxSpot, spot_at, lines_drawn, all_of, EachStands}
 use Rattle.pci_picture.specs.Whole.{picture_text}
 
--- a box by its title, its top and its height
+-- a box by its title, its left end and its top, its width and its height
 pub record Titled : Type 0 where
   pub title : List ℕ
+  pub x : ℕ
   pub y : ℕ
+  pub width : ℕ
   pub height : ℕ
 
-abbrev pub titled : ℕ → ℕ → List ℕ → Titled
-titled y height title = record { title = title; y = y; height = height }
+abbrev pub titled : ℕ → ℕ → ℕ → ℕ → List ℕ → Titled
+titled x y width height title = record { title = title; x = x; y = y; width = width; height = height }
 
 -- a text is these boxes, in their order, with words, ticks and gaps between them, which have no title
 pub data HasTitles : List Titled → List ℕ → Type 0 where
   no_element : HasTitles [] []
   a_box : (x y width height : ℕ) (class anchor title rest : List ℕ) (boxes : List Titled) → HasTitles boxes rest
-      → HasTitles (titled y height title ∷ boxes) (box_text x y width height class anchor title ++ rest)
+      → HasTitles (titled x y width height title ∷ boxes) (box_text x y width height class anchor title ++ rest)
   a_line : (x y : ℕ) (class line rest : List ℕ) (boxes : List Titled) → HasTitles boxes rest
       → HasTitles boxes (words_text x y class line ++ rest)
   at_axis : (x y : ℕ) (faint line rest : List ℕ) (boxes : List Titled) → HasTitles boxes rest
@@ -43,7 +45,7 @@ titled_line title = line_if_region (first_title_line title)
 
 -- the same, with where the box stands
 abbrev pub titled_spot : Titled → List BoxSpot
-titled_spot box = map (spot_at box.y box.height) (titled_line box.title)
+titled_spot box = map (spot_at box.x box.y box.width box.height) (titled_line box.title)
 
 -- a text has these regions of a map as first lines of its titles, in their order and with their places, and no others
 pub record HasSpots (spots : List BoxSpot) (text : List ℕ) : Type 0 where

@@ -1,15 +1,19 @@
 -- What is drawn of a section, and of all.
-use Rattle.std.specs.Prelude.{◌≡◌, ◌<◌, ◌≤◌, ◌+◌, ◌-◌, ◌^◌, ℕ, List, map, take, length, slice_index_or}
+use Rattle.std.specs.Prelude.{◌≡◌, ◌<◌, ◌≤◌, ◌+◌, ◌-◌, ◌^◌, ℕ, List, map, max, take, length, slice_index_or}
 use Rattle.std.specs.List.{All, AllPairs, flat_map}
 use Rattle.std.specs.List.Sorted.{IsPermutation, IsNonDecreasingBy}
 use Rattle.pci_picture.specs.Headings.{AreSectionsOf, is_lost, lines_below_headings}
-use Rattle.pci_picture.specs.Maps.{headed_line, headed_member, lines_of_regions, regions_of_members, regions_under}
+use Rattle.pci_picture.specs.Maps.{headed_line, headed_member, lines_of_regions, regions_of_members, regions_placed, regions_under}
 use Rattle.pci_picture.specs.Roots.{AreLostByRoot, Listed}
+use Rattle.pci_picture.specs.Sides.{StandBesideIn, count_in_place, widths_placed}
 use Rattle.pci_picture.specs.Spots.{Section, BoxSpot, first_address, region_last_address, lines_drawn, all_of, Rise, AreBoxesStanding, EachStands}
 use Rattle.pci_picture.specs.Stacked.{height_at}
 use Rattle.pci_picture.specs.declared.heights.Run.{Run}
+use Rattle.pci_picture.specs.declared.lanes.Width.{Width}
 use Rattle.pci_picture.specs.declared.map.Line.{Line}
 use Rattle.pci_picture.specs.declared.plan.Member.{Member}
+use Rattle.pci_picture.specs.declared.plan.Placed.{Placed}
+use Rattle.pci_picture.specs.declared.plan.Site.{Site}
 
 -- where a box stands, of the heights of its first address and of the one past its last
 pub record IsFramed (height_of : ℕ → ℕ) (first last y height : ℕ) : Type 0 where
@@ -26,16 +30,31 @@ pub record ArePlanned (lines : List (List ℕ)) (runs : List Run) (bottom : ℕ)
   pub sorted : IsNonDecreasingBy (λ (run : Run). run.begin) runs
   pub rise : Rise lines (height_at runs bottom)
 
--- the boxes of regions whose places are those of their addresses, where the runs stand in their order
-pub record AreFramed (lines : List (List ℕ)) (runs : List Run) (bottom : ℕ) (spots : List BoxSpot) : Type 0 where
-  pub drawn : lines_drawn spots ≡ lines
+-- the left end and the width of a box: one unit at least, and two less than the room that it has
+abbrev pub sides_of_width : Width → ℕ × ℕ
+sides_of_width width = (width.left, max 1 (width.right - width.left - 2))
+
+abbrev pub sides_drawn : List BoxSpot → List (ℕ × ℕ)
+sides_drawn spots = map (λ spot. (spot.x, spot.width)) spots
+
+-- the boxes of regions with these widths, whose heights are those of their addresses, where the runs stand in their order
+pub record AreFramed (placed : List Placed) (runs : List Run) (bottom : ℕ) (spots : List BoxSpot) : Type 0 where
+  pub drawn : lines_drawn spots ≡ lines_of_regions (regions_placed placed)
+  pub sides : sides_drawn spots ≡ map sides_of_width (widths_placed placed)
   pub framed : IsNonDecreasingBy (λ (run : Run). run.begin) runs
       → All (IsFramedAt (height_at runs bottom)) spots
 
--- the boxes of the regions of a section that ends at a height
-pub record AreOfSection (lines : List (List ℕ)) (end : ℕ) (spots : List BoxSpot) : Type 0 where
-  pub drawn : lines_drawn spots ≡ lines
+-- the boxes of a section have the sides of some widths, which stand beside each other where the lines are indented by one step
+pub record AreDrawnBeside (site : Site) (members : List Member) (spots : List BoxSpot) : Type 0 where
+  pub widths : List Width
+  pub sides : sides_drawn spots ≡ map sides_of_width widths
+  pub beside : StandBesideIn site (count_in_place members) (regions_of_members members) widths
+
+-- the boxes of the members of a section that ends at a height
+pub record AreOfSection (site : Site) (members : List Member) (end : ℕ) (spots : List BoxSpot) : Type 0 where
+  pub drawn : lines_drawn spots ≡ lines_of_regions (regions_of_members members)
   pub stand : end < 2 ^ 64 - 1 → AreBoxesStanding spots
+  pub beside : AreDrawnBeside site members spots
 
 -- ---- members by sections
 

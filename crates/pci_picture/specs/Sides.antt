@@ -66,6 +66,5 @@ pub record AreIndented (count : ℕ) (regions : List Region) : Type 0 where
   pub lost : IsIndented (drop count regions)
 
 -- a section's boxes stand so, where its lines are indented so
-abbrev pub StandBesideIn : Site → ℕ → List Region → List Placed → Type 0
-StandBesideIn site count regions placed =
-    AreIndented count regions → StandBeside site (take count regions) (drop count regions) (widths_placed placed)
+abbrev pub StandBesideIn : Site → ℕ → List Region → List Width → Type 0
+StandBesideIn site count regions widths = AreIndented count regions → StandBeside site (take count regions) (drop count regions) widths

@@ -1,5 +1,5 @@
 //! The picture of a board.
-ghost use Rattle.std.specs.Prelude.{◌≡◌, ◌<◌, ◌≤◌, [], ◌∷◌, length, IfOk, OnOk};
+ghost use Rattle.std.specs.Prelude.{◌≡◌, ◌<◌, ◌≤◌, ◌+◌, ◌-◌, ◌^◌, [], ◌∷◌, min, length, IfOk, OnOk};
 ghost use Rattle.std.specs.List.{All};
 ghost use Rattle.std.specs.String.{string_bytes};
 ghost use Rattle.pci_picture.specs.Boxes.{IsPictureOf};
@@ -270,7 +270,8 @@ fn draw_off_row<A: Allocator + Copy>(
     region: &Region<'_>,
     site: &Site,
 ) -> Result<(), OutOfMemory>
-    ensures { OnOk result (AddsToCanvas (spot_at site.now.y 13 region.entry.now.line.now ∷ []) canvas.old canvas.new) }
+    ensures { OnOk result (AddsToCanvas (spot_at (min (site.now.x + 132) (2 ^ 64 - 1)) site.now.y site.now.width 13
+        region.entry.now.line.now ∷ []) canvas.old canvas.new) }
 {
     let x = site.x.saturating_add(AXIS);
     let at = Frame {

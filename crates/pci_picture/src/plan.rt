@@ -300,7 +300,7 @@ impl<'a, A: Allocator + Copy> Plan<'a, A> {
             → ArePlanned (lines_of_regions (regions_of_members members.entry.now)) plan.heights.runs.items plan.heights.bottom) }
         ensures down { IfOk result (λ plan. site.now.y ≤ plan.heights.bottom) }
         ensures beside { IfOk result (λ plan. StandBesideIn site.now (count_in_place members.entry.now)
-            (regions_of_members members.entry.now) plan.placed.items) }
+            (regions_of_members members.entry.now) (widths_placed plan.placed.items)) }
     {
         let regions = regions_of(alloc, members)?;
         let every = regions.as_slice();
@@ -351,7 +351,7 @@ fn placed_of<'a, A: Allocator + Copy>(
     index: usize,
 ) -> Result<Vec<Placed<'a>, A>, OutOfMemory>
     ensures regions { IfOk result (λ placed. regions_placed placed.items ≡ regions.entry.now) }
-    ensures beside { IfOk result (λ placed. StandBesideIn site.now index regions.entry.now placed.items) }
+    ensures beside { IfOk result (λ placed. StandBesideIn site.now index regions.entry.now (widths_placed placed.items)) }
 {
     let left = site.x.saturating_add(AXIS);
     let edge = left.saturating_add(site.width);

@@ -2,7 +2,6 @@
 ghost use Rattle.std.specs.Prelude.{◌≤◌, [], ◌∷◌, IfOk, OnOk};
 ghost use Rattle.pci_picture.specs.Canvases.{AddsToCanvas, AddsSome};
 ghost use Rattle.pci_picture.specs.Drawings.{AreFramed, AreOfSection};
-ghost use Rattle.pci_picture.specs.Maps.{lines_of_regions, regions_of_members, regions_placed};
 ghost use Rattle.pci_picture.specs.Spots.{spot_at};
 
 use super::board::Board;
@@ -180,7 +179,7 @@ fn draw_box<A: Allocator + Copy>(
     placed: &Placed<'_>,
     at: Frame,
 ) -> Result<(), OutOfMemory>
-    ensures { OnOk result (AddsToCanvas (spot_at at.y at.height placed.entry.now.region.line.now ∷ []) canvas.old canvas.new) }
+    ensures { OnOk result (AddsToCanvas (spot_at at.x at.y at.width at.height placed.entry.now.region.line.now ∷ []) canvas.old canvas.new) }
 {
     let region = &placed.region;
     let class = class_of(&board.faults, region, placed.is_lost);
@@ -414,8 +413,7 @@ fn draw_regions<A: Allocator + Copy>(
     board: &Board<'_, A>,
     plan: &Plan<'_, A>,
 ) -> Result<(), OutOfMemory>
-    ensures { OnOk result (AddsSome (AreFramed (lines_of_regions (regions_placed plan.entry.now.placed.items))
-        plan.entry.now.heights.runs.items plan.entry.now.heights.bottom) canvas.old canvas.new) }
+    ensures { OnOk result (AddsSome (AreFramed plan.entry.now.placed.items plan.entry.now.heights.runs.items plan.entry.now.heights.bottom) canvas.old canvas.new) }
 {
     for placed in &plan.placed {
         let at = frame_of(&plan.heights, placed);
@@ -477,7 +475,7 @@ pub fn draw_section<A: Allocator + Copy>(
     site: &Site,
     members: &[Member<'_>],
 ) -> Result<u64, OutOfMemory>
-    ensures drawn { IfOk result (λ end. AddsSome (AreOfSection (lines_of_regions (regions_of_members members.entry.now)) end)
+    ensures drawn { IfOk result (λ end. AddsSome (AreOfSection site.now members.entry.now end)
         canvas.old canvas.new) }
     ensures down { IfOk result (λ end. site.now.y ≤ end) }
 {

@@ -17,7 +17,7 @@ pub loop-region-preserved : goal.loop-region-preserved
 loop-region-preserved g c = record {
   down = omega (arith, c.loop-region.invariant.down);
   rows =
-      row_more c.as_slice-off.result.now c.loop-region.region-index c.region-item.result c.loop-region.y
+      row_more c.as_slice-off.result.now c.loop-region.region-index c.region-item.result _ c.loop-region.y _
       c.add_heading.new.self c.loop-region.canvas c.draw_off_row.new.canvas
       (omega arith) c.region-item.is c.loop-region.invariant.rows c.in_ok-draw_off_row.ensures;
 }

@@ -20,7 +20,7 @@ loop-begin-preserved g c =
       within = c.section_end-end.ensures.within;
       down = up_to c.args.first.now.y c.loop-begin.y c.in_ok-y.y c.loop-begin.invariant.down c.in_ok-y.ensures.down;
       adds =
-          section_more c.as_slice-members.result.now _ c.loop-begin.begin c.section_end-end.result c.loop-begin.y c.in_ok-y.y c.index-members-begin.result
+          section_more _ c.as_slice-members.result.now _ c.loop-begin.begin c.section_end-end.result c.loop-begin.y c.in_ok-y.y c.index-members-begin.result
           c.args.canvas.now c.loop-begin.canvas c.draw_section.new.canvas
           c.section_end-end.ensures.some c.section_end-end.ensures.within c.index-members-begin.is refl c.in_ok-y.ensures.down
           are.sorted c.section_end-end.ensures.alike c.loop-begin.invariant.adds c.in_ok-y.ensures.drawn;
