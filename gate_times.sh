@@ -1,6 +1,6 @@
 #!/usr/bin/env bash
-# Runs the gate on a clone of the last commit, and prints what it took: the table of docs/PERFORMANCE.md, in seconds of
-# processor for each crate's proof, its tests and its edits. The processes of `rt ci` are looked at every two seconds, so
+# Runs the gate on a clone of the last commit, from nothing, and prints what it took: the table of docs/PERFORMANCE.md, in
+# seconds of processor for each crate's proof, its tests and its edits. The processes of `rt ci` are looked at every two seconds, so
 # what each takes after the last look is missing, some percent in all. Nothing else should run beside it.
 #
 # Usage: gate_times.sh [FILE]; what the gate says goes to FILE, too, and its last lines are printed where it fails.
@@ -36,7 +36,7 @@ def look(folder):
 
 start, seen = time.time(), {}
 with open(sys.argv[1], "w") as told:
-    gate = subprocess.Popen(["rt", "ci"], stdout=told, stderr=subprocess.STDOUT)
+    gate = subprocess.Popen(["rt", "ci", "--anew"], stdout=told, stderr=subprocess.STDOUT)
     while gate.poll() is None:
         for folder in glob.glob("/proc/[0-9]*"):
             found = look(folder)
