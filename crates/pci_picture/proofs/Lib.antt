@@ -36,3 +36,4 @@ pub mod SeatedUpTo
 pub mod Counted
 pub mod Crowded
 pub mod Beside
+pub mod Siblings

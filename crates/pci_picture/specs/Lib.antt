@@ -18,3 +18,4 @@ pub mod ByRoots
 pub mod Lanes
 pub mod Seats
 pub mod Sides
+pub mod Siblings
