@@ -1,7 +1,8 @@
 #!/usr/bin/env bash
-# Runs the gate on a clone of the last commit, from nothing, and prints what it took: the table of docs/PERFORMANCE.md, in
-# seconds of processor for each crate's proof, its tests and its edits. The processes of `rt ci` are looked at every two seconds, so
-# what each takes after the last look is missing, some percent in all. Nothing else should run beside it.
+# Runs the gate on a clone of the last commit, from nothing, and prints what it took: the table of docs/PERFORMANCE.md,
+# in seconds of processor for each crate's proof, its tests and its edits. The processes of rattle are looked at every
+# two seconds, so what each takes after the last look is missing, some percent in all. Those of other runs are counted
+# too. So nothing else should run beside it.
 #
 # Usage: gate_times.sh [FILE]; what the gate says goes to FILE, too, and its last lines are printed where it fails.
 set -u
