@@ -51,7 +51,7 @@ among_by_number slots slot at k same sorted before after within read is_at is_sl
 
 -- ---- functions that are asleep
 
-slot_itself : (slot : Slot) → same_slot slot slot ≡ true
+pub slot_itself : (slot : Slot) → same_slot slot slot ≡ true
 slot_itself slot = same_of slot slot true (and_from (slot.bus == slot.bus) (slot.device == slot.device && slot.function == slot.function) (eq-eqb slot.bus slot.bus refl)
     (and_from (slot.device == slot.device) (slot.function == slot.function) (eq-eqb slot.device slot.device refl) (eq-eqb slot.function slot.function refl)))
 

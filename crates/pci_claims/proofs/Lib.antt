@@ -24,3 +24,4 @@ pub mod AllClaiming
 pub mod Between
 pub mod GapRanges
 pub mod Unclaiming
+pub mod OffParts

@@ -13,6 +13,7 @@ pub mod RootClaims
 pub mod Found
 pub mod Isa
 pub mod ToldOn
+pub mod Off
 pub mod AllClaims
 pub mod Gaps
 pub mod Taking

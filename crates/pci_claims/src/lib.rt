@@ -12,6 +12,7 @@ pub mod gather;
 pub mod given;
 pub mod isa;
 pub mod legacy;
+pub mod off;
 pub mod outside;
 pub mod passed;
 pub mod reach;

@@ -1,6 +1,5 @@
 pub mod Texts
 pub mod OffLines
-pub mod OffRanges
 pub mod Gaps
 pub mod Evidences
 pub mod LeastPlaces

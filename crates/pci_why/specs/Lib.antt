@@ -1,6 +1,5 @@
 pub mod Lines
 pub mod RegionLines
-pub mod Off
 pub mod Missed
 pub mod Named
 pub mod Hosts

@@ -3,7 +3,7 @@
 //!
 //! ```text
 //! push_why(alloc, &mut text, &mut rooms, &judged, &fault)?; // `needs`, `bridge`, `missed`, `host`; `first`, `second`, `shared`; `fits`
-//! push_off(&mut text, &outline, &told, &on)?; // a line for each BAR and each told range that is off
+//! push_off(alloc, &mut text, &outline, &told, &on)?; // a line for each BAR and each told range that is off
 //! reasoned_text(alloc, &judged, &faults)?; // all faults of judging, each with its lines, and what is off
 //! ```
 #![tactic(auto)]

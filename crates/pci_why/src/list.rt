@@ -73,6 +73,6 @@ pub fn reasoned_text<A: Allocator + Copy>(
     let on = ranges_on(alloc, judged.told, judged.outline)?;
     let mut text = begun(alloc, faults)?;
     push_reasoned(alloc, &mut text, judged, &on, faults)?;
-    push_off(&mut text, judged.outline, judged.told, &on)?;
+    push_off(alloc, &mut text, judged.outline, judged.told, &on)?;
     Ok(text)
 }

@@ -89,7 +89,7 @@ fn told(alloc: Global, outline: &Outline, probe: &Dump, faults: &[Named]) -> Opt
         let fault = without_told(&fault_of(named)?);
         push_why(alloc, &mut text, &mut rooms, &judged, &fault).ok()?;
     }
-    push_off(&mut text, outline, &untold, &on).ok()?;
+    push_off(alloc, &mut text, outline, &untold, &on).ok()?;
     Some(text)
 }
 

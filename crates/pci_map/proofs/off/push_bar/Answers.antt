@@ -4,7 +4,7 @@ use Rattle.std.specs.String.{string_bytes}
 use Rattle.pci_spec.specs.Listing.{kind_space}
 use Rattle.pci_image.specs.Bars.{decoded_bar_of}
 use Rattle.pci_map.proofs.Offs.{off_pushed}
-use Rattle.pci_map.proofs.off.push_bar_line.Goals as goal
+use Rattle.pci_map.proofs.off.push_bar.Goals as goal
 
 pub returns : goal.returns
 returns g c =

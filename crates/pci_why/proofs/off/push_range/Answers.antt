@@ -4,7 +4,7 @@ use Rattle.std.proofs.lemmas.List.{append_assoc}
 use Rattle.std.proofs.lemmas.Result.{on_ok_weaker}
 use Rattle.pci_spec.specs.Listing.{words}
 use Rattle.judge_spec.specs.ToldRegion.{told_words}
-use Rattle.pci_why.proofs.off.push_told_line.Goals as goal
+use Rattle.pci_why.proofs.off.push_range.Goals as goal
 
 pub returns : goal.returns
 returns g c =

@@ -4,7 +4,7 @@ use Rattle.pci_spec.specs.Listing.{kind_space}
 use Rattle.pci_image.specs.Bars.{decoded_kind_of}
 use Rattle.pci_base.specs.Space.{space_of}
 use Rattle.pci_why.proofs.OffLines.{off_pushed}
-use Rattle.pci_why.proofs.off.push_line.Goals as goal
+use Rattle.pci_why.proofs.off.push_bar.Goals as goal
 
 pub returns : goal.returns
 returns g c =
