@@ -1,13 +1,9 @@
 -- Boxes of one section overlap upright only where their addresses do.
-use Rattle.std.proofs.Common.{◌≡◌, ◌≤◌, ◌<◌, ◌+◌, ℕ, List, refl, ap, subst, inl, inr, arith}
-use Rattle.std.specs.List.{All, Contains}
+use Rattle.std.proofs.Common.{◌≡◌, ◌≤◌, ◌<◌, ◌+◌, ℕ, refl, ap, inl, inr, arith}
 use Rattle.std.proofs.lemmas.Bool.{cases_lt}
+use Rattle.std.proofs.lemmas.List.Elements.{All-contains}
 use Rattle.pci_picture.specs.Spots.{first_address, region_last_address, BoxStandsAt, BoxesAreApart}
 use Rattle.pci_picture.proofs.Framed.{end_drawn}
-
--- what holds of all holds of one
-pub held_at : {X : Type 0} (P : X → Type 0) (xs : List X) (x : X) → All P xs → Contains xs x → P x
-held_at P xs x all (k, lt, is) = subst P is (all k x lt)
 
 not_above : (height_of : ℕ → ℕ) (low high : ℕ) → (low < high → height_of low < height_of high) → low ≤ high → height_of low ≤ height_of high
 not_above height_of low high rises le =
@@ -22,8 +18,8 @@ boxes_are_apart spots one other standing here there less =
     let f = standing.height_of in
     let past : ℕ = region_last_address one.line + 1 in
     let first : ℕ = first_address other.line in
-    let above : BoxStandsAt f one = held_at (BoxStandsAt f) spots one standing.stand here in
-    let below : BoxStandsAt f other = held_at (BoxStandsAt f) spots other standing.stand there in
+    let above : BoxStandsAt f one = All-contains (BoxStandsAt f) spots one standing.stand here in
+    let below : BoxStandsAt f other = All-contains (BoxStandsAt f) spots other standing.stand there in
     let ends : one.y + one.height + 1 ≡ f past = above.ends in
     let begins : other.y ≡ f first = below.begins in
     let up : f past ≤ f first =

@@ -1,27 +1,15 @@
 -- What is out of place stands beside what is in place.
-use Rattle.std.proofs.Common.{◌≡◌, ◌≤◌, ◌<◌, ℕ, List, [], ◌++◌, length, take, drop, min, sym, ap, subst, ◌∙◌, arith, inl, inr}
+use Rattle.std.proofs.Common.{◌≡◌, ◌≤◌, ◌<◌, ◌+◌, ◌-◌, ◌*◌, ◌/◌, ◌^◌, ℕ, zero, suc, List, [], ◌++◌, length, take, drop, min, refl, sym, ap, subst, ◌∙◌, arith}
 use Rattle.std.specs.List.{Contains}
-use Rattle.std.proofs.lemmas.List.{drop_all, take_all}
-use Rattle.std.proofs.lemmas.Bool.{cases_lt}
+use Rattle.std.proofs.Math.Nat.{le-div_iff_mul-le}
+use Rattle.std.proofs.lemmas.List.{drop_min, take_min}
+use Rattle.std.proofs.lemmas.List.Elements.{All-contains}
 use Rattle.pci_picture.specs.Lanes.{IsIndented, StandsBetween}
 use Rattle.pci_picture.specs.Sides.{AddsWidths, AreSides, HasSides, StandBeside, StandBesideIn, widths_placed}
-use Rattle.pci_picture.proofs.Apart.{held_at}
 use Rattle.pci_picture.specs.declared.lanes.Width.{Width}
 use Rattle.pci_picture.specs.declared.plan.Placed.{Placed}
 use Rattle.pci_picture.specs.declared.plan.Site.{Site}
 use Rattle.pci_picture.specs.declared.region.Region.{Region}
-
-take_min : {X : Type 0} (n : ℕ) (xs : List X) → take (min n (length xs)) xs ≡ take n xs
-take_min n xs = elim (cases_lt n (length xs)) [
-  | inl less ↦ ap (λ k. take k xs) (omega (arith, less))
-  | inr not_less ↦ ap (λ k. take k xs) (omega (arith, not_less)) ∙ take_all (length xs) xs (omega arith) ∙ sym (take_all n xs (omega (arith, not_less)))
-]
-
-drop_min : {X : Type 0} (n : ℕ) (xs : List X) → drop (min n (length xs)) xs ≡ drop n xs
-drop_min n xs = elim (cases_lt n (length xs)) [
-  | inl less ↦ ap (λ k. drop k xs) (omega (arith, less))
-  | inr not_less ↦ ap (λ k. drop k xs) (omega (arith, not_less)) ∙ drop_all (length xs) xs (omega arith) ∙ sym (drop_all n xs (omega (arith, not_less)))
-]
 
 none_there : (lost : List Region) (widths : List Width) (one : Width) → length widths ≡ length lost → Contains widths one → 0 < length lost
 none_there lost widths one long (k, lt, is) = omega (arith, long, lt)
@@ -45,8 +33,8 @@ stand_beside site inside lost left split beside edge none some all empty first s
       let some_lost : 0 < length lost = none_there lost second.more other (second.are).count there in
       let row : left ≤ split = omega (arith, ends.from, ends.upto, ends.less some_lost, sides.wide) in
       let room : beside ≤ edge = omega (arith, ends.less some_lost, ends.behind) in
-      let low : StandsBetween left split one = held_at (StandsBetween left split) first.more one ((first.are).between row) here in
-      let high : StandsBetween beside edge other = held_at (StandsBetween beside edge) second.more other ((second.are).between room) there in
+      let low : StandsBetween left split one = All-contains (StandsBetween left split) first.more one ((first.are).between row) here in
+      let high : StandsBetween beside edge other = All-contains (StandsBetween beside edge) second.more other ((second.are).between room) there in
       omega (arith, low.inner, low.within, low.upto, high.from, ends.behind);
 }
 
@@ -63,3 +51,24 @@ placed_beside site regions front back index n left split beside edge none some a
     (stand_beside site front back left split beside edge (widths_placed none) (widths_placed some) (widths_placed all)
     (ap widths_placed empty)
     (first (subst IsIndented (sym in_place) indented.inside)) (second (subst IsIndented (sym out) indented.lost)) is))
+
+-- ---- the room of a section
+
+-- all columns together are at most as wide as ten of 126 units
+pub columns_of_none : (column behind : ℕ) → behind ≡ 0 → column * behind ≤ 1260
+columns_of_none column behind none = subst (λ (n : ℕ). column * n ≤ 1260) (sym none) (let e : column * 0 ≡ 0 = omega arith in omega (arith, e))
+
+not_zero : (n : ℕ) → (n ≡ 0 → ⊥) → 0 < n
+not_zero zero some = absurd (some refl)
+not_zero (suc n) some = omega arith
+
+pub columns_of_some : (column behind : ℕ) → (behind ≡ 0 → ⊥) → column ≡ min 126 (1260 / behind) → column * behind ≤ 1260
+columns_of_some column behind some is =
+    (le-div_iff_mul-le {k = behind} {x = column} {y = 1260} (omega (arith, not_zero behind some))).0 (omega (arith, is))
+
+pub has_room : (site : Site) (columns lost product : ℕ) → site.x ≡ 436 → columns ≤ 1260 → lost ≤ 240 → product ≡ min columns (2 ^ 64 - 1)
+    → site.width ≡ min (product + (330 + lost)) (2 ^ 64 - 1) → HasSides site
+has_room site columns lost product left few low product_is width_is = record {
+  wide = omega (arith, product_is, width_is);
+  uncut = omega (arith, left, few, low, product_is, width_is);
+}

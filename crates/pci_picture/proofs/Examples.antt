@@ -1,6 +1,6 @@
 -- Lines of maps, their headings, and titles.
-use Rattle.std.proofs.Common.{◌≡◌, ℕ, List, [], ◌∷◌, ◌++◌, codes, refl, arith}
-use Rattle.pci_picture.specs.Headings.{AreSectionsOf, Headed, heading_told, headed_regions, is_lost, is_below_no_heading, is_section, lines_below_headings}
+use Rattle.std.proofs.Common.{◌≡◌, ℕ, List, [], ◌∷◌, ◌++◌, codes, map, refl, arith}
+use Rattle.pci_picture.specs.Headings.{AreSectionsOf, Headed, depth_behind, heading_told, read_on, headed_regions, is_lost, is_below_no_heading, is_section, lines_below_headings}
 use Rattle.pci_picture.specs.Lines.{region_lines, is_region_line, is_range, names_part, is_slot, is_register, is_told_number, words_in_line}
 use Rattle.pci_picture.specs.Boxes.{titled_line}
 use Rattle.pci_picture.specs.Spots.{Section}
@@ -79,20 +79,40 @@ headed_map = codes "  a-b 2 free" ++ 10 ∷ (codes "bus 00 io" ++ 10 ∷ (codes 
     ++ 10 ∷ (codes "    0-1 2 free" ++ 10 ∷ (codes "outside" ++ 10 ∷ (codes "  2-3 2 free" ++ 10 ∷ (codes "off" ++ 10 ∷ codes "  4-5 2 free"))))))))
 
 below_io : lines_below_headings (is_section 0) (headed_regions headed_map) ≡ codes "c-d 2 free" ∷ []
-unfolding heading_told is_region_line is_range names_part is_register words_in_line
+unfolding heading_told read_on is_region_line is_range names_part is_register words_in_line
 below_io = refl
 
 below_memory : lines_below_headings (is_section 1) (headed_regions headed_map) ≡ codes "e-f 2 free" ∷ codes "0-1 2 free" ∷ []
-unfolding heading_told is_region_line is_range names_part is_register words_in_line
+unfolding heading_told read_on is_region_line is_range names_part is_register words_in_line
 below_memory = refl
 
 out_of_place : lines_below_headings is_lost (headed_regions headed_map) ≡ codes "2-3 2 free" ∷ []
-unfolding heading_told is_region_line is_range names_part is_register words_in_line
+unfolding heading_told read_on is_region_line is_range names_part is_register words_in_line
 out_of_place = refl
 
 below_none : lines_below_headings is_below_no_heading (headed_regions headed_map) ≡ codes "a-b 2 free" ∷ codes "4-5 2 free" ∷ []
-unfolding heading_told is_region_line is_range names_part is_register words_in_line
+unfolding heading_told read_on is_region_line is_range names_part is_register words_in_line
 below_none = refl
+
+-- how deep the lines of a map stand: a line inside another one, and lines out of place and off
+abbrev depths_of : List ℕ → List ℕ
+depths_of text = map (λ region. region.depth) (headed_regions text)
+
+depths_by_blanks : depths_of headed_map ≡ 1 ∷ 1 ∷ 1 ∷ 2 ∷ 1 ∷ 1 ∷ []
+unfolding heading_told read_on depth_behind is_region_line is_range names_part is_register words_in_line
+depths_by_blanks = refl
+
+-- what is below `unclaimed S` stands beside the lines of its root bus, and inside each other as before
+unclaimed_depths : depths_of (codes "bus 00 mem" ++ 10 ∷ (codes "  a-b 2 free" ++ 10 ∷ (codes "  unclaimed 00:1e.0" ++ 10 ∷ (codes "    c-d 2 free" ++ 10 ∷ codes "      c-c 1 free"))))
+    ≡ 1 ∷ 1 ∷ 2 ∷ []
+unfolding heading_told read_on depth_behind is_region_line is_range names_part is_register words_in_line
+unclaimed_depths = refl
+
+-- a line is one step deeper at most than the line before it, and stands inside nothing right below a heading
+steps_of_three : depths_of (codes "bus 00 mem" ++ 10 ∷ (codes "      a-f 6 free" ++ 10 ∷ (codes "        a-b 2 free" ++ 10 ∷ (codes "bus 00 io" ++ 10 ∷ codes "    a-b 2 free"))))
+    ≡ 1 ∷ 2 ∷ 1 ∷ []
+unfolding heading_told read_on depth_behind is_region_line is_range names_part is_register words_in_line
+steps_of_three = refl
 
 -- two sections of one number are refused
 one_section : (regions : List Headed) (one other : Section) → one.number ≡ other.number → AreSectionsOf regions (one ∷ other ∷ []) → ⊥

@@ -5,9 +5,9 @@ use Rattle.std.specs.List.Sorted.{IsNonDecreasingBy}
 use Rattle.std.proofs.lemmas.List.{map-append, map_more, take_all}
 use Rattle.std.proofs.lemmas.List.Elements.{All-append, All-cons, All-nil, Contains-get_or}
 use Rattle.pci_picture.specs.Canvases.{AddsToCanvas, AddsSome}
-use Rattle.pci_picture.specs.Drawings.{IsFramed, IsFramedAt, ArePlanned, AreFramed, AreOfSection, sides_of_width}
+use Rattle.pci_picture.specs.Drawings.{IsFramed, IsFramedAt, ArePlanned, AreFramed, AreOfSection}
 use Rattle.pci_picture.specs.Maps.{lines_of_regions, regions_of_members, regions_placed}
-use Rattle.pci_picture.specs.Sides.{StandBesideIn, count_in_place, widths_placed}
+use Rattle.pci_picture.specs.Sides.{sides_of_width, StandBesideIn, count_in_place, widths_placed}
 use Rattle.pci_picture.specs.Spots.{BoxSpot, first_address, region_last_address, spot_at, lines_drawn, IsEndOf, Rise, BoxStandsAt}
 use Rattle.pci_picture.specs.Stacked.{height_at}
 use Rattle.pci_picture.specs.declared.canvas.Canvas.{Canvas}

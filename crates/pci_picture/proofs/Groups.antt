@@ -1,7 +1,7 @@
 -- Members by sections, and the sections of a picture.
 use Rattle.std.proofs.Common.{◌≡◌, ◌≤◌, ◌<◌, ◌==◌, ◌&&◌, not, ℕ, suc, Bool, true, false, if◌then◌else◌, List, [], ◌∷◌, ◌++◌, map, take, length, get_or, refl, sym, ap, subst, ◌∙◌, arith, ◌⊎◌, inl, inr}
 use Rattle.std.specs.List.{All, AllPairs, Any, filter, flat_map}
-use Rattle.std.specs.List.Sorted.{IsPermutation}
+use Rattle.std.specs.List.Sorted.{IsNonDecreasingBy, IsPermutation}
 use Rattle.std.proofs.lemmas.Bool.{eq-eqb, ne_eqb}
 use Rattle.std.proofs.lemmas.Bool.Decides.{eqb_tells}
 use Rattle.std.proofs.lemmas.List.{append-nil, map-append, nil_from_length, take_all}
@@ -9,9 +9,11 @@ use Rattle.std.proofs.lemmas.List.Concat.{flat_map-append}
 use Rattle.std.proofs.lemmas.List.Elements.{All-cons, All-head, All-map, All-nil, All-push, All-tail, All-weaker, filter-append, filter_agree}
 use Rattle.std.proofs.lemmas.List.Quantifiers.{all_pairs_push}
 use Rattle.std.proofs.lemmas.List.Sorted.{IsPermutation-append_comm, IsPermutation-append_left, IsPermutation-filter_both, IsPermutation-map, IsPermutation-sym, IsPermutation-trans, length_permutation}
-use Rattle.pci_picture.specs.Drawings.{AreGrouped, AreOfSection, AreOfSections, Group, IsGroup, members_of_groups, sections_of}
+use Rattle.pci_picture.specs.Drawings.{AreGrouped, AreOfSection, AreOfSections, Group, HasRoomOf, IsGroup, members_of_groups, sections_of}
 use Rattle.pci_picture.specs.Headings.{AreSectionsOf, Headed, IsSectionOf, is_below_heading, is_lost, is_below_no_heading, is_section, lines_below_headings}
 use Rattle.pci_picture.specs.Maps.{AreMembersOf, headed_line, headed_member, lines_of_regions, regions_of_members, regions_under}
+use Rattle.pci_picture.specs.Members.{AreIndentedBySection, member_number}
+use Rattle.pci_picture.specs.Nested.{HasNestedBoxes}
 use Rattle.pci_picture.specs.Roots.{IsLostByRoot, Listed}
 use Rattle.pci_picture.specs.Spots.{AreBoxesStanding, Section, BoxSpot, all_of, lines_drawn}
 use Rattle.pci_picture.specs.declared.map.Heading.{Heading}
@@ -21,6 +23,7 @@ use Rattle.pci_picture.specs.declared.plan.Member.{Member}
 use Rattle.pci_picture.specs.declared.plan.Site.{Site}
 use Rattle.pci_picture.proofs.Anys.{any_at, any_next}
 use Rattle.pci_picture.proofs.Lost.{groups_by_root}
+use Rattle.pci_picture.proofs.Nested.{is_in, nested_group, section_kept}
 use Rattle.pci_picture.proofs.Filtered.{filter_map, filter_permuted, filter_twice}
 
 -- ---- regions below headings
@@ -45,11 +48,6 @@ below_kept is_meant same regions =
     (filter_twice (λ region. is_meant region.heading) is_below_heading regions
     ∙ filter_agree (λ region. is_meant region.heading && is_below_heading region) (λ region. is_meant region.heading) (λ region. same region.heading) regions)
 
-section_kept : (n : ℕ) (heading : Heading) → (is_section n heading && not (is_below_no_heading heading)) ≡ is_section n heading
-section_kept n (InSection m) = elim (m == n) as (λ b. (b && true) ≡ b) [ true ↦ refl | false ↦ refl ]
-section_kept n Lost = refl
-section_kept n Off = refl
-
 lost_kept : (heading : Heading) → (is_lost heading && not (is_below_no_heading heading)) ≡ is_lost heading
 lost_kept (InSection m) = refl
 lost_kept Lost = refl
@@ -69,9 +67,6 @@ sections_of_all regions sections are = record {
 }
 
 -- ---- members of one section
-
-abbrev is_in : ℕ → Member → Bool
-is_in number member = member.section == number
 
 filter_alike : (number : ℕ) (members : List Member) → All (λ member. member.section ≡ number) members
     → filter (is_in number) members ≡ members
@@ -246,8 +241,8 @@ all_more : (sections : List Section) (section : Section) → all_of (sections ++
 all_more sections section =
     flat_map-append (λ s. s.spots) sections (section ∷ []) ∙ ap (λ l. all_of sections ++ l) (append-nil section.spots)
 
-pub no_group : (members : List Member) (y : ℕ) → AreGrouped members 0 y []
-no_group members y = record {
+pub no_group : (first : Site) (members : List Member) (y : ℕ) → AreGrouped first members 0 y []
+no_group first members y = record {
   groups = [];
   joined = refl;
   taken = refl;
@@ -255,18 +250,20 @@ no_group members y = record {
   rise = λ i j d less inside. absurd (omega (arith, inside));
   below = λ d inside. All-nil (λ section. section.number < (get_or members 0 d).section);
   stand = λ small. All-nil (λ section. AreBoxesStanding section.spots);
+  rooms = All-nil (λ group. HasRoomOf first group.site);
 }
 
-pub group_more : (site : Site) (members part : List Member) (begin end y bottom number : ℕ) (spots more : List BoxSpot) (done : AreGrouped members begin y spots)
+pub group_more : (first site : Site) (members part : List Member) (begin end y bottom number : ℕ) (spots more : List BoxSpot) (done : AreGrouped first members begin y spots)
     → take end members ≡ take begin members ++ part → y ≤ bottom
     → All (λ member. member.section ≡ number) part
     → All (λ section. section.number < number) (sections_of done.groups)
     → ((d : Member) → end < length members → number < (get_or members end d).section)
+    → IsNonDecreasingBy member_number part → HasRoomOf first site
     → AreOfSection site part bottom more
-    → AreGrouped members end bottom (spots ++ more)
-group_more site members part begin end y bottom number spots more done joined down alike less next last =
+    → AreGrouped first members end bottom (spots ++ more)
+group_more first site members part begin end y bottom number spots more done joined down alike less next lost_last room last =
     let section : Section = record { number = number; spots = more; lost = lines_below_headings is_lost (map headed_member part) } in
-    let group : Group = record { section = section; members = part } in
+    let group : Group = record { section = section; members = part; site = site } in
     let before : List Section = sections_of done.groups in
     let behind : sections_of (done.groups ++ group ∷ []) ≡ before ++ section ∷ [] = map-append (λ g. g.section) done.groups (group ∷ []) in
     record {
@@ -275,7 +272,13 @@ group_more site members part begin end y bottom number spots more done joined do
       taken =
           flat_map-append (λ g. g.members) done.groups (group ∷ [])
           ∙ ap (λ l. members_of_groups done.groups ++ l) (append-nil part) ∙ ap (λ l. l ++ part) done.taken ∙ sym joined;
-      each = All-push IsGroup done.groups group done.each (record { drawn = last.drawn; lost = refl; alike = alike });
+      each = All-push IsGroup done.groups group done.each (record {
+        drawn = last.drawn;
+        lost = refl;
+        alike = alike;
+        lost_last = lost_last;
+        beside = last.beside;
+      });
       rise =
           subst Rises (sym behind)
           (all_pairs_push (λ one other. one.number < other.number) before section done.rise (λ k d inside. less k d inside));
@@ -288,11 +291,13 @@ group_more site members part begin end y bottom number spots more done joined do
       stand = λ small.
           subst (All (λ s. AreBoxesStanding s.spots)) (sym behind)
           (All-push (λ s. AreBoxesStanding s.spots) before section (done.stand (omega (arith, down, small))) (last.stand small));
+      rooms = All-push (λ g. HasRoomOf first g.site) done.groups group done.rooms room;
     }
 
-pub grouped : (functions : List Listed) (lines : List Line) (members : List Member) (count end : ℕ) (spots : List BoxSpot) → length members ≤ count
-    → AreMembersOf lines members → All (IsLostByRoot functions) members → AreGrouped members count end spots → AreOfSections functions lines end spots
-grouped functions lines members count end spots past are by_root done =
+pub grouped : (first : Site) (functions : List Listed) (lines : List Line) (members : List Member) (count end : ℕ) (spots : List BoxSpot) → length members ≤ count
+    → AreMembersOf lines members → AreIndentedBySection members → All (IsLostByRoot functions) members → AreGrouped first members count end spots
+    → AreOfSections first functions lines end spots
+grouped first functions lines members count end spots past are indented by_root done =
     let regions : List Headed = map headed_line lines in
     let taken : members_of_groups done.groups ≡ members = done.taken ∙ take_all count members past in
     let drawn : lines_of_regions (regions_of_members members) ≡ lines_drawn spots =
@@ -321,4 +326,7 @@ grouped functions lines members count end spots past are by_root done =
       };
       by_root = groups_by_root functions done.groups done.each (subst (All (IsLostByRoot functions)) (sym taken) by_root);
       stand = done.stand;
+      nested = λ sides.
+          All-map (HasNestedBoxes regions) (λ g. g.section) done.groups
+          (λ k d inside. nested_group first regions members (get_or done.groups k d) sides (done.rooms k d inside) are.seated indented (has k d inside) (done.each k d inside));
     }

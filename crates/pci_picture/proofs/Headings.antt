@@ -1,90 +1,106 @@
 -- The regions of a map and their headings, while the map is read.
-use Rattle.std.proofs.Common.{◌≡◌, ℕ, Option, Some, None, List, [], ◌∷◌, ◌++◌, map, fold, refl, sym, ap, subst, ◌∙◌}
+use Rattle.std.proofs.Common.{arith, ◌≡◌, ◌≤◌, ◌/◌, ℕ, false, if◌then◌else◌, nat_lt, Option, Some, None, List, [], ◌∷◌, ◌++◌, map, fold, refl, sym, ap, subst, ◌∙◌}
 use Rattle.std.specs.List.{filter, slice_split}
 use Rattle.std.specs.List.Sorted.{IsPermutation}
+use Rattle.std.proofs.lemmas.Bool.{le-ltb}
 use Rattle.std.proofs.lemmas.List.{append_assoc, append-nil, map-append}
 use Rattle.std.proofs.lemmas.List.Elements.{filter-append}
 use Rattle.std.proofs.lemmas.List.Sums.{fold-append}
-use Rattle.pci_picture.specs.Headings.{Headed, headed, headed_lines, is_below_heading, is_below_no_heading, lines_below_headings, next_heading}
-use Rattle.pci_picture.specs.Lines.{is_feed, indented_if_region}
+use Rattle.pci_picture.specs.Headings.{Headed, ReadSoFar, at_begin, depth_behind, depth_of_line, headed, headed_behind, headed_lines, is_below_heading, is_below_no_heading, lines_below_headings, read_on}
+use Rattle.pci_picture.specs.Lines.{is_feed, indented_if_region, leading_blanks, line_if_region, unindented_line}
 use Rattle.pci_picture.specs.Maps.{IsReadOf, TakesUp, heading_in, headed_line, lines_of_regions, lines_read, regions_under}
 use Rattle.pci_picture.specs.declared.map.Heading.{Heading}
-use Rattle.pci_picture.specs.declared.map.Heading.TheVariants.{Off}
 use Rattle.pci_picture.specs.declared.map.Line.{Line}
 use Rattle.pci_picture.specs.declared.map.Map.{Map}
 use Rattle.pci_picture.proofs.Taken.{put_line, more_told, none_read}
 
 -- ---- one more region
 
-kept_alone : (section : Option ℕ) (bytes : List ℕ)
-    → filter is_below_heading (map (headed (heading_in section)) (bytes ∷ [])) ≡ headed (heading_in section) bytes ∷ []
-kept_alone (Some n) bytes = refl
-kept_alone None bytes = refl
+kept_alone : (section : Option ℕ) (depth : ℕ) (bytes : List ℕ)
+    → filter is_below_heading (headed (heading_in section) depth bytes ∷ []) ≡ headed (heading_in section) depth bytes ∷ []
+kept_alone (Some n) depth bytes = refl
+kept_alone None depth bytes = refl
 
-not_off : (section : Option ℕ) (bytes : List ℕ) → lines_below_headings is_below_no_heading (map (headed (heading_in section)) (bytes ∷ [])) ≡ []
-not_off (Some n) bytes = refl
-not_off None bytes = refl
+not_off : (section : Option ℕ) (depth : ℕ) (bytes : List ℕ) → lines_below_headings is_below_no_heading (headed (heading_in section) depth bytes ∷ []) ≡ []
+not_off (Some n) depth bytes = refl
+not_off None depth bytes = refl
+
+pub map_headed : (heading : Heading) (depth : ℕ) (lines : List (List ℕ)) → map (λ (region : Headed). region.line) (map (headed heading depth) lines) ≡ lines
+map_headed heading depth [] = refl
+map_headed heading depth (line ∷ lines) = ap (λ l. line ∷ l) (map_headed heading depth lines)
 
 -- it goes to the lines
 pub put_kept : {A : Type 0} (heading : Heading) (old new : Map A) (line : Line) → heading ≡ heading_in line.section
     → new.lines.items ≡ old.lines.items ++ line ∷ [] → new.off.items ≡ old.off.items
-    → TakesUp heading (line.region.line.now ∷ []) old new
+    → TakesUp (headed heading line.region.depth line.region.line.now ∷ []) old new
 put_kept heading old new line is more same =
-    subst (λ h. TakesUp h (line.region.line.now ∷ []) old new) (sym is)
+    subst (λ h. TakesUp (headed h line.region.depth line.region.line.now ∷ []) old new) (sym is)
     (record {
       each_once =
           subst (λ o. IsPermutation (lines_read old ++ line.region.line.now ∷ []) (lines_of_regions (regions_under new.lines.items) ++ o)) (sym (ap lines_of_regions same))
           (put_line old.lines.items new.lines.items (lines_of_regions old.off.items) line more);
       kept =
           ap (map headed_line) more ∙ map-append headed_line old.lines.items (line ∷ [])
-          ∙ ap (λ l. map headed_line old.lines.items ++ l) (sym (kept_alone line.section line.region.line.now));
+          ∙ ap (λ l. map headed_line old.lines.items ++ l) (sym (kept_alone line.section line.region.depth line.region.line.now));
       off =
           ap lines_of_regions same ∙ sym (append-nil (lines_of_regions old.off.items))
-          ∙ ap (λ l. lines_of_regions old.off.items ++ l) (sym (not_off line.section line.region.line.now));
+          ∙ ap (λ l. lines_of_regions old.off.items ++ l) (sym (not_off line.section line.region.depth line.region.line.now));
     })
 
 -- ---- one more line
 
-headed_more : (heading : Heading) (lines : List (List ℕ)) (line : List ℕ)
-    → headed_lines heading (lines ++ line ∷ []) ≡ headed_lines heading lines ++ map (headed (fold next_heading heading lines)) (indented_if_region line)
-headed_more heading [] line = append-nil (map (headed heading) (indented_if_region line))
-headed_more heading (first ∷ lines) line =
-    let here = map (headed heading) (indented_if_region first) in
-    ap (λ l. here ++ l) (headed_more (next_heading heading first) lines line)
-    ∙ sym (append_assoc here (headed_lines (next_heading heading first) lines) _)
+-- a line with two blanks before it, which is a region without these
+pub region_behind : (reading : ReadSoFar) (line content bytes : List ℕ) (blanks depth : ℕ) → blanks ≡ leading_blanks line → 2 ≤ blanks
+    → content ≡ unindented_line line → line_if_region content ≡ bytes ∷ [] → depth ≡ depth_behind reading (blanks / 2)
+    → headed_behind reading line ≡ headed reading.heading depth bytes ∷ []
+region_behind reading line content bytes blanks depth is some inside region deep =
+    let wide : nat_lt (leading_blanks line) 2 ≡ false = le-ltb (leading_blanks line) 2 (omega (arith, is, some)) in
+    ap (map (headed reading.heading (depth_of_line reading line)))
+    (ap (λ b. if b then [] else line_if_region (unindented_line line)) wide ∙ ap line_if_region (sym inside) ∙ region)
+    ∙ ap (λ d. headed reading.heading d bytes ∷ []) (ap (λ b. depth_behind reading (b / 2)) (sym is) ∙ sym deep)
+
+headed_more : (reading : ReadSoFar) (lines : List (List ℕ)) (line : List ℕ)
+    → headed_lines reading (lines ++ line ∷ []) ≡ headed_lines reading lines ++ headed_behind (fold read_on reading lines) line
+headed_more reading [] line = append-nil (headed_behind reading line)
+headed_more reading (first ∷ lines) line =
+    let here = headed_behind reading first in
+    ap (λ l. here ++ l) (headed_more (read_on reading first) lines line)
+    ∙ sym (append_assoc here (headed_lines (read_on reading first) lines) _)
 
 below_append : (some more : List Headed) → lines_below_headings is_below_no_heading (some ++ more) ≡ lines_below_headings is_below_no_heading some ++ lines_below_headings is_below_no_heading more
 below_append some more =
     ap (map (λ region. region.line)) (filter-append (λ region. is_below_no_heading region.heading) some more)
     ∙ map-append (λ region. region.line) (filter (λ region. is_below_no_heading region.heading) some) (filter (λ region. is_below_no_heading region.heading) more)
 
-pub read_more : {A X : Type 0} (now : X → List ℕ) (lines : List X) (line : X) (bytes : List ℕ) (heading : Heading) (old new : Map A) → bytes ≡ now line
-    → heading ≡ fold next_heading Off (map now lines) → IsReadOf (map now lines) old → TakesUp heading (indented_if_region bytes) old new
+pub read_more : {A X : Type 0} (now : X → List ℕ) (lines : List X) (line : X) (bytes : List ℕ) (reading : ReadSoFar) (old new : Map A) → bytes ≡ now line
+    → reading ≡ fold read_on at_begin (map now lines) → IsReadOf (map now lines) old → TakesUp (headed_behind reading bytes) old new
     → IsReadOf (map now (lines ++ line ∷ [])) new
-read_more now lines line bytes heading old new same is before step =
-    let one = map (headed heading) (indented_if_region bytes) in
-    let more : headed_lines Off (map now (lines ++ line ∷ [])) ≡ headed_lines Off (map now lines) ++ one =
-    ap (headed_lines Off) (map-append now lines (line ∷ []))
-    ∙ headed_more Off (map now lines) (now line)
-    ∙ ap (λ b. headed_lines Off (map now lines) ++ map (headed (fold next_heading Off (map now lines))) (indented_if_region b)) (sym same)
-    ∙ ap (λ h. headed_lines Off (map now lines) ++ map (headed h) (indented_if_region bytes)) (sym is) in
+read_more now lines line bytes reading old new same is before step =
+    let one = headed_behind reading bytes in
+    let more : headed_lines at_begin (map now (lines ++ line ∷ [])) ≡ headed_lines at_begin (map now lines) ++ one =
+    ap (headed_lines at_begin) (map-append now lines (line ∷ []))
+    ∙ headed_more at_begin (map now lines) (now line)
+    ∙ ap (λ b. headed_lines at_begin (map now lines) ++ headed_behind (fold read_on at_begin (map now lines)) b) (sym same)
+    ∙ ap (λ r. headed_lines at_begin (map now lines) ++ headed_behind r bytes) (sym is) in
     record {
-      each_once = more_told now lines line bytes (lines_read old) (lines_read new) same before.each_once step.each_once;
+      each_once =
+          more_told now lines line bytes (lines_read old) (lines_read new) same before.each_once
+          (subst (λ l. IsPermutation (lines_read old ++ l) (lines_read new)) (map_headed reading.heading (depth_of_line reading bytes) (indented_if_region bytes)) step.each_once);
       kept =
           step.kept ∙ ap (λ l. l ++ filter is_below_heading one) before.kept
-          ∙ sym (filter-append is_below_heading (headed_lines Off (map now lines)) one) ∙ ap (filter is_below_heading) (sym more);
+          ∙ sym (filter-append is_below_heading (headed_lines at_begin (map now lines)) one) ∙ ap (filter is_below_heading) (sym more);
       off =
           step.off ∙ ap (λ l. l ++ lines_below_headings is_below_no_heading one) before.off
-          ∙ sym (below_append (headed_lines Off (map now lines)) one) ∙ ap (lines_below_headings is_below_no_heading) (sym more);
+          ∙ sym (below_append (headed_lines at_begin (map now lines)) one) ∙ ap (lines_below_headings is_below_no_heading) (sym more);
     }
 
-pub heading_more : {X : Type 0} (now : X → List ℕ) (lines : List X) (line : X) (bytes : List ℕ) (heading next : Heading) → bytes ≡ now line
-    → heading ≡ fold next_heading Off (map now lines) → next ≡ next_heading heading bytes
-    → next ≡ fold next_heading Off (map now (lines ++ line ∷ []))
-heading_more now lines line bytes heading next same is step =
-    step ∙ ap (next_heading heading) same ∙ ap (λ h. next_heading h (now line)) is
-    ∙ sym (fold-append next_heading Off (map now lines) (now line ∷ []))
-    ∙ ap (fold next_heading Off) (sym (map-append now lines (line ∷ [])))
+pub reading_more : {X : Type 0} (now : X → List ℕ) (lines : List X) (line : X) (bytes : List ℕ) (reading next : ReadSoFar) → bytes ≡ now line
+    → reading ≡ fold read_on at_begin (map now lines) → next ≡ read_on reading bytes
+    → next ≡ fold read_on at_begin (map now (lines ++ line ∷ []))
+reading_more now lines line bytes reading next same is step =
+    step ∙ ap (read_on reading) same ∙ ap (λ r. read_on r (now line)) is
+    ∙ sym (fold-append read_on at_begin (map now lines) (now line ∷ []))
+    ∙ ap (fold read_on at_begin) (sym (map-append now lines (line ∷ [])))
 
 pub none_headed : {A : Type 0} (read : Map A) → read.lines.items ≡ [] → read.off.items ≡ [] → IsReadOf [] read
 none_headed read none nothing = record {

@@ -15,9 +15,12 @@ pub mod Nths
 pub mod Titles
 pub mod Taken
 pub mod Headings
+pub mod Depths
 pub mod Filtered
 pub mod Members
+pub mod Chained
 pub mod Lost
+pub mod Nested
 pub mod Groups
 pub mod Once
 pub mod Sections

@@ -31,18 +31,18 @@ section_if_lost None number section own lost is same at holds = same ∙ at
 abbrev IsAt : List Listed → ℕ → List ℕ → Type 0
 IsAt functions number line = number ≡ section_by_root functions line
 
-one_more : (lost : Bool) (functions : List Listed) (number section : ℕ) (line : List ℕ) (rest : List Headed)
+one_more : (lost : Bool) (functions : List Listed) (number section depth : ℕ) (line : List ℕ) (rest : List Headed)
     → (IsTrue lost → section ≡ section_by_root functions line) → section ≡ number → All (IsAt functions number) (lines_below_headings is_lost rest)
-    → All (IsAt functions number) (lines_below_headings is_lost (headed (if lost then Lost else InSection section) line ∷ rest))
-one_more true functions number section line rest own is before =
+    → All (IsAt functions number) (lines_below_headings is_lost (headed (if lost then Lost else InSection section) depth line ∷ rest))
+one_more true functions number section depth line rest own is before =
     All-cons (IsAt functions number) line (lines_below_headings is_lost rest) (sym is ∙ own refl) before
-one_more false functions number section line rest own is before = before
+one_more false functions number section depth line rest own is before = before
 
 lost_at : (functions : List Listed) (number : ℕ) (members : List Member) → All (IsLostByRoot functions) members → All (λ member. member.section ≡ number) members
     → All (IsAt functions number) (lines_below_headings is_lost (map headed_member members))
 lost_at functions number [] by_root alike = All-nil (IsAt functions number)
 lost_at functions number (member ∷ members) by_root alike =
-    one_more member.is_lost functions number member.section member.region.line.now (map headed_member members)
+    one_more member.is_lost functions number member.section member.region.depth member.region.line.now (map headed_member members)
     (All-head (IsLostByRoot functions) member members by_root) (All-head (λ m. m.section ≡ number) member members alike)
     (lost_at functions number members (All-tail (IsLostByRoot functions) member members by_root) (All-tail (λ m. m.section ≡ number) member members alike))
 

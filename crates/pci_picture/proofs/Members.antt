@@ -5,7 +5,7 @@ use Rattle.std.specs.Ordering.{is_lt, nat_cmp, ordering_then}
 use Rattle.std.proofs.lemmas.List.Sorted.{IsNonDecreasingBy-from_all_adjacent}
 use Rattle.std.proofs.lemmas.Map.Keys.{ge_from_not_lt}
 
-first_not_less : (first rest : Ordering) → is_lt (ordering_then first rest) ≡ false → is_lt first ≡ false
+pub first_not_less : (first rest : Ordering) → is_lt (ordering_then first rest) ≡ false → is_lt first ≡ false
 first_not_less Less rest is = is
 first_not_less Equal rest is = refl
 first_not_less Greater rest is = refl

@@ -8,26 +8,23 @@ use Rattle.std.proofs.lemmas.List.{append_assoc, map-append}
 use Rattle.std.proofs.lemmas.List.Elements.{All-head, All-tail}
 use Rattle.std.proofs.lemmas.List.Sorted.{IsPermutation-append, IsPermutation-append_comm, IsPermutation-append_left, IsPermutation-append_right, IsPermutation-cons, IsPermutation-middle, IsPermutation-refl, IsPermutation-sym, IsPermutation-trans}
 use Rattle.pci_picture.specs.Boxes.{EachRegionOnce}
-use Rattle.pci_picture.specs.Headings.{Headed, IsSectionOf, headed, headed_lines, headed_regions, is_lost, is_below_no_heading, is_section, lines_below_headings, next_heading}
+use Rattle.pci_picture.specs.Headings.{Headed, IsSectionOf, ReadSoFar, at_begin, depth_of_line, headed, headed_behind, headed_lines, headed_regions, is_lost, is_below_no_heading, is_section, lines_below_headings, read_on}
 use Rattle.pci_picture.specs.Lines.{is_feed, indented_if_region}
 use Rattle.pci_picture.specs.Spots.{Section, all_of, lines_drawn}
 use Rattle.pci_picture.specs.declared.map.Heading.{Heading}
 use Rattle.pci_picture.specs.declared.map.Heading.TheVariants.{Section as InSection, Lost, Off}
 use Rattle.pci_picture.proofs.Groups.{pairs_head, pairs_tail}
+use Rattle.pci_picture.proofs.Headings.{map_headed}
 
 abbrev lines_in : List Headed → List (List ℕ)
 lines_in regions = map (λ region. region.line) regions
 
-map_headed : (heading : Heading) (lines : List (List ℕ)) → lines_in (map (headed heading) lines) ≡ lines
-map_headed heading [] = refl
-map_headed heading (line ∷ lines) = ap (λ l. line ∷ l) (map_headed heading lines)
-
-lines_headed : (heading : Heading) (lines : List (List ℕ)) → lines_in (headed_lines heading lines) ≡ flat_map indented_if_region lines
-lines_headed heading [] = refl
-lines_headed heading (line ∷ lines) =
-    map-append (λ region. region.line) (map (headed heading) (indented_if_region line)) (headed_lines (next_heading heading line) lines)
-    ∙ ap (λ l. l ++ lines_in (headed_lines (next_heading heading line) lines)) (map_headed heading (indented_if_region line))
-    ∙ ap (λ l. indented_if_region line ++ l) (lines_headed (next_heading heading line) lines)
+lines_headed : (reading : ReadSoFar) (lines : List (List ℕ)) → lines_in (headed_lines reading lines) ≡ flat_map indented_if_region lines
+lines_headed reading [] = refl
+lines_headed reading (line ∷ lines) =
+    map-append (λ region. region.line) (headed_behind reading line) (headed_lines (read_on reading line) lines)
+    ∙ ap (λ l. l ++ lines_in (headed_lines (read_on reading line) lines)) (map_headed reading.heading (depth_of_line reading line) (indented_if_region line))
+    ∙ ap (λ l. indented_if_region line ++ l) (lines_headed (read_on reading line) lines)
 
 -- ---- regions by sections
 
@@ -41,13 +38,13 @@ abbrev Rises : List Section → Type 0
 Rises sections = AllPairs (λ one other. one.number < other.number) sections
 
 -- one region more of a section that is none of these
-none_of_them : (sections : List Section) (n : ℕ) (line : List ℕ) (regions : List Headed) → All (λ section. n < section.number) sections
-    → in_sections sections (headed (InSection n) line ∷ regions) ≡ in_sections sections regions
-none_of_them [] n line regions above = refl
-none_of_them (section ∷ sections) n line regions above =
+none_of_them : (sections : List Section) (n depth : ℕ) (line : List ℕ) (regions : List Headed) → All (λ section. n < section.number) sections
+    → in_sections sections (headed (InSection n) depth line ∷ regions) ≡ in_sections sections regions
+none_of_them [] n depth line regions above = refl
+none_of_them (section ∷ sections) n depth line regions above =
     let less : n < section.number = All-head (λ s. n < s.number) section sections above in
     rw (ne_eqb n section.number (λ same. omega (arith, less, same)))
-    (ap (λ l. below regions section ++ l) (none_of_them sections n line regions (All-tail (λ s. n < s.number) section sections above)))
+    (ap (λ l. below regions section ++ l) (none_of_them sections n depth line regions (All-tail (λ s. n < s.number) section sections above)))
 
 no_section : (n : ℕ) → Any (λ (section : Section). section.number ≡ n) [] → ⊥
 no_section n (k, section, inside, at, is) = omega (arith, inside)
@@ -58,19 +55,19 @@ found_behind n section sections apart (zero, other, inside, at, is) = absurd (ap
 found_behind n section sections apart (suc k, other, inside, at, is) = (k, other, omega (arith, inside), at, is)
 
 -- one region more of one of them
-one_of_them : (sections : List Section) (n : ℕ) (line : List ℕ) (regions : List Headed) → Rises sections → Any (λ section. section.number ≡ n) sections
-    → IsPermutation (line ∷ in_sections sections regions) (in_sections sections (headed (InSection n) line ∷ regions))
-one_of_them [] n line regions rise found = absurd (no_section n found)
-one_of_them (section ∷ sections) n line regions rise found =
+one_of_them : (sections : List Section) (n depth : ℕ) (line : List ℕ) (regions : List Headed) → Rises sections → Any (λ section. section.number ≡ n) sections
+    → IsPermutation (line ∷ in_sections sections regions) (in_sections sections (headed (InSection n) depth line ∷ regions))
+one_of_them [] n depth line regions rise found = absurd (no_section n found)
+one_of_them (section ∷ sections) n depth line regions rise found =
     elim (eqb_tells section.number n) [
       | inl same ↦
           let above : All (λ s. n < s.number) sections =
           subst (λ m. All (λ s. m < s.number) sections) same.1 (pairs_head (λ one other. one.number < other.number) section sections rise) in
           rw (eq-eqb n section.number (sym same.1))
           (subst (λ l. IsPermutation (line ∷ (below regions section ++ in_sections sections regions)) (line ∷ (below regions section ++ l)))
-          (sym (none_of_them sections n line regions above)) (IsPermutation-refl _))
+          (sym (none_of_them sections n depth line regions above)) (IsPermutation-refl _))
       | inr apart ↦
-          let rest = one_of_them sections n line regions (pairs_tail (λ one other. one.number < other.number) section sections rise)
+          let rest = one_of_them sections n depth line regions (pairs_tail (λ one other. one.number < other.number) section sections rise)
           (found_behind n section sections apart.1 found) in
           rw (ne_eqb n section.number (λ same. apart.1 (sym same)))
           (IsPermutation-trans _ _ _ (IsPermutation-sym _ _ (IsPermutation-middle (below regions section) line (in_sections sections regions)))
@@ -86,15 +83,15 @@ none_below : (sections : List Section) → in_sections sections [] ≡ []
 none_below [] = refl
 none_below (section ∷ sections) = none_below sections
 
-one_more : (sections : List Section) (heading : Heading) (line : List ℕ) (regions : List Headed) → Rises sections
+one_more : (sections : List Section) (heading : Heading) (depth : ℕ) (line : List ℕ) (regions : List Headed) → Rises sections
     → ((n : ℕ) → heading ≡ InSection n → Any (λ section. section.number ≡ n) sections)
-    → IsPermutation (line ∷ parts sections regions) (parts sections (headed heading line ∷ regions))
-one_more sections (InSection n) line regions rise found =
+    → IsPermutation (line ∷ parts sections regions) (parts sections (headed heading depth line ∷ regions))
+one_more sections (InSection n) depth line regions rise found =
     IsPermutation-append_left (lines_below_headings is_lost regions ++ lines_below_headings is_below_no_heading regions) (line ∷ in_sections sections regions) _
-    (one_of_them sections n line regions rise (found n refl))
-one_more sections Lost line regions rise found =
+    (one_of_them sections n depth line regions rise (found n refl))
+one_more sections Lost depth line regions rise found =
     IsPermutation-sym _ _ (IsPermutation-middle (in_sections sections regions) line (lines_below_headings is_lost regions ++ lines_below_headings is_below_no_heading regions))
-one_more sections Off line regions rise found =
+one_more sections Off depth line regions rise found =
     let sections_and_lost = in_sections sections regions ++ lines_below_headings is_lost regions in
     subst (λ l. IsPermutation (line ∷ l) (in_sections sections regions ++ (lines_below_headings is_lost regions ++ line ∷ lines_below_headings is_below_no_heading regions)))
     (append_assoc (in_sections sections regions) (lines_below_headings is_lost regions) (lines_below_headings is_below_no_heading regions))
@@ -105,31 +102,31 @@ one_more sections Off line regions rise found =
 abbrev Covers : List Section → List Headed → Type 0
 Covers sections regions = (number : ℕ) → Any (λ section. section.number ≡ number) sections ⊎ (lines_below_headings (is_section number) regions ≡ [])
 
-found_for : (sections : List Section) (regions : List Headed) (line : List ℕ) (heading : Heading) → Covers sections (headed heading line ∷ regions)
+found_for : (sections : List Section) (regions : List Headed) (depth : ℕ) (line : List ℕ) (heading : Heading) → Covers sections (headed heading depth line ∷ regions)
     → (n : ℕ) → heading ≡ InSection n → Any (λ section. section.number ≡ n) sections
-found_for sections regions line heading covers n is =
+found_for sections regions depth line heading covers n is =
     elim (covers n) [
       | inl found ↦ found
       | inr none ↦
-          let some : lines_below_headings (is_section n) (headed heading line ∷ regions) ≡ line ∷ lines_below_headings (is_section n) regions =
-          ap (λ h. lines_below_headings (is_section n) (headed h line ∷ regions)) is ∙ rw (eq-eqb n n refl) refl in
+          let some : lines_below_headings (is_section n) (headed heading depth line ∷ regions) ≡ line ∷ lines_below_headings (is_section n) regions =
+          ap (λ h. lines_below_headings (is_section n) (headed h depth line ∷ regions)) is ∙ rw (eq-eqb n n refl) refl in
           let long : suc (length (lines_below_headings (is_section n) regions)) ≡ 0 = ap length (sym some ∙ none) in
           absurd (omega (arith, long))
     ]
 
-less_by : (is : Bool) (line : List ℕ) (heading : Heading) (rest : List Headed) → lines_in (cond is (headed heading line ∷ rest) rest) ≡ [] → lines_in rest ≡ []
-less_by true line heading rest none = let long : suc (length (lines_in rest)) ≡ 0 = ap length none in absurd (omega (arith, long))
-less_by false line heading rest none = none
+less_by : (is : Bool) (depth : ℕ) (line : List ℕ) (heading : Heading) (rest : List Headed) → lines_in (cond is (headed heading depth line ∷ rest) rest) ≡ [] → lines_in rest ≡ []
+less_by true depth line heading rest none = let long : suc (length (lines_in rest)) ≡ 0 = ap length none in absurd (omega (arith, long))
+less_by false depth line heading rest none = none
 
 parted : (sections : List Section) (regions : List Headed) → Rises sections → Covers sections regions → IsPermutation (lines_in regions) (parts sections regions)
 parted sections [] rise covers = subst (λ l. IsPermutation [] (l ++ [])) (sym (none_below sections)) (IsPermutation-refl [])
 parted sections (region ∷ regions) rise covers =
     let fewer : Covers sections regions = λ n. elim (covers n) [
       | inl found ↦ inl found
-      | inr none ↦ inr (less_by (is_section n region.heading) region.line region.heading (filter (λ r. is_section n r.heading) regions) none)
+      | inr none ↦ inr (less_by (is_section n region.heading) region.depth region.line region.heading (filter (λ r. is_section n r.heading) regions) none)
     ] in
     IsPermutation-trans _ _ _ (IsPermutation-cons region.line (lines_in regions) (parts sections regions) (parted sections regions rise fewer))
-    (one_more sections region.heading region.line regions rise (found_for sections regions region.line region.heading covers))
+    (one_more sections region.heading region.depth region.line regions rise (found_for sections regions region.depth region.line region.heading covers))
 
 -- ---- what is drawn
 
@@ -161,7 +158,7 @@ each_once map sections spots are rest =
     let regions : List Headed = headed_regions map in
     let inside : List (List ℕ) = in_sections sections regions in
     let off : List (List ℕ) = lines_below_headings is_below_no_heading regions in
-    subst (λ l. IsPermutation l (lines_drawn (all_of sections ++ spots))) (lines_headed Off (slice_split is_feed map))
+    subst (λ l. IsPermutation l (lines_drawn (all_of sections ++ spots))) (lines_headed at_begin (slice_split is_feed map))
     (subst (λ l. IsPermutation (lines_in regions) l) (sym (map-append (λ spot. spot.line) (all_of sections) spots))
     (subst (λ l. IsPermutation (lines_in regions) (lines_drawn (all_of sections) ++ l)) (sym rest)
     (IsPermutation-trans _ _ _ (parted sections regions are.rise are.all)

@@ -1,17 +1,21 @@
 -- The regions of sections while they are drawn.
 use Rattle.std.proofs.Common.{◌≡◌, ◌≤◌, ◌<◌, ◌+◌, ◌-◌, ◌==◌, ℕ, true, List, [], ◌∷◌, ◌++◌, map, take, drop, length, get_or, Result, Ok, Err, IfOk, refl, sym, ap, subst, ◌∙◌, arith, inl, inr}
-use Rattle.std.specs.List.{All, slice_split}
+use Rattle.std.specs.List.{All, filter, slice_split}
 use Rattle.std.specs.List.Sorted.{IsNonDecreasingBy, IsPermutation}
 use Rattle.std.proofs.lemmas.Bool.{cases_lt, eqb-true}
 use Rattle.std.proofs.lemmas.List.{append_assoc, map-append, map_more, take_more, take-append-drop, take-take, drop-take, take_all, length-take, length-drop, get_or-take, get_or-drop, get_or_default}
-use Rattle.std.proofs.lemmas.List.Sorted.{IsPermutation-trans, IsPermutation-append_left, IsPermutation-map}
+use Rattle.std.proofs.lemmas.List.Sorted.{IsNonDecreasingBy-drop, IsNonDecreasingBy-take, IsPermutation-trans, IsPermutation-append_left, IsPermutation-map}
+use Rattle.std.proofs.lemmas.List.Elements.{All-weaker}
 use Rattle.pci_picture.specs.Boxes.{IsDrawnOf, IsDrawnByRoots}
 use Rattle.pci_picture.specs.Canvases.{AddsToCanvas, AddsSome, HasDrawn}
-use Rattle.pci_picture.specs.Drawings.{AreGrouped, AreOfSection, AreOfSections, IsRunOfSection, sections_of}
-use Rattle.pci_picture.specs.Headings.{AreSectionsOf, headed_regions}
+use Rattle.pci_picture.specs.Drawings.{AreGrouped, AreOfSection, AreOfSections, HasRoomOf, IsRunOfSection, sections_of}
+use Rattle.pci_picture.specs.Headings.{AreSectionsOf, headed_regions, is_below_heading}
 use Rattle.pci_picture.specs.Lines.{is_feed, region_lines}
 use Rattle.pci_picture.specs.Maps.{AreMembersOf, IsReadOf, lines_of_regions, regions_under, regions_of_members, regions_placed, lines_read}
+use Rattle.pci_picture.specs.Members.{AreIndentedBySection, member_number}
+use Rattle.pci_picture.specs.Nested.{HasNestedBoxes}
 use Rattle.pci_picture.specs.Roots.{IsLostByRoot, Listed}
+use Rattle.pci_picture.specs.Sides.{HasSides}
 use Rattle.pci_picture.specs.Spots.{BoxSpot, spot_at, lines_drawn, all_of}
 use Rattle.pci_picture.specs.declared.canvas.Canvas.{Canvas}
 use Rattle.pci_picture.specs.declared.map.Line.{Line}
@@ -21,6 +25,7 @@ use Rattle.pci_picture.specs.declared.plan.Site.{Site}
 use Rattle.pci_picture.specs.declared.plan.Placed.{Placed}
 use Rattle.pci_picture.specs.declared.region.Region.{Region}
 use Rattle.pci_picture.proofs.Boxes.{then_adds, then_some, unchanged}
+use Rattle.pci_picture.proofs.Nested.{nested_of_all}
 use Rattle.pci_picture.proofs.Groups.{no_group, group_more, grouped, sections_of_all}
 
 take_both : {X : Type 0} (m n : ℕ) (xs : List X) → take (m + n) xs ≡ take m xs ++ take n (drop m xs)
@@ -101,8 +106,8 @@ same_rows regions every first after is done = subst (λ l. AddsSome (λ spots. l
 
 -- ---- one section more
 
-pub no_section : {A : Type 0} (members : List Member) (y : ℕ) (canvas : Canvas A) → AddsSome (AreGrouped members 0 y) canvas canvas
-no_section members y canvas = record { spots = []; hold = no_group members y; adds = unchanged canvas }
+pub no_section : {A : Type 0} (first : Site) (members : List Member) (y : ℕ) (canvas : Canvas A) → AddsSome (AreGrouped first members 0 y) canvas canvas
+no_section first members y canvas = record { spots = []; hold = no_group first members y; adds = unchanged canvas }
 
 part_alike : (members : List Member) (begin end number : ℕ) → begin ≤ end → end ≤ length members
     → ((d : Member) → (get_or members begin d).section ≡ number) → IsRunOfSection members begin end
@@ -120,13 +125,13 @@ between number here there is up apart =
       | inr more ↦ absurd (apart (omega (arith, up, more)))
     ]
 
-pub section_more : {A : Type 0} (site : Site) (members part : List Member) (begin end y bottom : ℕ) (member : Member) (first before after : Canvas A) → begin < end
+pub section_more : {A : Type 0} (row site : Site) (members part : List Member) (begin end y bottom : ℕ) (member : Member) (first before after : Canvas A) → begin < end
     → end ≤ length members → member ≡ get_or members begin member → part ≡ take (end - begin) (drop begin members) → y ≤ bottom
-    → IsNonDecreasingBy (λ (m : Member). m.section) members → IsRunOfSection members begin end
-    → AddsSome (AreGrouped members begin y) first before
+    → IsNonDecreasingBy (λ (m : Member). m.section) members → IsNonDecreasingBy member_number members → IsRunOfSection members begin end → HasRoomOf row site
+    → AddsSome (AreGrouped row members begin y) first before
     → AddsSome (AreOfSection site part bottom) before after
-    → AddsSome (AreGrouped members end bottom) first after
-section_more site members part begin end y bottom member first before after up within at is down sorted run done adds =
+    → AddsSome (AreGrouped row members end bottom) first after
+section_more row site members part begin end y bottom member first before after up within at is down sorted lost_last run room done adds =
     let joined : take end members ≡ take begin members ++ part =
     ap (λ n. take n members) (omega arith) ∙ take_both begin (end - begin) members ∙ ap (λ l. take begin members ++ l) (sym is) in
     let number : ℕ = member.section in
@@ -135,21 +140,23 @@ section_more site members part begin end y bottom member first before after up w
     record {
       spots = done.spots ++ adds.spots;
       hold =
-          group_more site members part begin end y bottom number done.spots adds.spots done.hold joined down
+          group_more row site members part begin end y bottom number done.spots adds.spots done.hold joined down
           (subst (All (λ m. m.section ≡ number)) (sym is) (part_alike members begin end number (omega arith) within there run))
           (subst (λ n. All (λ section. section.number < n) (sections_of done.hold.groups)) (there member) (done.hold.below member (omega arith)))
           (λ d inside. between number ((get_or members begin d).section) ((get_or members end d).section) (there d)
           (sorted begin end d (omega arith) inside) (run.next d inside))
-          adds.hold;
+          (subst (IsNonDecreasingBy member_number) (sym is)
+          (IsNonDecreasingBy-take member_number (end - begin) (drop begin members) (IsNonDecreasingBy-drop member_number begin members lost_last)))
+          room adds.hold;
       adds = then_adds done.spots adds.spots first before after done.adds adds.adds;
     }
 
-pub all_sections : {A : Type 0} (functions : List Listed) (lines : List Line) (members : List Member) (begin y : ℕ) (first after : Canvas A) → length members ≤ begin
-    → AreMembersOf lines members → All (IsLostByRoot functions) members → AddsSome (AreGrouped members begin y) first after
-    → AddsSome (AreOfSections functions lines y) first after
-all_sections functions lines members begin y first after past are by_root done = record {
+pub all_sections : {A : Type 0} (row : Site) (functions : List Listed) (lines : List Line) (members : List Member) (begin y : ℕ) (first after : Canvas A) → length members ≤ begin
+    → AreMembersOf lines members → AreIndentedBySection members → All (IsLostByRoot functions) members → AddsSome (AreGrouped row members begin y) first after
+    → AddsSome (AreOfSections row functions lines y) first after
+all_sections row functions lines members begin y first after past are indented by_root done = record {
   spots = done.spots;
-  hold = grouped functions lines members begin y done.spots past are by_root done.hold;
+  hold = grouped row functions lines members begin y done.spots past are indented by_root done.hold;
   adds = done.adds;
 }
 
@@ -160,14 +167,14 @@ sorted_members lines before after is moved =
 
 -- ---- the whole
 
-pub whole_picture : {A T E : Type 0} (functions : List Listed) (map : List ℕ) (read : Map A) (new before between last : Canvas A) (y height : ℕ) (result : Result T E) (bytes : T → List ℕ)
-    → IsReadOf (slice_split is_feed map) read → y ≤ height
-    → HasDrawn [] new → AddsToCanvas [] new before → AddsSome (AreOfSections functions read.lines.items y) before between
+pub whole_picture : {A T E : Type 0} (row : Site) (functions : List Listed) (map : List ℕ) (read : Map A) (new before between last : Canvas A) (y height : ℕ) (result : Result T E) (bytes : T → List ℕ)
+    → HasSides row → IsReadOf (slice_split is_feed map) read → y ≤ height
+    → HasDrawn [] new → AddsToCanvas [] new before → AddsSome (AreOfSections row functions read.lines.items y) before between
     → AddsSome (λ spots. lines_drawn spots ≡ lines_of_regions read.off.items) between last
     → ((spots : List BoxSpot) → HasDrawn spots last → IfOk result (λ text. IsDrawnOf spots height (bytes text)))
     → IfOk result (λ text. IsDrawnByRoots functions map (bytes text))
-whole_picture functions map read new before between last y height (Err e) bytes told down none kept some off finished = tt
-whole_picture functions map read new before between last y height (Ok text) bytes told down none kept some off finished =
+whole_picture row functions map read new before between last y height (Err e) bytes sides told down none kept some off finished = tt
+whole_picture row functions map read new before between last y height (Ok text) bytes sides told down none kept some off finished =
     let joined : some.spots ++ off.spots ≡ all_of some.hold.sections ++ off.spots = ap (λ l. l ++ off.spots) (sym some.hold.joined) in
     let both : lines_drawn (some.spots ++ off.spots) ≡ lines_drawn some.spots ++ lines_of_regions read.off.items =
     map-append (λ s. s.line) some.spots off.spots ∙ ap (λ l. lines_drawn some.spots ++ l) off.hold in
@@ -189,6 +196,9 @@ whole_picture functions map read new before between last y height (Ok text) byte
             subst (λ l. IsDrawnOf l height (bytes text)) joined
             (finished (some.spots ++ off.spots) (off.adds.behind some.spots (some.adds.behind [] (kept.behind [] none))));
         stand = λ small. some.hold.stand (omega (arith, down, small));
+        nested =
+            All-weaker (HasNestedBoxes (filter is_below_heading (headed_regions map))) (HasNestedBoxes (headed_regions map)) (nested_of_all (headed_regions map)) some.hold.sections
+            (subst (λ l. All (HasNestedBoxes l) some.hold.sections) told.kept (some.hold.nested sides));
       };
       by_root = some.hold.by_root;
     }

@@ -1,14 +1,13 @@
 -- Boxes of one parent do not cover each other.
-use Rattle.std.proofs.Common.{arith, ◌≡◌, ◌<◌, ◌≤◌, ◌-◌, ℕ, zero, suc, max, List, [], ◌∷◌, ◌++◌, map, length, take, drop, sym, ap, ◌∙◌, inl, inr}
+use Rattle.std.proofs.Common.{arith, ◌≡◌, ◌<◌, ◌≤◌, ◌-◌, ℕ, zero, suc, max, List, [], ◌∷◌, ◌++◌, map, length, drop, sym, ap, ◌∙◌, inl, inr}
 use Rattle.std.specs.List.{Contains, slice_index_or}
 use Rattle.std.proofs.lemmas.Bool.{cases_lt}
-use Rattle.std.proofs.lemmas.List.{length-map, length-take}
+use Rattle.std.proofs.lemmas.List.{length-append, length-map}
 use Rattle.std.proofs.lemmas.List.Elements.{Contains-get_or}
-use Rattle.pci_picture.specs.Drawings.{sides_drawn, sides_of_width}
 use Rattle.pci_picture.specs.Lanes.{StandApart, StandsBetween, first_address_at, last_address_at, width_at}
-use Rattle.pci_picture.specs.Maps.{lines_of_regions, regions_of_members}
-use Rattle.pci_picture.specs.Sides.{AreSides, HasSides, count_in_place}
-use Rattle.pci_picture.specs.Siblings.{EndsAboveOrBeside, SiblingsAreApart, box_at, regions_in_place}
+use Rattle.pci_picture.specs.Maps.{lines_of_regions}
+use Rattle.pci_picture.specs.Sides.{AreSides, HasSides, sides_drawn, sides_of_width}
+use Rattle.pci_picture.specs.Siblings.{EndsAboveOrBeside, SiblingsAreApart, box_at}
 use Rattle.pci_picture.specs.Spots.{BoxSpot, first_address, lines_drawn, region_last_address, spot_at}
 use Rattle.pci_picture.specs.declared.lanes.Width.{Width}
 use Rattle.pci_picture.specs.declared.plan.Site.{Site}
@@ -27,15 +26,14 @@ line_head spot region regions is = record {
   last = ap (λ l. region_last_address l) is ∙ sym region.ends.last_is;
 }
 
-line_at : (n : ℕ) (spots : List BoxSpot) (regions : List Region) → lines_drawn spots ≡ lines_of_regions regions → (k : ℕ) → k < length (take n regions)
-    → IsOfLineAt (take n regions) k (box_at spots k)
-line_at zero spots regions is k less = absurd (omega arith)
-line_at (suc n) spots [] is k less = absurd (omega arith)
-line_at (suc n) [] (region ∷ regions) is k less = let none = ap (λ l. length l) is in absurd (omega arith)
-line_at (suc n) (spot ∷ spots) (region ∷ regions) is zero less =
-    line_head spot region (take n regions) (ap (λ l. slice_index_or l 0 []) is)
-line_at (suc n) (spot ∷ spots) (region ∷ regions) is (suc k) less =
-    let rest = line_at n spots regions (ap (λ l. drop 1 l) is) k (omega arith) in
+line_at : (spots : List BoxSpot) (inside lost : List Region) → lines_drawn spots ≡ lines_of_regions (inside ++ lost) → (k : ℕ) → k < length inside
+    → IsOfLineAt inside k (box_at spots k)
+line_at spots [] lost is k less = absurd (omega arith)
+line_at [] (region ∷ inside) lost is k less = let none = ap (λ l. length l) is in absurd (omega arith)
+line_at (spot ∷ spots) (region ∷ inside) lost is zero less =
+    line_head spot region inside (ap (λ l. slice_index_or l 0 []) is)
+line_at (spot ∷ spots) (region ∷ inside) lost is (suc k) less =
+    let rest = line_at spots inside lost (ap (λ l. drop 1 l) is) k (omega arith) in
     record { first = rest.first; last = rest.last }
 
 -- a box has the sides of the width at an index
@@ -68,24 +66,22 @@ row_of site lost left split beside edge sides ends = elim (cases_lt 0 (length lo
 ]
 
 pub siblings_are_apart : SiblingsAreApart
-siblings_are_apart site members end spots i j are small sides indented rise less inside same =
-    let n : ℕ = count_in_place members in
-    let every : List Region = regions_of_members members in
-    let regions : List Region = regions_in_place members in
-    let standing = are.stand small in
-    let drawn = are.beside in
-    let placed = drawn.beside indented in
+siblings_are_apart told section nested i j standing rise less inside same =
+    let spots : List BoxSpot = section.spots in
+    let regions : List Region = nested.inside in
+    let placed = nested.beside in
     let in_place = placed.in_place in
     let count : length placed.inner ≡ length regions = in_place.count in
-    let size : length spots ≡ length every = sym (length-map spots (λ (s : BoxSpot). s.line)) ∙ ap (λ l. length l) are.drawn ∙ length-map every (λ (r : Region). r.line.now) in
-    let taken = length-take n every in
-    let low_j : j < length spots = omega (arith, taken, size, inside) in
+    let size : length spots ≡ length (regions ++ nested.lost) =
+    sym (length-map spots (λ (s : BoxSpot). s.line)) ∙ ap (λ l. length l) nested.drawn ∙ length-map (regions ++ nested.lost) (λ (r : Region). r.line.now) in
+    let more = length-append regions nested.lost in
+    let low_j : j < length spots = omega (arith, more, size, inside) in
     let low_i : i < length spots = omega (arith, low_j, less) in
-    let one = line_at n spots every are.drawn i (omega (arith, less, inside)) in
-    let two = line_at n spots every are.drawn j inside in
+    let one = line_at spots regions nested.lost nested.drawn i (omega (arith, less, inside)) in
+    let two = line_at spots regions nested.lost nested.drawn j inside in
     let here : Contains spots (box_at spots i) = Contains-get_or spots i (spot_at 0 0 0 0 []) low_i in
     let there : Contains spots (box_at spots j) = Contains-get_or spots j (spot_at 0 0 0 0 []) low_j in
-    let side_is : sides_drawn spots ≡ map sides_of_width (placed.inner ++ placed.outer) = drawn.sides ∙ ap (map sides_of_width) placed.joined in
+    let side_is : sides_drawn spots ≡ map sides_of_width (placed.inner ++ placed.outer) = nested.sides ∙ ap (map sides_of_width) placed.joined in
     let left_i = side_at spots placed.inner placed.outer side_is i (omega (arith, count, less, inside)) in
     let left_j = side_at spots placed.inner placed.outer side_is j (omega (arith, count, inside)) in
     elim (cases_lt (last_address_at regions i) (first_address_at regions j)) [
@@ -93,8 +89,8 @@ siblings_are_apart site members end spots i j are small sides indented rise less
       | inr meet ↦ elim (cases_lt (last_address_at regions j) (first_address_at regions i)) [
         | inl behind ↦ inr (inl (boxes_are_apart spots (box_at spots j) (box_at spots i) standing there here (omega (arith, two.last, one.first, behind))))
         | inr also ↦
-            let ends = placed.sides sides in
-            let row : placed.left ≤ placed.split = row_of site (drop n every) placed.left placed.split placed.beside placed.edge sides ends in
+            let ends = placed.sides nested.room in
+            let row : placed.left ≤ placed.split = row_of nested.site nested.lost placed.left placed.split placed.beside placed.edge nested.room ends in
             let between = in_place.between row in
             let apart : StandApart (width_at placed.inner i) (width_at placed.inner j) =
             in_place.apart rise i j less inside same (omega (arith, also), omega (arith, meet)) in

@@ -5,6 +5,7 @@ use Rattle.std.specs.List.Sorted.{IsPermutation}
 use Rattle.pci_picture.specs.Elements.{box_text, words_text, axis_text, tick_text, gap_text}
 use Rattle.pci_picture.specs.Headings.{AreSectionsOf, headed_regions, is_below_no_heading, lines_below_headings}
 use Rattle.pci_picture.specs.Lines.{is_feed, line_if_region, region_lines}
+use Rattle.pci_picture.specs.Nested.{HasNestedBoxes}
 use Rattle.pci_picture.specs.Roots.{AreLostByRoot, Listed}
 use Rattle.pci_picture.specs.Spots.{Section, BoxSpot, spot_at, lines_drawn, all_of, EachStands}
 use Rattle.pci_picture.specs.Whole.{picture_text}
@@ -70,7 +71,8 @@ pub record IsDrawnOf (spots : List BoxSpot) (height : ℕ) (text : List ℕ) : T
 -- a picture of a map: each line that is a region is the first line of the title of exactly one box, as often as it stands
 -- in the map, and no other title begins with such a line. A section has what stands below the headings with its number, and
 -- some of what is out of place. What stands below no such heading is off, in its order. In each section the boxes stand at
--- heights that rise with addresses, where the height of the picture was not cut off at 64 bits
+-- heights that rise with addresses, where the height of the picture was not cut off at 64 bits, and inside each other as deep as
+-- the lines of the map
 pub record IsPictureOf (map text : List ℕ) : Type 0 where
   pub sections : List Section
   pub off : List BoxSpot
@@ -80,6 +82,7 @@ pub record IsPictureOf (map text : List ℕ) : Type 0 where
   pub height : ℕ
   pub drawn : IsDrawnOf (all_of sections ++ off) height text
   pub stand : EachStands height sections
+  pub nested : All (HasNestedBoxes (headed_regions map)) sections
 
 -- the same, where each region out of place is in the section of the root from which its bus is reached, by the functions that
 -- are listed, and of its space

@@ -1,11 +1,13 @@
 -- What is drawn of a section, and of all.
-use Rattle.std.specs.Prelude.{◌≡◌, ◌<◌, ◌≤◌, ◌+◌, ◌-◌, ◌^◌, ℕ, List, map, max, take, length, slice_index_or}
+use Rattle.std.specs.Prelude.{◌≡◌, ◌<◌, ◌≤◌, ◌+◌, ◌-◌, ◌^◌, ℕ, List, map, take, length, slice_index_or}
 use Rattle.std.specs.List.{All, AllPairs, flat_map}
 use Rattle.std.specs.List.Sorted.{IsPermutation, IsNonDecreasingBy}
 use Rattle.pci_picture.specs.Headings.{AreSectionsOf, is_lost, lines_below_headings}
 use Rattle.pci_picture.specs.Maps.{headed_line, headed_member, lines_of_regions, regions_of_members, regions_placed, regions_under}
+use Rattle.pci_picture.specs.Members.{member_number}
+use Rattle.pci_picture.specs.Nested.{HasNestedBoxes}
 use Rattle.pci_picture.specs.Roots.{AreLostByRoot, Listed}
-use Rattle.pci_picture.specs.Sides.{StandBesideIn, count_in_place, widths_placed}
+use Rattle.pci_picture.specs.Sides.{HasSides, StandBesideIn, count_in_place, sides_drawn, sides_of_width, widths_placed}
 use Rattle.pci_picture.specs.Spots.{Section, BoxSpot, first_address, region_last_address, lines_drawn, all_of, Rise, AreBoxesStanding, EachStands}
 use Rattle.pci_picture.specs.Stacked.{height_at}
 use Rattle.pci_picture.specs.declared.heights.Run.{Run}
@@ -29,13 +31,6 @@ pub record IsFramedAt (height_of : ℕ → ℕ) (spot : BoxSpot) : Type 0 where
 pub record ArePlanned (lines : List (List ℕ)) (runs : List Run) (bottom : ℕ) : Type 0 where
   pub sorted : IsNonDecreasingBy (λ (run : Run). run.begin) runs
   pub rise : Rise lines (height_at runs bottom)
-
--- the left end and the width of a box: one unit at least, and two less than the room that it has
-abbrev pub sides_of_width : Width → ℕ × ℕ
-sides_of_width width = (width.left, max 1 (width.right - width.left - 2))
-
-abbrev pub sides_drawn : List BoxSpot → List (ℕ × ℕ)
-sides_drawn spots = map (λ spot. (spot.x, spot.width)) spots
 
 -- the boxes of regions with these widths, whose heights are those of their addresses, where the runs stand in their order
 pub record AreFramed (placed : List Placed) (runs : List Run) (bottom : ℕ) (spots : List BoxSpot) : Type 0 where
@@ -65,15 +60,23 @@ pub record IsRunOfSection (members : List Member) (begin end : ℕ) : Type 0 whe
   pub next : (d : Member) → end < length members
       → ¬ ((slice_index_or members end d).section ≡ (slice_index_or members begin d).section)
 
--- a section and the members that are drawn in it
+-- a section, the members that are drawn in it, and where it stands
 pub record Group : Type 0 where
   pub section : Section
   pub members : List Member
+  pub site : Site
 
 pub record IsGroup (group : Group) : Type 0 where
   pub drawn : lines_drawn group.section.spots ≡ lines_of_regions (regions_of_members group.members)
   pub lost : group.section.lost ≡ lines_below_headings is_lost (map headed_member group.members)
   pub alike : All (λ member. member.section ≡ group.section.number) group.members
+  pub lost_last : IsNonDecreasingBy member_number group.members
+  pub beside : AreDrawnBeside group.site group.members group.section.spots
+
+-- two sections have boxes from the same left end to the same right end
+pub record HasRoomOf (first site : Site) : Type 0 where
+  pub x_is : site.x ≡ first.x
+  pub width_is : site.width ≡ first.width
 
 abbrev pub sections_of : List Group → List Section
 sections_of groups = map (λ group. group.section) groups
@@ -81,8 +84,8 @@ sections_of groups = map (λ group. group.section) groups
 abbrev pub members_of_groups : List Group → List Member
 members_of_groups groups = flat_map (λ group. group.members) groups
 
--- the boxes of the first members in sections, of which the last one ends at a height
-pub record AreGrouped (members : List Member) (count end : ℕ) (spots : List BoxSpot) : Type 0 where
+-- the boxes of the first members in sections with one room, of which the last one ends at a height
+pub record AreGrouped (first : Site) (members : List Member) (count end : ℕ) (spots : List BoxSpot) : Type 0 where
   pub groups : List Group
   pub joined : all_of (sections_of groups) ≡ spots
   pub taken : members_of_groups groups ≡ take count members
@@ -91,13 +94,15 @@ pub record AreGrouped (members : List Member) (count end : ℕ) (spots : List Bo
   pub below : (d : Member) → count < length members
       → All (λ section. section.number < (slice_index_or members count d).section) (sections_of groups)
   pub stand : EachStands end (sections_of groups)
+  pub rooms : All (λ group. HasRoomOf first group.site) groups
 
 -- the boxes of lines in sections, of which the last one ends at a height: each region once. What is out of place is in the
--- section of the root, by the functions that are listed
-pub record AreOfSections (functions : List Listed) (lines : List Line) (end : ℕ) (spots : List BoxSpot) : Type 0 where
+-- section of the root, by the functions that are listed. The lines stand as deep as they were read
+pub record AreOfSections (first : Site) (functions : List Listed) (lines : List Line) (end : ℕ) (spots : List BoxSpot) : Type 0 where
   pub sections : List Section
   pub joined : all_of sections ≡ spots
   pub each_once : IsPermutation (lines_of_regions (regions_under lines)) (lines_drawn spots)
   pub below_headings : AreSectionsOf (map headed_line lines) sections
   pub by_root : All (AreLostByRoot functions) sections
   pub stand : EachStands end sections
+  pub nested : HasSides first → All (HasNestedBoxes (map headed_line lines)) sections

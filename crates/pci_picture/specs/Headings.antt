@@ -1,8 +1,8 @@
 -- Under which heading the regions of a map stand, and in which section they are drawn.
-use Rattle.std.specs.Prelude.{◌≡◌, ◌⊎◌, ◌<◌, ℕ, Bool, true, false, not, ◌==◌, ◌||◌, ◌+◌, ◌*◌, List, [], ◌∷◌, ◌++◌, map, nat_lt, codes, if◌then◌else◌}
+use Rattle.std.specs.Prelude.{◌≡◌, ◌⊎◌, ◌<◌, ℕ, Bool, true, false, not, ◌==◌, ◌||◌, ◌+◌, ◌-◌, ◌*◌, ◌/◌, max, min, List, [], ◌∷◌, ◌++◌, map, nat_lt, codes, if◌then◌else◌}
 use Rattle.std.specs.List.{All, AllPairs, Any, filter, flat_map, slice_split}
 use Rattle.std.specs.List.Sorted.{IsPermutation}
-use Rattle.pci_picture.specs.Lines.{leading_blanks, is_feed, is_register, nth_word, says, indented_if_region, hex_value, words_in_line}
+use Rattle.pci_picture.specs.Lines.{leading_blanks, unindented_line, is_feed, is_region_line, is_register, nth_word, says, indented_if_region, hex_value, words_in_line}
 use Rattle.pci_picture.specs.Spots.{Section, lines_drawn}
 use Rattle.pci_picture.specs.declared.map.Heading.{Heading}
 use Rattle.pci_picture.specs.declared.map.Heading.TheVariants.{Section as InSection, Lost, Off}
@@ -22,28 +22,70 @@ heading_told line =
     else Off)
     else (if says (nth_word (words_in_line line) 0) (codes "outside") || says (nth_word (words_in_line line) 0) (codes "unreached") then Lost else Off)
 
--- the heading of what stands below a line: that line, where it has fewer than two blanks before it, else the one above it
-abbrev pub next_heading : Heading → List ℕ → Heading
-next_heading heading line = if nat_lt (leading_blanks line) 2 then heading_told line else heading
+-- what the lines above a line say of it: its heading, whether it stands below a line `unclaimed S`, and how deep the line right
+-- before it stands, 0 where that is no region
+pub record ReadSoFar : Type 0 where
+  pub heading : Heading
+  pub is_taken : Bool
+  pub level : ℕ
 
--- ---- the regions of a map, each with its heading
+abbrev pub reading_at : Heading → Bool → ℕ → ReadSoFar
+reading_at heading is_taken level = record { heading = heading; is_taken = is_taken; level = level }
 
--- a region and the heading above it
+-- the first line of a text stands below no heading
+abbrev pub at_begin : ReadSoFar
+at_begin = reading_at Off false 0
+
+abbrev pub is_in_section : Heading → Bool
+is_in_section (InSection n) = true
+is_in_section Lost = false
+is_in_section Off = false
+
+-- how deep a line stands that begins with two blanks for each of some steps. A line of a section is at most one step deeper than
+-- the line before it; below `unclaimed S` it is one step less deep than its blanks say. All other lines have depth 1
+unfoldable pub depth_behind : ReadSoFar → ℕ → ℕ
+depth_behind reading steps =
+    if is_in_section reading.heading
+    then min (if reading.is_taken then max (steps - 1) 1 else steps) (reading.level + 1)
+    else 1
+
+-- how deep a region stands, with the blanks before it
+abbrev pub depth_of_line : ReadSoFar → List ℕ → ℕ
+depth_of_line reading line = depth_behind reading (leading_blanks line / 2)
+
+-- what is said of the line below a line: the line is a heading where it has fewer than two blanks before it, else a region or
+-- something else
+unfoldable pub read_on : ReadSoFar → List ℕ → ReadSoFar
+read_on reading line =
+    if nat_lt (leading_blanks line) 2
+    then reading_at (heading_told line) false 0
+    else (if is_region_line (unindented_line line)
+    then reading_at reading.heading reading.is_taken (depth_of_line reading line)
+    else reading_at reading.heading (says (nth_word (words_in_line line) 0) (codes "unclaimed")) 0)
+
+-- ---- the regions of a map, each with its heading and its depth
+
+-- a region, the heading above it, and how deep it stands
 pub record Headed : Type 0 where
   pub heading : Heading
+  pub depth : ℕ
   pub line : List ℕ
 
-abbrev pub headed : Heading → List ℕ → Headed
-headed heading line = record { heading = heading; line = line }
+abbrev pub headed : Heading → ℕ → List ℕ → Headed
+headed heading depth line = record { heading = heading; depth = depth; line = line }
 
--- the regions of some lines, of which the first one stands below a heading
-abbrev pub headed_lines : Heading → List (List ℕ) → List Headed
-headed_lines heading [] = []
-headed_lines heading (line ∷ lines) = map (headed heading) (indented_if_region line) ++ headed_lines (next_heading heading line) lines
+-- the region that a line is, if it is one
+abbrev pub headed_behind : ReadSoFar → List ℕ → List Headed
+headed_behind reading line = map (headed reading.heading (depth_of_line reading line)) (indented_if_region line)
 
--- the regions of a map's text, whose first lines stand below no heading
+-- the regions of some lines
+abbrev pub headed_lines : ReadSoFar → List (List ℕ) → List Headed
+headed_lines reading [] = []
+headed_lines reading (line ∷ lines) = headed_behind reading line ++ headed_lines (read_on reading line) lines
+
+-- the regions of a map's text
 abbrev pub headed_regions : List ℕ → List Headed
-headed_regions map = headed_lines Off (slice_split is_feed map)
+headed_regions map = headed_lines at_begin (slice_split is_feed map)
 
 -- the lines of those that stand below the headings that are meant
 abbrev pub lines_below_headings : (Heading → Bool) → List Headed → List (List ℕ)

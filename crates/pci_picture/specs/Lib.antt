@@ -8,6 +8,7 @@ pub mod Headings
 pub mod Boxes
 pub mod Canvases
 pub mod Maps
+pub mod Depths
 pub mod Drawings
 pub mod Cuts
 pub mod Slots
@@ -18,4 +19,6 @@ pub mod ByRoots
 pub mod Lanes
 pub mod Seats
 pub mod Sides
+pub mod Members
+pub mod Nested
 pub mod Siblings

@@ -2,11 +2,11 @@
 use Rattle.std.specs.Prelude.{◌≡◌, ℕ, Option, Some, None, List, ◌++◌, map, if◌then◌else◌}
 use Rattle.std.specs.List.{filter, flat_map}
 use Rattle.std.specs.List.Sorted.{IsPermutation, IsNonDecreasingBy}
-use Rattle.pci_picture.specs.Headings.{Headed, headed, headed_lines, is_below_heading, is_below_no_heading, lines_below_headings}
+use Rattle.pci_picture.specs.Headings.{Headed, at_begin, headed, headed_lines, is_below_heading, is_below_no_heading, lines_below_headings}
 use Rattle.pci_picture.specs.Lines.{indented_if_region}
 use Rattle.pci_picture.specs.declared.region.Region.{Region}
 use Rattle.pci_picture.specs.declared.map.Heading.{Heading}
-use Rattle.pci_picture.specs.declared.map.Heading.TheVariants.{Section, Lost, Off}
+use Rattle.pci_picture.specs.declared.map.Heading.TheVariants.{Section, Lost}
 use Rattle.pci_picture.specs.declared.map.Line.{Line}
 use Rattle.pci_picture.specs.declared.map.Map.{Map}
 use Rattle.pci_picture.specs.declared.plan.Member.{Member}
@@ -35,22 +35,22 @@ heading_in (Some number) = Section number
 heading_in None = Lost
 
 abbrev pub headed_line : Line → Headed
-headed_line line = headed (heading_in line.section) line.region.line.now
+headed_line line = headed (heading_in line.section) line.region.depth line.region.line.now
 
 abbrev pub headed_member : Member → Headed
-headed_member member = headed (if member.is_lost then Lost else Section member.section) member.region.line.now
+headed_member member = headed (if member.is_lost then Lost else Section member.section) member.region.depth member.region.line.now
 
--- a map has the regions of some lines of text, each with its heading; those that are off stand apart
+-- a map has the regions of some lines of text, each with its heading and its depth; those that are off stand apart
 pub record IsReadOf {A : Type 0} (lines : List (List ℕ)) (read : Map A) : Type 0 where
   pub each_once : IsPermutation (flat_map indented_if_region lines) (lines_read read)
-  pub kept : map headed_line read.lines.items ≡ filter is_below_heading (headed_lines Off lines)
-  pub off : lines_of_regions read.off.items ≡ lines_below_headings is_below_no_heading (headed_lines Off lines)
+  pub kept : map headed_line read.lines.items ≡ filter is_below_heading (headed_lines at_begin lines)
+  pub off : lines_of_regions read.off.items ≡ lines_below_headings is_below_no_heading (headed_lines at_begin lines)
 
--- a map took up regions that stand below a heading
-pub record TakesUp {A : Type 0} (heading : Heading) (told : List (List ℕ)) (old new : Map A) : Type 0 where
-  pub each_once : IsPermutation (lines_read old ++ told) (lines_read new)
-  pub kept : map headed_line new.lines.items ≡ map headed_line old.lines.items ++ filter is_below_heading (map (headed heading) told)
-  pub off : lines_of_regions new.off.items ≡ lines_of_regions old.off.items ++ lines_below_headings is_below_no_heading (map (headed heading) told)
+-- a map took up some regions
+pub record TakesUp {A : Type 0} (told : List Headed) (old new : Map A) : Type 0 where
+  pub each_once : IsPermutation (lines_read old ++ map (λ region. region.line) told) (lines_read new)
+  pub kept : map headed_line new.lines.items ≡ map headed_line old.lines.items ++ filter is_below_heading told
+  pub off : lines_of_regions new.off.items ≡ lines_of_regions old.off.items ++ lines_below_headings is_below_no_heading told
 
 -- ---- members
 

@@ -1,7 +1,8 @@
 -- From where to where the boxes of a section reach, once their regions were placed.
-use Rattle.std.specs.Prelude.{◌≡◌, ◌<◌, ◌≤◌, ◌+◌, ◌^◌, ℕ, List, map, length, ◌++◌, take, drop}
+use Rattle.std.specs.Prelude.{◌≡◌, ◌<◌, ◌≤◌, ◌+◌, ◌-◌, ◌^◌, ℕ, List, map, max, length, ◌++◌, take, drop}
 use Rattle.std.specs.List.{All, Contains, position_or_len}
 use Rattle.pci_picture.specs.Lanes.{AreNested, BeginInside, HaveColumns, HaveShares, IsIndented, SiblingsRise, StandSideBySide, StandsBetween}
+use Rattle.pci_picture.specs.Spots.{BoxSpot}
 use Rattle.pci_picture.specs.declared.lanes.Width.{Width}
 use Rattle.pci_picture.specs.declared.plan.Member.{Member}
 use Rattle.pci_picture.specs.declared.plan.Placed.{Placed}
@@ -10,6 +11,13 @@ use Rattle.pci_picture.specs.declared.region.Region.{Region}
 
 abbrev pub widths_placed : List Placed → List Width
 widths_placed places = map (λ placed. placed.width) places
+
+-- the left end and the width of a box: one unit at least, and two less than the room that it has
+abbrev pub sides_of_width : Width → ℕ × ℕ
+sides_of_width width = (width.left, max 1 (width.right - width.left - 2))
+
+abbrev pub sides_drawn : List BoxSpot → List (ℕ × ℕ)
+sides_drawn spots = map (λ spot. (spot.x, spot.width)) spots
 
 -- the widths of some regions between two ends, where a window has `column` units for its own text
 pub record AreWidthsIn (left right column : ℕ) (regions : List Region) (widths : List Width) : Type 0 where

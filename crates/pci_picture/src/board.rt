@@ -1,6 +1,7 @@
 //! A board, read from the texts of three commands.
 ghost use Rattle.std.specs.Prelude.{◌≡◌, [], ◌∷◌, Some, None, unwrap_or, slice_index_or, IfOk};
 ghost use Rattle.std.specs.List.{slice_split};
+ghost use Rattle.pci_picture.specs.Depths.{AreChained};
 ghost use Rattle.pci_picture.specs.Boxes.{titled_line};
 ghost use Rattle.pci_picture.specs.Lines.{is_feed};
 ghost use Rattle.pci_picture.specs.Listings.{AreFunctionsListed};
@@ -116,6 +117,7 @@ impl<'a, A: Allocator + Copy> Board<'a, A> {
     /// Reads the board from the texts.
     pub fn read(alloc: A, texts: &Texts<'a>) -> Result<Board<'a, A>, OutOfMemory>
         ensures map { IfOk result (λ board. IsReadOf (slice_split is_feed texts.entry.now.map.now) board.map) }
+        ensures chained { IfOk result (λ board. AreChained board.map.lines.items) }
         ensures show { IfOk result (λ board. AreFunctionsListed texts.entry.now.show.now (listed_functions board.functions.items)) }
     {
         let mut functions = read_functions(alloc, texts.show)?;

@@ -1,8 +1,9 @@
 //! The text of a map.
-ghost use Rattle.std.specs.Prelude.{◌≡◌, [], ◌∷◌, IsTrue, IfOk, OnOk};
+ghost use Rattle.std.specs.Prelude.{◌≡◌, ◌/◌, [], ◌∷◌, IsTrue, IfOk, OnOk};
 ghost use Rattle.std.specs.List.{slice_split};
-ghost use Rattle.pci_picture.specs.Headings.{heading_told, next_heading, number_of_section};
-ghost use Rattle.pci_picture.specs.Lines.{is_feed, is_one_line, indented_if_region};
+ghost use Rattle.pci_picture.specs.Depths.{AreChained, KnowsDepths, StandsWithin, reading_of};
+ghost use Rattle.pci_picture.specs.Headings.{depth_behind, headed, headed_behind, heading_told, number_of_section, read_on};
+ghost use Rattle.pci_picture.specs.Lines.{is_feed, is_one_line};
 ghost use Rattle.pci_picture.specs.Maps.{IsReadOf, TakesUp};
 
 use super::memory::OutOfMemory;
@@ -88,8 +89,9 @@ struct Reader<'a, A: Allocator> {
 impl<'a, A: Allocator + Copy> Reader<'a, A> {
     /// Adds a region below the heading.
     fn put(&mut self, region: Region<'a>) -> Result<(), OutOfMemory>
-        ensures taken { OnOk result (TakesUp self.old.heading (region.entry.line.now ∷ []) self.old.map self.new.map) }
-        ensures same { self.new.heading ≡ self.old.heading }
+        ensures taken { OnOk result (TakesUp (headed self.old.heading region.entry.depth region.entry.line.now ∷ []) self.old.map self.new.map) }
+        ensures chained { OnOk result (AreChained self.old.map.lines.items → StandsWithin self.old region.entry → KnowsDepths self.new) }
+        ensures same { reading_of self.new ≡ reading_of self.old }
     {
         match self.heading {
             Heading::Section(number) => {
@@ -116,8 +118,15 @@ impl<'a, A: Allocator + Copy> Reader<'a, A> {
     }
 
     /// How deep the next line stands, which begins with two blanks for each of these steps. What a bridge takes stands
-    /// where regions of its root bus do. A line is at most one step deeper than the one before.
-    fn depth(&self, steps: usize) -> usize {
+    /// where regions of its root bus do. A line of a section is at most one step deeper than the one before, and no other
+    /// line stands inside another one.
+    #[tactic(auto, unfolding(crate::specs::Headings::depth_behind))]
+    fn depth(&self, steps: usize) -> usize
+        ensures { result ≡ depth_behind (reading_of self.now) steps }
+    {
+        if !matches!(self.heading, Heading::Section(_)) {
+            return 1;
+        }
         let steps = if self.is_taken {
             steps.saturating_sub(1).max(1)
         } else {
@@ -127,10 +136,12 @@ impl<'a, A: Allocator + Copy> Reader<'a, A> {
     }
 
     /// Reads a line.
+    #[tactic(auto, unfolding(crate::specs::Headings::read_on))]
     fn take(&mut self, line: &'a [u8]) -> Result<(), OutOfMemory>
         requires { IsTrue (is_one_line line.now) }
-        ensures taken { OnOk result (TakesUp self.old.heading (indented_if_region line.entry.now) self.old.map self.new.map) }
-        ensures below { self.new.heading ≡ next_heading self.old.heading line.entry.now }
+        ensures taken { OnOk result (TakesUp (headed_behind (reading_of self.old) line.entry.now) self.old.map self.new.map) }
+        ensures read { OnOk result (reading_of self.new ≡ read_on (reading_of self.old) line.entry.now) }
+        ensures chained { OnOk result (KnowsDepths self.old → KnowsDepths self.new) }
     {
         let blanks = indent(line);
         if blanks < 2 {
@@ -158,7 +169,8 @@ impl<'a, A: Allocator + Copy> Reader<'a, A> {
 impl<'a, A: Allocator + Copy> Map<'a, A> {
     /// Reads the lines of a map.
     pub fn read(alloc: A, text: &'a str) -> Result<Map<'a, A>, OutOfMemory>
-        ensures { IfOk result (λ read. IsReadOf (slice_split is_feed text.entry.now) read) }
+        ensures read { IfOk result (λ read. IsReadOf (slice_split is_feed text.entry.now) read) }
+        ensures chained { IfOk result (λ read. AreChained read.lines.items) }
     {
         let mut reader = Reader {
             map: Map {

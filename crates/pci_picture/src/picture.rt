@@ -4,10 +4,13 @@ ghost use Rattle.std.specs.List.{All};
 ghost use Rattle.std.specs.String.{string_bytes};
 ghost use Rattle.pci_picture.specs.Boxes.{IsPictureOf};
 ghost use Rattle.pci_picture.specs.Canvases.{AddsToCanvas, AddsSome};
+ghost use Rattle.pci_picture.specs.Depths.{AreChained};
 ghost use Rattle.pci_picture.specs.Drawings.{AreOfSections, IsRunOfSection};
 ghost use Rattle.pci_picture.specs.ByRoots.{IsDrawnByRootsOfShow};
 ghost use Rattle.pci_picture.specs.Maps.{AreMembersOf, lines_of_regions};
+ghost use Rattle.pci_picture.specs.Members.{AreIndentedBySection};
 ghost use Rattle.pci_picture.specs.Roots.{IsLostByRoot, listed_functions};
+ghost use Rattle.pci_picture.specs.Sides.{HasSides};
 ghost use Rattle.pci_picture.specs.Spots.{lines_drawn, spot_at};
 ghost use Rattle.pci_picture.specs.Whole.{IsPictureText};
 
@@ -16,7 +19,7 @@ use super::canvas::{Canvas, Label, Shape};
 use super::elements::Frame;
 use super::heights::LINE;
 use super::legend::draw_legend;
-use super::map::section_number;
+use super::map::{Map, section_number};
 use super::memory::OutOfMemory;
 use super::plan::{AXIS, LOST, Member, Site};
 use super::reading::{bus_of, slot_of, word};
@@ -153,7 +156,9 @@ fn members<'a, A: Allocator + Copy>(
     alloc: A,
     board: &Board<'a, A>,
 ) -> Result<Vec<Member<'a>, A>, OutOfMemory>
+    requires { AreChained board.now.map.lines.items }
     ensures moved { IfOk result (λ members. AreMembersOf board.entry.now.map.lines.items members.items) }
+    ensures indented { IfOk result (λ members. AreIndentedBySection members.items) }
     ensures by_root { IfOk result (λ members. All (IsLostByRoot (listed_functions board.entry.now.functions.items)) members.items) }
 {
     let roots = board.roots();
@@ -198,8 +203,9 @@ fn draw_sections<A: Allocator + Copy>(
     board: &Board<'_, A>,
     first: &Site,
 ) -> Result<u64, OutOfMemory>
-    ensures drawn { IfOk result (λ end. AddsSome
-        (AreOfSections (listed_functions board.entry.now.functions.items) board.entry.now.map.lines.items end) canvas.old canvas.new) }
+    requires { AreChained board.now.map.lines.items }
+    ensures drawn { IfOk result (λ end. AddsSome (AreOfSections first.now
+        (listed_functions board.entry.now.functions.items) board.entry.now.map.lines.items end) canvas.old canvas.new) }
     ensures down { IfOk result (λ end. first.now.y ≤ end) }
 {
     let sorted = members(alloc, board)?;
@@ -304,6 +310,28 @@ fn bottom_of(end: u64, tree_end: u64) -> u64
     end.max(tree_end).saturating_add(MARGIN)
 }
 
+/// Where the first section stands: behind the tree, from a height on. Where many levels stand inside each other, the text of
+/// each has less width.
+fn first_site<A: Allocator + Copy>(map: &Map<'_, A>, y: u64) -> Site
+    ensures room { HasSides result }
+    ensures y { result.y ≡ y }
+{
+    let behind = (map.depth() as u64).saturating_sub(1);
+    let column = if behind == 0 {
+        COLUMN
+    } else {
+        COLUMN.min(10 * COLUMN / behind)
+    };
+    let lost = if map.has_lost() { LOST } else { 0 };
+    Site {
+        section: 0,
+        x: LEFT + TREE + 20,
+        y,
+        width: column.saturating_mul(behind).saturating_add(LEAF + lost),
+        column,
+    }
+}
+
 /// The picture of a board as SVG, of the texts that `show`, `map` and `faults --why` print of it. Lines that
 /// none of these commands prints are left out.
 pub fn picture_of<A: Allocator + Copy>(
@@ -320,33 +348,18 @@ pub fn picture_of<A: Allocator + Copy>(
     ensures by_root { IfOk result (λ text. IsDrawnByRootsOfShow texts.entry.now.show.now texts.entry.now.map.now (string_bytes text)) }
 {
     let board = Board::read(alloc, texts)?;
-    let levels = board.map.depth() as u64;
-    let behind = levels.saturating_sub(1);
-    let column = if behind == 0 {
-        COLUMN
-    } else {
-        COLUMN.min(10 * COLUMN / behind)
-    };
-    let lost = if board.map.has_lost() { LOST } else { 0 };
-    let width = column.saturating_mul(behind).saturating_add(LEAF + lost);
     let mut canvas = Canvas::new(alloc);
     write_counts(alloc, &mut canvas, &board)?;
     let is_told = board.map.has_told();
     let legend = draw_legend(&mut canvas, is_told, 66)?;
     let top = write_faults(alloc, &mut canvas, &board, 72)?.saturating_add(22);
     let tree_end = draw_tree(alloc, &mut canvas, &board, top)?;
-    let x = LEFT + TREE + 20;
-    let site = Site {
-        section: 0,
-        x,
-        y: top,
-        width,
-        column,
-    };
+    let site = first_site(&board.map, top);
     let y = draw_sections(alloc, &mut canvas, &board, &site)?;
     let end = draw_off(alloc, &mut canvas, &board, &Site { y, ..site })?;
-    let right = (x + AXIS + MARGIN)
-        .saturating_add(width)
+    let right = site.x.saturating_add(AXIS + MARGIN);
+    let right = right
+        .saturating_add(site.width)
         .max(legend.saturating_add(140));
     let bottom = bottom_of(end, tree_end);
     canvas.finish(alloc, is_told, right, bottom)

@@ -158,8 +158,9 @@ fn named_of(line: &[u8]) -> Option<Named<'_>>
 #[tactic(auto, unfolding(crate::specs::Lines::is_region_line, crate::specs::Slots::bus_of_line, crate::specs::Slots::is_io_line))]
 pub fn region_of(line: &[u8], depth: usize) -> Option<Region<'_>>
     requires { IsTrue (is_one_line line.now) }
-    ensures { MatchOption result (line_if_region line.now ≡ [])
+    ensures line { MatchOption result (line_if_region line.now ≡ [])
         (λ region. line_if_region line.now ≡ region.line.now ∷ []) }
+    ensures depth { IfSome result (λ region. region.depth ≡ depth) }
 {
     let range = extent_of(word(line, 0))?;
     let named = named_of(line)?;

@@ -7,7 +7,7 @@ abbrev pub invariant-loop-begin : goal.invariant-loop-begin
 invariant-loop-begin g l = record {
   within : l.begin ≤ length l.members;
   down : l.first.y ≤ l.y;
-  adds : AddsSome (AreGrouped l.members l.begin l.y) l.initial.canvas l.canvas;
+  adds : AddsSome (AreGrouped l.first l.members l.begin l.y) l.initial.canvas l.canvas;
 }
 
 abbrev pub decreases-loop-begin : goal.decreases-loop-begin

@@ -8,6 +8,7 @@ use Rattle.std.proofs.lemmas.List.Elements.{All-push}
 use Rattle.std.proofs.lemmas.List.Sorted.{All-permutation, IsPermutation-map, answers_always}
 use Rattle.pci_picture.specs.Maps.{headed_line, headed_member, rank_of, regions_under}
 use Rattle.pci_picture.specs.Roots.{IsLostByRoot, listed_functions}
+use Rattle.pci_picture.proofs.Chained.{indented_members}
 use Rattle.pci_picture.proofs.Lost.{section_if_lost, section_told}
 use Rattle.pci_picture.proofs.Members.{sorted_by_first}
 use Rattle.pci_picture.proofs.Sections.{sorted_members}
@@ -20,6 +21,7 @@ loop-line-preserved g c =
     record {
       moved = grind (arith, common_steps);
       seated = grind (arith, common_steps);
+      tops = grind (arith, common_steps);
       by_root =
           subst (All (IsLostByRoot functions)) (sym c.in_ok-push.ensures.items)
           (All-push (IsLostByRoot functions) c.loop-line.members.items _ c.loop-line.invariant.by_root
@@ -32,6 +34,7 @@ pub returns : goal.returns
 returns g c =
     let lines = c.args.board.now.map.lines.items in
     let all = take_all c.loop-line.line-index lines (omega arith) in
+    let sorted = c.in_ok-sort_by_key.ensures.sorted (λ m. (m.section, m.is_lost, rank_of m)) (answers_always _ _ _ (λ f a r h k. search rules)) in
     record {
       moved = record {
         moved =
@@ -44,7 +47,12 @@ returns g c =
         sorted =
             sorted_by_first (λ m. m.section) (λ x y. bool_cmp x.is_lost y.is_lost)
             (λ x y. ordering_then (nat_cmp ((rank_of x).0) ((rank_of y).0)) (nat_cmp ((rank_of x).1) ((rank_of y).1)))
-            c.sort_by_key.new.self.items (c.in_ok-sort_by_key.ensures.sorted (λ m. (m.section, m.is_lost, rank_of m)) (answers_always _ _ _ (λ f a r h k. search rules)));
+            c.sort_by_key.new.self.items sorted;
       };
+      indented =
+          indented_members lines c.loop-line.members.items c.sort_by_key.new.self.items c.requires
+          (c.loop-line.invariant.seated ∙ ap (map headed_line) all) (c.loop-line.invariant.tops ∙ ap (map (λ l. l.top)) all)
+          c.in_ok-sort_by_key.ensures.permutation sorted
+          (c.in_ok-sort_by_key.ensures.stable (λ m. (m.section, m.is_lost, rank_of m)) (answers_always _ _ _ (λ f a r h k. search rules)));
       by_root = All-permutation (IsLostByRoot (listed_functions c.args.board.now.functions.items)) c.loop-line.members.items c.sort_by_key.new.self.items c.in_ok-sort_by_key.ensures.permutation c.loop-line.invariant.by_root;
     }

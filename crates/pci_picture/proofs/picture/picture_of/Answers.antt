@@ -6,12 +6,15 @@ use Rattle.pci_picture.proofs.Pictured.{drawn_of, drawn_by_roots}
 use Rattle.pci_picture.proofs.Sections.{whole_picture}
 use Rattle.pci_picture.proofs.picture.picture_of.Goals as goal
 
+pub draw_sections-requires : goal.draw_sections-requires
+draw_sections-requires g c = c.in_ok-board.ensures.chained
+
 pub returns : goal.returns
 returns g c =
     let functions = listed_functions c.in_ok-board.board.functions.items in
     let whole =
-    whole_picture functions c.args.texts.now.map.now c.in_ok-board.board.map c.new-canvas.result _ _ _ c.in_ok-y.y c.bottom_of-bottom.result c.finish.result (λ text. string_bytes text)
-    c.in_ok-board.ensures.map (up_to c.in_ok-y.y c.in_ok-end.end c.bottom_of-bottom.result c.in_ok-end.ensures.down c.bottom_of-bottom.ensures) c.new-canvas.ensures
+    whole_picture c.first_site-site.result functions c.args.texts.now.map.now c.in_ok-board.board.map c.new-canvas.result _ _ _ c.in_ok-y.y c.bottom_of-bottom.result c.finish.result (λ text. string_bytes text)
+    c.first_site-site.ensures.room c.in_ok-board.ensures.map (up_to c.in_ok-y.y c.in_ok-end.end c.bottom_of-bottom.result c.in_ok-end.ensures.down c.bottom_of-bottom.ensures) c.new-canvas.ensures
     (then_draws [] _ _ _ (then_draws [] _ _ _ (then_draws [] _ _ _ c.in_ok-write_counts.ensures c.in_ok-legend.ensures) c.in_ok-write_faults.ensures) c.in_ok-tree_end.ensures)
     c.in_ok-y.ensures.drawn c.in_ok-end.ensures.drawn c.finish.ensures.drawn in
     record {
