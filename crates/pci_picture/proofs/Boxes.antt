@@ -15,7 +15,7 @@ use Rattle.pci_picture.specs.declared.canvas.Canvas.{Canvas}
 pub titles_append : (s t : List Titled) (a b : List ℕ) → HasTitles s a → HasTitles t b → HasTitles (s ++ t) (a ++ b)
 titles_append _ t _ b no_element h = h
 titles_append _ t _ b (a_box x y width height class anchor title rest titles r) h =
-    subst (HasTitles (titled x y width height title ∷ (titles ++ t))) (sym (append_assoc (box_text x y width height class anchor title) rest b))
+    subst (HasTitles (titled x y width height class title ∷ (titles ++ t))) (sym (append_assoc (box_text x y width height class anchor title) rest b))
     (a_box x y width height class anchor title (rest ++ b) (titles ++ t) (titles_append titles t rest b r h))
 titles_append _ t _ b (a_line x y class line rest titles r) h =
     subst (HasTitles (titles ++ t)) (sym (append_assoc (words_text x y class line) rest b))
@@ -32,9 +32,9 @@ titles_append _ t _ b (a_gap x y to rest titles r) h =
 
 -- ---- one element alone
 
-pub box_titles : (x y width height : ℕ) (class anchor title : List ℕ) → HasTitles (titled x y width height title ∷ []) (box_text x y width height class anchor title)
+pub box_titles : (x y width height : ℕ) (class anchor title : List ℕ) → HasTitles (titled x y width height class title ∷ []) (box_text x y width height class anchor title)
 box_titles x y width height class anchor title =
-    subst (HasTitles (titled x y width height title ∷ [])) (append-nil (box_text x y width height class anchor title))
+    subst (HasTitles (titled x y width height class title ∷ [])) (append-nil (box_text x y width height class anchor title))
     (a_box x y width height class anchor title [] [] no_element)
 
 pub words_titles : (x y : ℕ) (class line : List ℕ) → HasTitles [] (words_text x y class line)
@@ -63,11 +63,11 @@ spots_append s t a b h k = record {
 bare_spots : (a : List ℕ) → HasTitles [] a → HasSpots [] a
 bare_spots a h = record { boxes = []; has = h; first = refl }
 
-box_spots : (x y width height : ℕ) (class anchor title : List ℕ) → HasSpots (titled_spot (titled x y width height title)) (box_text x y width height class anchor title)
+box_spots : (x y width height : ℕ) (class anchor title : List ℕ) → HasSpots (titled_spot (titled x y width height class title)) (box_text x y width height class anchor title)
 box_spots x y width height class anchor title = record {
-  boxes = titled x y width height title ∷ [];
+  boxes = titled x y width height class title ∷ [];
   has = box_titles x y width height class anchor title;
-  first = append-nil (titled_spot (titled x y width height title));
+  first = append-nil (titled_spot (titled x y width height class title));
 }
 
 -- ---- canvases
@@ -75,13 +75,13 @@ box_spots x y width height class anchor title = record {
 pub added_box : {A : Type 0} (x y width height : ℕ) (class anchor title : List ℕ) (before after : Canvas A) (empty element : List ℕ)
     → empty ≡ [] → element ≡ empty ++ box_text x y width height class anchor title
     → string_bytes after.boxes ≡ string_bytes before.boxes ++ element → string_bytes after.words ≡ string_bytes before.words
-    → AddsToCanvas (titled_spot (titled x y width height title)) before after
+    → AddsToCanvas (titled_spot (titled x y width height class title)) before after
 added_box x y width height class anchor title before after empty element none made boxes words = record {
   behind = λ spots drawn.
       let e : element ≡ box_text x y width height class anchor title = made ∙ ap (λ l. l ++ box_text x y width height class anchor title) none in
       record {
-        in_boxes = subst (HasSpots (spots ++ titled_spot (titled x y width height title))) (sym (boxes ∙ ap (λ l. string_bytes before.boxes ++ l) e))
-            (spots_append spots (titled_spot (titled x y width height title)) (string_bytes before.boxes) _ drawn.in_boxes (box_spots x y width height class anchor title));
+        in_boxes = subst (HasSpots (spots ++ titled_spot (titled x y width height class title))) (sym (boxes ∙ ap (λ l. string_bytes before.boxes ++ l) e))
+            (spots_append spots (titled_spot (titled x y width height class title)) (string_bytes before.boxes) _ drawn.in_boxes (box_spots x y width height class anchor title));
         in_words = subst (HasTitles []) (sym words) drawn.in_words;
       };
 }

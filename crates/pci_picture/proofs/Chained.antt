@@ -1,22 +1,20 @@
 -- Members that are indented stay so when they are sorted.
-use Rattle.std.proofs.Common.{arith, ◌≡◌, ◌<◌, ◌≤◌, ◌+◌, ◌-◌, ◌*◌, ◌==◌, ◌&&◌, ◌⊎◌, ℕ, zero, suc, Bool, true, false, cond, not, if◌then◌else◌, IsTrue, Option, Some, None, List, [], ◌∷◌, map, drop, length, refl, sym, ap, ap₂, subst, ◌∙◌, inl, inr, Ordering, Less, Equal, Greater}
+use Rattle.std.proofs.Common.{arith, ◌≡◌, ◌<◌, ◌≤◌, ◌+◌, ◌-◌, ◌*◌, ◌⊎◌, ℕ, zero, suc, Bool, true, false, cond, if◌then◌else◌, IsTrue, Option, Some, None, List, [], ◌∷◌, map, drop, length, refl, sym, ap, subst, ◌∙◌, inl, inr}
 use Rattle.std.specs.List.{All, filter, slice_index_or}
 use Rattle.std.specs.List.Sorted.{IsPermutation, IsSortedBy, IsStableBy, ties}
-use Rattle.std.specs.Ordering.{bool_cmp, is_lt, nat_cmp, ordering_then}
-use Rattle.std.specs.Cmp.{nat_cmp_is}
-use Rattle.std.proofs.lemmas.Bool.{cases_Bool, cases_lt, eq-eqb, ne_eqb}
+use Rattle.std.proofs.lemmas.Bool.{both_ways, cases_Bool, cases_lt, eq-eqb, ne_eqb}
+use Rattle.std.proofs.lemmas.Option.{none-some, same_Some}
 use Rattle.std.proofs.lemmas.List.{drop_more, get_or_default, length-drop}
 use Rattle.std.proofs.lemmas.List.Elements.{All-cons, All-head, All-nil, All-tail, filter_agree}
 use Rattle.std.proofs.lemmas.List.Sorted.{All-permutation, IsNonDecreasingBy-from_all_adjacent}
-use Rattle.std.proofs.lemmas.Map.Keys.{ge_from_not_lt}
 use Rattle.pci_picture.specs.Depths.{AreChained, FollowsLine, IsChained}
 use Rattle.pci_picture.specs.Lanes.{IsIndented, depth_at}
-use Rattle.pci_picture.specs.Maps.{headed_line, headed_member, heading_in, rank_of, regions_of_members}
+use Rattle.pci_picture.specs.Maps.{headed_line, headed_member, heading_in, regions_of_members}
 use Rattle.pci_picture.specs.Members.{AreIndentedBySection, is_member_in_place, member_number}
 use Rattle.pci_picture.specs.declared.map.Heading.TheVariants.{Section, Lost}
 use Rattle.pci_picture.specs.declared.map.Line.{Line}
 use Rattle.pci_picture.specs.declared.plan.Member.{Member}
-use Rattle.pci_picture.proofs.Members.{first_not_less}
+use Rattle.pci_picture.proofs.MemberOrder.{AreTogether, ComesAfter, InOrder, IsBehind, behind_both, comes_after, comes_before, in_order, is_beside, sorted_at, tie_is, two_ways}
 
 -- ---- depths that rise by one step at most, behind a line of some depth
 
@@ -51,13 +49,6 @@ indented_by ms steps = record {
 
 -- ---- members that follow each other
 
--- two members in place stand inside the same line of depth 1
-pub record AreTogether (p m : Member) : Type 0 where
-  pub section : p.section ≡ m.section
-  pub top : p.top ≡ m.top
-  pub mine : p.is_lost ≡ false
-  pub other : m.is_lost ≡ false
-
 pub record FollowsMember (prev : Option Member) (m : Member) : Type 0 where
   pub deep : 0 < m.region.depth
   pub flat : IsTrue m.is_lost → m.region.depth ≤ 1
@@ -66,12 +57,6 @@ pub record FollowsMember (prev : Option Member) (m : Member) : Type 0 where
 abbrev pub Follow : Option Member → List Member → Type 0
 Follow prev [] = Unit {0}
 Follow prev (m ∷ ms) = FollowsMember prev m × Follow (Some m) ms
-
-some_same : (p m : Member) → Some p ≡ Some m → p ≡ m
-some_same p m is = cc
-
-true_not_false : (b : Bool) → b ≡ true → b ≡ false → ⊥
-true_not_false b holds fails = cc
 
 -- those that pass a test are indented, where the test says the same of all that stands inside one line of depth 1
 module _ (t : Member → Bool) (same : (p m : Member) → AreTogether p m → t p ≡ t m) where
@@ -94,11 +79,11 @@ module _ (t : Member → Bool) (same : (p m : Member) → AreTogether p m → t 
         subst (λ b. Steps level (cond b (m ∷ filter t ms) (filter t ms))) (sym passes) (
           follow.0.deep,
           step_of prev level m knows passes follow.0,
-          steps_of (Some m) m.region.depth ms (λ p is also. ap (λ (x : Member). x.region.depth) (some_same m p is)) follow.1,
+          steps_of (Some m) m.region.depth ms (λ p is also. ap (λ (x : Member). x.region.depth) (same_Some m p is)) follow.1,
         )
     | inr fails ↦
         subst (λ b. Steps level (cond b (m ∷ filter t ms) (filter t ms))) (sym fails)
-        (steps_of (Some m) level ms (λ p is passes. absurd (true_not_false (t p) passes (sym (ap t (some_same m p is)) ∙ fails))) follow.1)
+        (steps_of (Some m) level ms (λ p is passes. absurd (both_ways (t p) (sym (ap t (same_Some m p is)) ∙ fails) passes)) follow.1)
   ]
 
 -- ---- members of lines that are chained
@@ -133,26 +118,18 @@ follow_lines lines (line ∷ rest) k prev chained is before =
           ∙ ap (λ (l : Line). Some l) (get_or_default lines p line d (omega (arith, same, inside))))),
     )
 
-no_line : (p : Line) → None ≡ Some p → ⊥
-no_line p is = cc
-
-line_same : (line p : Line) → Some line ≡ Some p → line ≡ p
-line_same line p is = cc
-
 -- a member is of a line
 abbrev pub IsOfLineBefore : Option Line → Option Member → Type 0
 IsOfLineBefore None None = Unit {0}
 IsOfLineBefore None (Some m) = ⊥
 IsOfLineBefore (Some line) None = ⊥
-IsOfLineBefore (Some line) (Some m) = (headed_member m ≡ headed_line line) × (m.top ≡ line.top)
+IsOfLineBefore (Some line) (Some m) = headed_member m ≡ headed_line line
 
 member_before : (prev : Option Line) (mine : Option Member) (p : Line) → IsOfLineBefore prev mine → prev ≡ Some p
-    → (m : Member) × (mine ≡ Some m) × (headed_member m ≡ headed_line p) × (m.top ≡ p.top)
-member_before None mine p of is = absurd (no_line p is)
+    → (m : Member) × (mine ≡ Some m) × (headed_member m ≡ headed_line p)
+member_before None mine p of is = absurd (none-some p is)
 member_before (Some line) None p of is = absurd of
-member_before (Some line) (Some m) p of is =
-    let same : line ≡ p = line_same line p is in
-    (m, refl, of.0 ∙ ap headed_line same, of.1 ∙ ap (λ (l : Line). l.top) same)
+member_before (Some line) (Some m) p of is = (m, refl, of ∙ ap headed_line (same_Some line p is))
 
 lost_told : (lost : Bool) (number : ℕ) (section : Option ℕ) → (if lost then Lost else Section number) ≡ heading_in section → IsTrue lost → section ≡ None
 lost_told true number None is holds = refl
@@ -169,11 +146,12 @@ number_told true other number n mine yours is = absurd (let no : ⊥ = cc in no)
 number_told false true number n mine yours is = absurd (let no : ⊥ = cc in no)
 number_told false false number n mine yours is = cc
 
-follows_member : (prev : Option Line) (mine : Option Member) (line : Line) (m : Member) → IsOfLineBefore prev mine → headed_member m ≡ headed_line line → m.top ≡ line.top
+follows_member : (prev : Option Line) (mine : Option Member) (line : Line) (m : Member) → IsOfLineBefore prev mine → headed_member m ≡ headed_line line
     → ((0 < line.region.depth) × (line.section ≡ None → line.region.depth ≤ 1) × (1 < line.region.depth → (p : Line) × (prev ≡ Some p) × FollowsLine p line))
     → FollowsMember mine m
-follows_member prev mine line m of head top follows =
+follows_member prev mine line m of head follows =
     let depth : m.region.depth ≡ line.region.depth = ap (λ h. h.depth) head in
+    let top : m.top ≡ line.top = ap (λ h. h.top) head in
     let heading : (if m.is_lost then Lost else Section m.section) ≡ heading_in line.section = ap (λ h. h.heading) head in
     record {
       deep = omega (arith, follows.0, depth);
@@ -190,7 +168,7 @@ follows_member prev mine line m of head top follows =
             q.1,
             record {
               section = number_told q.0.is_lost m.is_lost q.0.section m.section is_mine is_other (above ∙ ap heading_in b.2.section ∙ sym heading);
-              top = q.3 ∙ b.2.top ∙ sym top;
+              top = ap (λ h. h.top) q.2 ∙ b.2.top ∙ sym top;
               mine = is_mine;
               other = is_other;
             },
@@ -199,165 +177,14 @@ follows_member prev mine line m of head top follows =
     }
 
 follow_members : (prev : Option Line) (mine : Option Member) (lines : List Line) (ms : List Member) → IsOfLineBefore prev mine → map headed_member ms ≡ map headed_line lines
-    → map (λ (m : Member). m.top) ms ≡ map (λ (l : Line). l.top) lines → FollowLines prev lines → Follow mine ms
-follow_members prev mine lines [] of heads tops follow = tt
-follow_members prev mine [] (m ∷ ms) of heads tops follow = absurd (let size = ap (λ l. length l) tops in let no : ⊥ = omega (arith, size) in no)
-follow_members prev mine (line ∷ lines) (m ∷ ms) of heads tops follow =
-    let head : headed_member m ≡ headed_line line = ap (λ l. slice_index_or l 0 (headed_line line)) heads in
-    let top : m.top ≡ line.top = ap (λ l. slice_index_or l 0 0) tops in (
-      follows_member prev mine line m of head top follow.0,
-      follow_members (Some line) (Some m) lines ms (head, top) (ap (λ l. drop 1 l) heads) (ap (λ l. drop 1 l) tops) follow.1,
+    → FollowLines prev lines → Follow mine ms
+follow_members prev mine lines [] of heads follow = tt
+follow_members prev mine [] (m ∷ ms) of heads follow = absurd (let size = ap (λ l. length l) heads in let no : ⊥ = omega (arith, size) in no)
+follow_members prev mine (line ∷ lines) (m ∷ ms) of heads follow =
+    let head : headed_member m ≡ headed_line line = ap (λ l. slice_index_or l 0 (headed_line line)) heads in (
+      follows_member prev mine line m of head follow.0,
+      follow_members (Some line) (Some m) lines ms head (ap (λ l. drop 1 l) heads) follow.1,
     )
-
--- ---- the order of the sort
-
-abbrev compared : Member → Member → Ordering
-compared x y =
-    ordering_then (ordering_then (nat_cmp x.section y.section) (bool_cmp x.is_lost y.is_lost))
-    (ordering_then (nat_cmp ((rank_of x).0) ((rank_of y).0)) (nat_cmp ((rank_of x).1) ((rank_of y).1)))
-
-abbrev comes_before : Member → Member → Bool
-comes_before x y = is_lt (compared x y)
-
--- a member stands inside the same line of depth 1 as one in place
-abbrev is_beside : Member → Member → Bool
-is_beside x m = (m.section == x.section) && (not m.is_lost && (m.top == x.top))
-
--- two numbers, compared both ways
-record IsBelow (a b : ℕ) : Type 0 where
-  pub low : a < b
-  pub one : nat_cmp a b ≡ Less
-  pub other : nat_cmp b a ≡ Greater
-  pub apart : (b == a) ≡ false
-  pub apart_too : (a == b) ≡ false
-
-record IsEqual (a b : ℕ) : Type 0 where
-  pub is : a ≡ b
-  pub one : nat_cmp a b ≡ Equal
-  pub other : nat_cmp b a ≡ Equal
-  pub alike : (b == a) ≡ true
-
-less_of : (a b : ℕ) → a < b → IsBelow a b
-less_of a b low = record {
-  low = low;
-  one = sym (nat_cmp_is a b Less low);
-  other = sym (nat_cmp_is b a Greater low);
-  apart = ne_eqb b a (λ same. omega (arith, low, same));
-  apart_too = ne_eqb a b (λ same. omega (arith, low, same));
-}
-
-both_ways : (a b : ℕ) → IsBelow a b ⊎ (IsBelow b a ⊎ IsEqual a b)
-both_ways a b = elim (cases_lt a b) [
-  | inl low ↦ inl (less_of a b low)
-  | inr high ↦ elim (cases_lt b a) [
-    | inl low ↦ inr (inl (less_of b a low))
-    | inr also ↦
-        let is : a ≡ b = omega (arith, high, also) in
-        inr (inr (record { is = is; one = sym (nat_cmp_is a b Equal is); other = sym (nat_cmp_is b a Equal (sym is)); alike = eq-eqb b a (sym is) }))
-  ]
-]
-
-tie_by_top : (a b : ℕ)
-    → (not (is_lt (ordering_then (nat_cmp a b) (nat_cmp 0 0))) && not (is_lt (ordering_then (nat_cmp b a) (nat_cmp 0 0)))) ≡ (b == a)
-tie_by_top a b = elim (both_ways a b) [
-  | inl less ↦ rw (less.one, less.apart) refl
-  | inr more ↦ elim more [
-    | inl less ↦ rw (less.other, less.one, less.apart_too) refl
-    | inr same ↦ rw (same.one, same.other, same.alike) refl
-  ]
-]
-
-abbrev rank_by : Bool → ℕ → ℕ → ℕ → ℕ × ℕ
-rank_by lost first key top = if lost then (first, key) else (top, 0)
-
-abbrev compared_in_section : Bool → Bool → ℕ × ℕ → ℕ × ℕ → Ordering
-compared_in_section lost other one two = ordering_then (bool_cmp lost other) (ordering_then (nat_cmp one.0 two.0) (nat_cmp one.1 two.1))
-
-tie_in_section : (lost other : Bool) (a b first key one two : ℕ) → lost ≡ false
-    → (not (is_lt (compared_in_section lost other (rank_by lost one two a) (rank_by other first key b)))
-    && not (is_lt (compared_in_section other lost (rank_by other first key b) (rank_by lost one two a)))) ≡ (not other && (b == a))
-tie_in_section true other a b first key one two inside = absurd (true_not_false true refl inside)
-tie_in_section false true a b first key one two inside = refl
-tie_in_section false false a b first key one two inside = tie_by_top a b
-
-then_then : (one two three : Ordering) → ordering_then (ordering_then one two) three ≡ ordering_then one (ordering_then two three)
-then_then Less two three = refl
-then_then Equal two three = refl
-then_then Greater two three = refl
-
-tie_by_section : (s t : ℕ) (one other : Ordering) (rest : Bool) → (not (is_lt one) && not (is_lt other)) ≡ rest
-    → (not (is_lt (ordering_then (nat_cmp s t) one)) && not (is_lt (ordering_then (nat_cmp t s) other))) ≡ ((t == s) && rest)
-tie_by_section s t one other rest is = elim (both_ways s t) [
-  | inl less ↦ rw (less.one, less.apart) refl
-  | inr more ↦ elim more [
-    | inl less ↦ rw (less.other, less.one, less.apart_too) refl
-    | inr same ↦ rw (same.one, same.other, same.alike) is
-  ]
-]
-
-tie_is : (x m : Member) → x.is_lost ≡ false → ties comes_before x m ≡ is_beside x m
-tie_is x m inside =
-    ap₂ (λ a b. not (is_lt a) && not (is_lt b))
-    (then_then (nat_cmp x.section m.section) (bool_cmp x.is_lost m.is_lost) _) (then_then (nat_cmp m.section x.section) (bool_cmp m.is_lost x.is_lost) _)
-    ∙ tie_by_section x.section m.section (compared_in_section x.is_lost m.is_lost (rank_of x) (rank_of m)) (compared_in_section m.is_lost x.is_lost (rank_of m) (rank_of x))
-    (not m.is_lost && (m.top == x.top))
-    (tie_in_section x.is_lost m.is_lost x.top m.top m.region.first m.region.key x.region.first x.region.key inside)
-
--- ---- sorted members
-
--- a member in place comes behind another one: it is of a later section, or behind the line of depth 1 that the other stands inside
-abbrev IsBehind : Member → Member → Type 0
-IsBehind p m = (p.section < m.section) ⊎ ((p.section ≡ m.section) × (p.is_lost ≡ false) × (p.top < m.top))
-
-record ComesAfter (p m : Member) : Type 0 where
-  pub section : p.section ≤ m.section
-  pub place : m.is_lost ≡ false → IsBehind p m ⊎ AreTogether p m
-
-yes_no : (b : Bool) → true ≡ b → b ≡ false → ⊥
-yes_no b holds fails = cc
-
-after_in_section : (p m : Member) → p.section ≡ m.section → nat_cmp m.section p.section ≡ Equal → m.is_lost ≡ false → comes_before m p ≡ false
-    → IsBehind p m ⊎ AreTogether p m
-after_in_section p m same equal inside is = elim (cases_Bool p.is_lost) [
-  | inl lost ↦ absurd (yes_no (comes_before m p) (sym (rw (equal, inside, lost) refl)) is)
-  | inr there ↦ elim (both_ways m.top p.top) [
-    | inl less ↦ absurd (yes_no (comes_before m p) (sym (rw (equal, inside, there, less.one) refl)) is)
-    | inr more ↦ elim more [
-      | inl less ↦ inl (inr (same, there, less.low))
-      | inr alike ↦ inr (record { section = same; top = sym alike.is; mine = there; other = inside })
-    ]
-  ]
-]
-
-comes_after : (p m : Member) → comes_before m p ≡ false → ComesAfter p m
-comes_after p m is =
-    let section : p.section ≤ m.section =
-    ge_from_not_lt m.section p.section (first_not_less (nat_cmp m.section p.section) (bool_cmp m.is_lost p.is_lost)
-    (first_not_less (ordering_then (nat_cmp m.section p.section) (bool_cmp m.is_lost p.is_lost)) _ is)) in
-    record {
-      section = section;
-      place = λ inside. elim (both_ways p.section m.section) [
-        | inl less ↦ inl (inl less.low)
-        | inr more ↦ elim more [
-          | inl less ↦ absurd (let low = less.low in let no : ⊥ = omega (arith, low, section) in no)
-          | inr same ↦ after_in_section p m same.is same.other inside is
-        ]
-      ];
-    }
-
-abbrev InOrder : List Member → Type 0
-InOrder [] = Unit {0}
-InOrder (p ∷ []) = Unit {0}
-InOrder (p ∷ m ∷ ms) = ComesAfter p m × InOrder (m ∷ ms)
-
-abbrev IsSortedAt : List Member → Type 0
-IsSortedAt ms = (k : ℕ) (d : Member) → suc k < length ms → comes_before (slice_index_or ms (suc k) d) (slice_index_or ms k d) ≡ false
-
-in_order : (ms : List Member) → IsSortedAt ms → InOrder ms
-in_order [] sorted = tt
-in_order (p ∷ []) sorted = tt
-in_order (p ∷ m ∷ ms) sorted =
-    (comes_after p m (sorted 0 p (omega arith)), in_order (m ∷ ms) (λ k d inside. sorted (suc k) d (omega (arith, inside))))
 
 -- members are not deep without a reason
 record IsSound (m : Member) : Type 0 where
@@ -378,17 +205,6 @@ beside_alike p m is x = rw (is.section, is.top) refl
 beside_not : (m x : Member) → IsBehind m x → is_beside x m ≡ false
 beside_not m x (inl later) = rw (ne_eqb m.section x.section (λ same. omega (arith, later, same))) refl
 beside_not m x (inr above) = rw (eq-eqb m.section x.section above.0, above.1, ne_eqb m.top x.top (λ same. (let low = above.2 in omega (arith, low, same)))) refl
-
-further : (p m x : Member) → IsBehind p m → (m.section ≡ x.section) × (m.is_lost ≡ false) × (m.top < x.top) → IsBehind p x
-further p m x (inl later) above = let same = above.0 in inl (omega (arith, later, same))
-further p m x (inr below) above = inr (below.0 ∙ above.0, below.1, (let one = below.2 in let two = above.2 in omega (arith, one, two)))
-
-behind_both : (p m x : Member) → ComesAfter p m → IsBehind m x → IsBehind p x
-behind_both p m x after (inl later) = let low = after.section in inl (omega (arith, low, later))
-behind_both p m x after (inr above) = elim (after.place above.1) [
-  | inl behind ↦ further p m x behind above
-  | inr together ↦ inr (together.section ∙ above.0, together.mine, (let low = above.2 in let same = together.top in omega (arith, low, same)))
-]
 
 abbrev LaterStep : Member → List Member → Type 0
 LaterStep p ms = (x : Member) → x.is_lost ≡ false → IsBehind p x → Steps 0 (filter (is_beside x) ms)
@@ -420,7 +236,7 @@ follow_sorted p (m ∷ ms) order sound own later =
     elim (cases_Bool m.is_lost) [
       | inl lost ↦ (
         record { deep = one.deep; flat = one.flat; behind = λ deep. absurd (flat_or_deep m lost one deep) },
-        follow_sorted m ms order.1 rest (λ inside. absurd (true_not_false m.is_lost lost inside)) more,
+        follow_sorted m ms order.1 rest (λ inside. absurd (both_ways m.is_lost inside lost)) more,
       )
       | inr inside ↦ elim (order.0.place inside) [
         | inl behind ↦
@@ -445,7 +261,7 @@ follow_all (m ∷ ms) order sound steps =
     elim (cases_Bool m.is_lost) [
       | inl lost ↦ (
         record { deep = one.deep; flat = one.flat; behind = λ deep. absurd (flat_or_deep m lost one deep) },
-        follow_sorted m ms order (All-tail IsSound m ms sound) (λ inside. absurd (true_not_false m.is_lost lost inside)) later,
+        follow_sorted m ms order (All-tail IsSound m ms sound) (λ inside. absurd (both_ways m.is_lost inside lost)) later,
       )
       | inr inside ↦
           let own : Steps 0 (m ∷ filter (is_beside m) ms) = taken_in (is_beside m) 0 m ms (beside_itself m inside) (steps m inside) in (
@@ -462,11 +278,8 @@ beside_one x p m is = rw (is.section, is.top, is.mine, is.other) refl
 in_place_same : (number : ℕ) (p m : Member) → AreTogether p m → is_member_in_place number p ≡ is_member_in_place number m
 in_place_same number p m is = rw (is.section, is.mine, is.other) refl
 
-no_member : (p : Member) → None ≡ Some p → ⊥
-no_member p is = cc
-
 nobody : (t : Member → Bool) (level : ℕ) (p : Member) → None ≡ Some p → t p ≡ true → level ≡ p.region.depth
-nobody t level p is passes = absurd (no_member p is)
+nobody t level p is passes = absurd (none-some p is)
 
 not_lost_if : (p m : Member) → IsBehind p m → p.section ≡ m.section → p.is_lost ≡ false
 not_lost_if p m (inl later) same = absurd (let no : ⊥ = omega (arith, later, same) in no)
@@ -486,7 +299,7 @@ place_rises : (p m : Member) → comes_before m p ≡ false → member_number p 
 place_rises p m is =
     let after = comes_after p m is in
     let low = after.section in
-    elim (both_ways p.section m.section) [
+    elim (two_ways p.section m.section) [
       | inl less ↦ let up = less.low in place_by p.is_lost m.is_lost p.section m.section (inl up)
       | inr more ↦ elim more [
         | inl less ↦ absurd (let up = less.low in let no : ⊥ = omega (arith, up, low) in no)
@@ -500,16 +313,11 @@ place_rises p m is =
       ]
     ]
 
-sorted_at : (ms : List Member) → IsSortedBy comes_before ms → IsSortedAt ms
-sorted_at ms sorted k d inside =
-    let same : k + 1 ≡ suc k = omega arith in
-    subst (λ (i : ℕ). comes_before (slice_index_or ms i d) (slice_index_or ms k d) ≡ false) same (sorted k d (omega arith) (omega (arith, inside)))
-
 pub indented_members : (lines : List Line) (old new : List Member) → AreChained lines → map headed_member old ≡ map headed_line lines
-    → map (λ (m : Member). m.top) old ≡ map (λ (l : Line). l.top) lines → IsPermutation old new → IsSortedBy comes_before new → IsStableBy comes_before old new
+    → IsPermutation old new → IsSortedBy comes_before new → IsStableBy comes_before old new
     → AreIndentedBySection new
-indented_members lines old new chained heads tops moved sorted stable =
-    let follow : Follow None old = follow_members None None lines old tt heads tops (follow_lines lines lines 0 None chained refl (λ p d is. absurd (let no : ⊥ = omega (arith, is) in no))) in
+indented_members lines old new chained heads moved sorted stable =
+    let follow : Follow None old = follow_members None None lines old tt heads (follow_lines lines lines 0 None chained refl (λ p d is. absurd (let no : ⊥ = omega (arith, is) in no))) in
     let sound : All IsSound new = All-permutation IsSound old new moved (all_sound None old follow) in
     let steps : (x : Member) → x.is_lost ≡ false → Steps 0 (filter (is_beside x) new) = λ x inside.
     subst (λ l. Steps 0 l)

@@ -138,26 +138,26 @@ deep_by : (taken : Bool) (steps level : ℕ) → 0 < steps → 0 < min (if taken
 deep_by true steps level some = omega arith
 deep_by false steps level some = omega (arith, some)
 
-deep_behind : (heading : Heading) (taken : Bool) (steps level : ℕ) → 0 < steps → 0 < depth_behind (reading_at heading taken level) steps
+deep_behind : (heading : Heading) (taken : Bool) (steps level top : ℕ) → 0 < steps → 0 < depth_behind (reading_at heading taken level top) steps
 unfolding depth_behind
-deep_behind (Section n) taken steps level some = deep_by taken steps level some
-deep_behind Lost taken steps level some = omega arith
-deep_behind Off taken steps level some = omega arith
+deep_behind (Section n) taken steps level top some = deep_by taken steps level some
+deep_behind Lost taken steps level top some = omega arith
+deep_behind Off taken steps level top some = omega arith
 
 at_most : (one other : ℕ) → min one other ≤ other
 at_most one other = omega arith
 
-one_step : (heading : Heading) (taken : Bool) (steps level : ℕ) → depth_behind (reading_at heading taken level) steps ≤ level + 1
+one_step : (heading : Heading) (taken : Bool) (steps level top : ℕ) → depth_behind (reading_at heading taken level top) steps ≤ level + 1
 unfolding depth_behind
-one_step (Section n) taken steps level = at_most _ (level + 1)
-one_step Lost taken steps level = omega arith
-one_step Off taken steps level = omega arith
+one_step (Section n) taken steps level top = at_most _ (level + 1)
+one_step Lost taken steps level top = omega arith
+one_step Off taken steps level top = omega arith
 
-flat_if_lost : (heading : Heading) (taken : Bool) (steps level : ℕ) → heading ≡ Lost → depth_behind (reading_at heading taken level) steps ≤ 1
+flat_if_lost : (heading : Heading) (taken : Bool) (steps level top : ℕ) → heading ≡ Lost → depth_behind (reading_at heading taken level top) steps ≤ 1
 unfolding depth_behind
-flat_if_lost (Section n) taken steps level is = absurd (not_lost n (sym is))
-flat_if_lost Lost taken steps level is = omega arith
-flat_if_lost Off taken steps level is = omega arith
+flat_if_lost (Section n) taken steps level top is = absurd (not_lost n (sym is))
+flat_if_lost Lost taken steps level top is = omega arith
+flat_if_lost Off taken steps level top is = omega arith
 
 -- a region that stands below what was read
 pub stands_within : {A : Type 0} (old new : Reader A) (region : Region) (blanks : ℕ) → 2 ≤ blanks → region.depth ≡ depth_behind (reading_of old) (blanks / 2)
@@ -166,12 +166,12 @@ pub stands_within : {A : Type 0} (old new : Reader A) (region : Region) (blanks 
 stands_within old new region blanks wide is items heading level top read =
     let steps : ℕ = blanks / 2 in
     let some : 0 < steps = omega (arith, wide) in
-    let deep = deep_behind old.heading old.is_taken steps old.level some in
-    let step = one_step old.heading old.is_taken steps old.level in
+    let deep = deep_behind old.heading old.is_taken steps old.level old.top some in
+    let step = one_step old.heading old.is_taken steps old.level old.top in
     record {
       deep = omega (arith, deep, is);
       level = level;
-      lost = λ lost. let flat = flat_if_lost old.heading old.is_taken steps old.level (sym heading ∙ lost) in omega (arith, flat, is);
+      lost = λ lost. let flat = flat_if_lost old.heading old.is_taken steps old.level old.top (sym heading ∙ lost) in omega (arith, flat, is);
       behind = λ more number in_section.
           let last = read.last (let up : 0 < old.level = omega (arith, more, step, is) in up) number (sym heading ∙ in_section) in (
             old.level,

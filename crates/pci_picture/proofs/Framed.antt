@@ -6,6 +6,7 @@ use Rattle.std.proofs.lemmas.List.{map-append, map_more, take_all}
 use Rattle.std.proofs.lemmas.List.Elements.{All-append, All-cons, All-nil, Contains-get_or}
 use Rattle.pci_picture.specs.Canvases.{AddsToCanvas, AddsSome}
 use Rattle.pci_picture.specs.Drawings.{IsFramed, IsFramedAt, ArePlanned, AreFramed, AreOfSection}
+use Rattle.pci_picture.specs.Looks.{Look, looks_placed, looks_up_to}
 use Rattle.pci_picture.specs.Maps.{lines_of_regions, regions_of_members, regions_placed}
 use Rattle.pci_picture.specs.Sides.{sides_of_width, StandBesideIn, count_in_place, widths_placed}
 use Rattle.pci_picture.specs.Spots.{BoxSpot, first_address, region_last_address, spot_at, lines_drawn, IsEndOf, Rise, BoxStandsAt}
@@ -21,10 +22,10 @@ use Rattle.pci_picture.proofs.Boxes.{then_adds, then_keeps, then_some, unchanged
 
 -- ---- one box more
 
-framed_at : (region : Region) (height_of : ℕ → ℕ) (x y width height : ℕ) → IsFramed height_of region.first region.last y height
-    → IsFramedAt height_of (spot_at x y width height region.line.now)
+framed_at : (region : Region) (height_of : ℕ → ℕ) (x y width height : ℕ) (class : List ℕ) → IsFramed height_of region.first region.last y height
+    → IsFramedAt height_of (spot_at x y width height class region.line.now)
 unfolding first_address region_last_address
-framed_at region height_of x y width height framed =
+framed_at region height_of x y width height class framed =
     let first : region.first ≡ first_address region.line.now = region.ends.first_is in
     let last : region.last ≡ region_last_address region.line.now = region.ends.last_is in
     record {
@@ -35,21 +36,21 @@ framed_at region height_of x y width height framed =
       };
     }
 
-pub none_framed : {A : Type 0} (runs : List Run) (bottom : ℕ) (canvas : Canvas A) → AddsSome (AreFramed [] runs bottom) canvas canvas
-none_framed runs bottom canvas = record {
+pub none_framed : {A : Type 0} (look : Look) (runs : List Run) (bottom : ℕ) (canvas : Canvas A) → AddsSome (AreFramed look [] runs bottom) canvas canvas
+none_framed look runs bottom canvas = record {
   spots = [];
-  hold = record { drawn = refl; sides = refl; framed = λ sorted. All-nil (IsFramedAt (height_at runs bottom)) };
+  hold = record { drawn = refl; looks = refl; sides = refl; framed = λ sorted. All-nil (IsFramedAt (height_at runs bottom)) };
   adds = unchanged canvas;
 }
 
-pub box_more : {A : Type 0} (places : List Placed) (i : ℕ) (placed : Placed) (runs : List Run) (bottom x y width height : ℕ) (first before between after : Canvas A)
+pub box_more : {A : Type 0} (look : Look) (places : List Placed) (i : ℕ) (placed : Placed) (runs : List Run) (bottom x y width height : ℕ) (first before between after : Canvas A)
     → i < length places → placed ≡ get_or places i placed
-    → AddsSome (AreFramed (take i places) runs bottom) first before
+    → AddsSome (AreFramed look (take i places) runs bottom) first before
     → (IsNonDecreasingBy (λ (run : Run). run.begin) runs → IsFramed (height_at runs bottom) placed.region.first placed.region.last y height)
     → x ≡ placed.width.left → width ≡ max 1 (placed.width.right - placed.width.left - 2)
-    → AddsToCanvas (spot_at x y width height placed.region.line.now ∷ []) before between → AddsToCanvas [] between after
-    → AddsSome (AreFramed (take (i + 1) places) runs bottom) first after
-box_more places i placed runs bottom x y width height first before between after inside at done framed left wide one kept =
+    → AddsToCanvas (spot_at x y width height (look placed.is_lost placed.region.line.now) placed.region.line.now ∷ []) before between → AddsToCanvas [] between after
+    → AddsSome (AreFramed look (take (i + 1) places) runs bottom) first after
+box_more look places i placed runs bottom x y width height first before between after inside at done framed left wide one kept =
     let more : lines_of_regions (regions_placed (take (i + 1) places)) ≡ lines_of_regions (regions_placed (take i places)) ++ placed.region.line.now ∷ [] =
     ap lines_of_regions (map_more (λ p. p.region) places i placed inside)
     ∙ map-append (λ r. r.line.now) (regions_placed (take i places)) _
@@ -60,25 +61,30 @@ box_more places i placed runs bottom x y width height first before between after
     ap (map sides_of_width) widths ∙ map-append sides_of_width (widths_placed (take i places)) (placed.width ∷ [])
     ∙ ap (λ (s : ℕ). map sides_of_width (widths_placed (take i places)) ++ (s, max 1 (placed.width.right - placed.width.left - 2)) ∷ []) (sym left)
     ∙ ap (λ (s : ℕ). map sides_of_width (widths_placed (take i places)) ++ (x, s) ∷ []) (sym wide) in
-    let spot : BoxSpot = spot_at x y width height placed.region.line.now in
+    let class : List ℕ = look placed.is_lost placed.region.line.now in
+    let looks : looks_placed look (take (i + 1) places) ≡ looks_placed look (take i places) ++ class ∷ [] =
+    map_more (λ p. look p.is_lost p.region.line.now) places i placed inside
+    ∙ ap (λ (p : Placed). looks_placed look (take i places) ++ look p.is_lost p.region.line.now ∷ []) (sym at) in
+    let spot : BoxSpot = spot_at x y width height class placed.region.line.now in
     record {
       spots = done.spots ++ spot ∷ [];
       hold = record {
         drawn = map-append (λ s. s.line) done.spots (spot ∷ []) ∙ ap (λ l. l ++ placed.region.line.now ∷ []) done.hold.drawn ∙ sym more;
+        looks = map-append (λ s. s.class) done.spots (spot ∷ []) ∙ ap (λ l. l ++ class ∷ []) done.hold.looks ∙ sym looks;
         sides = map-append (λ (s : BoxSpot). (s.x, s.width)) done.spots (spot ∷ []) ∙ ap (λ l. l ++ (x, width) ∷ []) done.hold.sides ∙ sym sides;
         framed = λ sorted.
             All-append (IsFramedAt (height_at runs bottom)) done.spots (spot ∷ []) (done.hold.framed sorted)
-            (All-cons (IsFramedAt (height_at runs bottom)) spot [] (framed_at placed.region (height_at runs bottom) x y width height (framed sorted))
+            (All-cons (IsFramedAt (height_at runs bottom)) spot [] (framed_at placed.region (height_at runs bottom) x y width height class (framed sorted))
             (All-nil (IsFramedAt (height_at runs bottom))));
       };
       adds = then_keeps (done.spots ++ spot ∷ []) first between after (then_adds done.spots (spot ∷ []) first before between done.adds one) kept;
     }
 
-pub all_framed : {A : Type 0} (places : List Placed) (i : ℕ) (runs : List Run) (bottom : ℕ) (first after : Canvas A) → length places ≤ i
-    → AddsSome (AreFramed (take i places) runs bottom) first after
-    → AddsSome (AreFramed places runs bottom) first after
-all_framed places i runs bottom first after past done =
-    subst (λ l. AddsSome (AreFramed l runs bottom) first after) (take_all i places past) done
+pub all_framed : {A : Type 0} (look : Look) (places : List Placed) (i : ℕ) (runs : List Run) (bottom : ℕ) (first after : Canvas A) → length places ≤ i
+    → AddsSome (AreFramed look (take i places) runs bottom) first after
+    → AddsSome (AreFramed look places runs bottom) first after
+all_framed look places i runs bottom first after past done =
+    subst (λ l. AddsSome (AreFramed look l runs bottom) first after) (take_all i places past) done
 
 -- ---- the boxes of a section stand
 
@@ -104,14 +110,16 @@ all_stand height_of spots rise framed k d lt =
     (omega (arith, up)))
     (framed k d lt)
 
-of_section : (site : Site) (members : List Member) (placed : List Placed) (runs : List Run) (bottom end : ℕ) (spots : List BoxSpot) → AreFramed placed runs bottom spots
+of_section : (look : Look) (site : Site) (members : List Member) (placed : List Placed) (runs : List Run) (bottom end : ℕ) (spots : List BoxSpot) → AreFramed look placed runs bottom spots
     → regions_placed placed ≡ regions_of_members members → bottom ≤ end
     → (bottom < 2 ^ 64 - 1 → ArePlanned (lines_of_regions (regions_of_members members)) runs bottom)
-    → StandBesideIn site (count_in_place members) (regions_of_members members) (widths_placed placed) → AreOfSection site members end spots
-of_section site members placed runs bottom end spots framed is above planned beside =
+    → looks_placed look placed ≡ looks_up_to look (count_in_place members) (regions_of_members members)
+    → StandBesideIn site (count_in_place members) (regions_of_members members) (widths_placed placed) → AreOfSection look site members end spots
+of_section look site members placed runs bottom end spots framed is above planned looks beside =
     let drawn : lines_drawn spots ≡ lines_of_regions (regions_of_members members) = framed.drawn ∙ ap lines_of_regions is in
     record {
       drawn = drawn;
+      looks = framed.looks ∙ looks;
       stand = λ small.
           let plan = planned (omega (arith, above, small)) in
           let rise : Rise (lines_drawn spots) (height_at runs bottom) = subst (λ l. Rise l (height_at runs bottom)) (sym drawn) plan.rise in
@@ -123,13 +131,14 @@ of_section site members placed runs bottom end spots framed is above planned bes
       beside = record { widths = widths_placed placed; sides = framed.sides; beside = beside };
     }
 
-pub adds_section : {A : Type 0} (site : Site) (members : List Member) (placed : List Placed) (runs : List Run) (bottom end : ℕ) (before between after : Canvas A)
-    → AddsToCanvas [] before between → AddsSome (AreFramed placed runs bottom) between after → regions_placed placed ≡ regions_of_members members
+pub adds_section : {A : Type 0} (look : Look) (site : Site) (members : List Member) (placed : List Placed) (runs : List Run) (bottom end : ℕ) (before between after : Canvas A)
+    → AddsToCanvas [] before between → AddsSome (AreFramed look placed runs bottom) between after → regions_placed placed ≡ regions_of_members members
     → bottom ≤ end → (bottom < 2 ^ 64 - 1 → ArePlanned (lines_of_regions (regions_of_members members)) runs bottom)
-    → StandBesideIn site (count_in_place members) (regions_of_members members) (widths_placed placed) → AddsSome (AreOfSection site members end) before after
-adds_section site members placed runs bottom end before between after head done is above planned beside =
-    then_some (AreOfSection site members end) before between after head (record {
+    → looks_placed look placed ≡ looks_up_to look (count_in_place members) (regions_of_members members)
+    → StandBesideIn site (count_in_place members) (regions_of_members members) (widths_placed placed) → AddsSome (AreOfSection look site members end) before after
+adds_section look site members placed runs bottom end before between after head done is above planned looks beside =
+    then_some (AreOfSection look site members end) before between after head (record {
       spots = done.spots;
-      hold = of_section site members placed runs bottom end done.spots done.hold is above planned beside;
+      hold = of_section look site members placed runs bottom end done.spots done.hold is above planned looks beside;
       adds = done.adds;
     })

@@ -11,8 +11,9 @@ use Rattle.std.proofs.lemmas.List.Quantifiers.{all_pairs_push}
 use Rattle.std.proofs.lemmas.List.Sorted.{IsPermutation-append_comm, IsPermutation-append_left, IsPermutation-filter_both, IsPermutation-map, IsPermutation-sym, IsPermutation-trans, length_permutation}
 use Rattle.pci_picture.specs.Drawings.{AreGrouped, AreOfSection, AreOfSections, Group, HasRoomOf, IsGroup, members_of_groups, sections_of}
 use Rattle.pci_picture.specs.Headings.{AreSectionsOf, Headed, IsSectionOf, is_below_heading, is_lost, is_below_no_heading, is_section, lines_below_headings}
+use Rattle.pci_picture.specs.Looks.{Look}
 use Rattle.pci_picture.specs.Maps.{AreMembersOf, headed_line, headed_member, lines_of_regions, regions_of_members, regions_under}
-use Rattle.pci_picture.specs.Members.{AreIndentedBySection, member_number}
+use Rattle.pci_picture.specs.Members.{AreIndentedBySection, AreSortedBySection, member_number}
 use Rattle.pci_picture.specs.Nested.{HasNestedBoxes}
 use Rattle.pci_picture.specs.Roots.{IsLostByRoot, Listed}
 use Rattle.pci_picture.specs.Spots.{AreBoxesStanding, Section, BoxSpot, all_of, lines_drawn}
@@ -83,26 +84,26 @@ filter_other number other (member ∷ members) apart alike =
     (filter_other number other members apart (All-tail (λ m. m.section ≡ other) member members alike))
 
 -- no member is in a section of a lower number
-filter_later : (number : ℕ) (groups : List Group) → All (λ section. number < section.number) (sections_of groups) → All IsGroup groups
+filter_later : {look : Look} (number : ℕ) (groups : List Group) → All (λ section. number < section.number) (sections_of groups) → All (IsGroup look) groups
     → filter (is_in number) (members_of_groups groups) ≡ []
-filter_later number [] later each = refl
-filter_later number (group ∷ groups) later each =
+filter_later {look} number [] later each = refl
+filter_later {look} number (group ∷ groups) later each =
     let less : number < group.section.number = All-head (λ section. number < section.number) group.section (sections_of groups) later in
-    let one : IsGroup group = All-head IsGroup group groups each in
+    let one : IsGroup look group = All-head (IsGroup look) group groups each in
     filter-append (is_in number) group.members (members_of_groups groups)
     ∙ ap (λ l. l ++ filter (is_in number) (members_of_groups groups))
     (filter_other number group.section.number group.members (λ same. omega (arith, less, same)) one.alike)
-    ∙ filter_later number groups (All-tail (λ section. number < section.number) group.section (sections_of groups) later) (All-tail IsGroup group groups each)
+    ∙ filter_later number groups (All-tail (λ section. number < section.number) group.section (sections_of groups) later) (All-tail (IsGroup look) group groups each)
 
 abbrev HasMembers : List Member → Group → Type 0
 HasMembers members group = filter (is_in group.section.number) members ≡ group.members
 
 -- the members of a group are all those of its section
-later_groups : (first : Group) (groups : List Group) (members : List Member) → IsGroup first
+later_groups : {look : Look} (first : Group) (groups : List Group) (members : List Member) → IsGroup look first
     → (rest : List Group) → All (λ section. first.section.number < section.number) (sections_of rest) → All (HasMembers members) rest
     → All (HasMembers (first.members ++ members)) rest
-later_groups first groups members is [] later has = All-nil (HasMembers (first.members ++ members))
-later_groups first groups members is (group ∷ rest) later has =
+later_groups {look} first groups members is [] later has = All-nil (HasMembers (first.members ++ members))
+later_groups {look} first groups members is (group ∷ rest) later has =
     let less : first.section.number < group.section.number =
     All-head (λ section. first.section.number < section.number) group.section (sections_of rest) later in
     All-cons (HasMembers (first.members ++ members)) group rest
@@ -123,11 +124,11 @@ pairs_tail R x xs pairs i j d less inside = pairs (suc i) (suc j) d (omega (arit
 abbrev Rises : List Section → Type 0
 Rises sections = AllPairs (λ one other. one.number < other.number) sections
 
-all_members : (groups : List Group) → Rises (sections_of groups) → All IsGroup groups → All (HasMembers (members_of_groups groups)) groups
-all_members [] rise each = All-nil (HasMembers [])
-all_members (group ∷ groups) rise each =
-    let one : IsGroup group = All-head IsGroup group groups each in
-    let others : All IsGroup groups = All-tail IsGroup group groups each in
+all_members : {look : Look} (groups : List Group) → Rises (sections_of groups) → All (IsGroup look) groups → All (HasMembers (members_of_groups groups)) groups
+all_members {look} [] rise each = All-nil (HasMembers [])
+all_members {look} (group ∷ groups) rise each =
+    let one : IsGroup look group = All-head (IsGroup look) group groups each in
+    let others : All (IsGroup look) groups = All-tail (IsGroup look) group groups each in
     let later : All (λ section. group.section.number < section.number) (sections_of groups) =
     pairs_head (λ one other. one.number < other.number) group.section (sections_of groups) rise in
     let rest : Rises (sections_of groups) = pairs_tail (λ one other. one.number < other.number) group.section (sections_of groups) rise in
@@ -174,9 +175,9 @@ both_kinds regions =
     (IsPermutation-sym regions (lost ++ others)
     (IsPermutation-filter_both (λ region. is_lost region.heading) (λ region. not (is_lost region.heading)) (λ region. refl) regions))))
 
-section_of : (regions : List Headed) (members : List Member) (group : Group) → IsPermutation regions (map headed_member members)
-    → IsGroup group → HasMembers members group → IsSectionOf regions group.section
-section_of regions members group moved is has =
+section_of : {look : Look} (regions : List Headed) (members : List Member) (group : Group) → IsPermutation regions (map headed_member members)
+    → IsGroup look group → HasMembers members group → IsSectionOf regions group.section
+section_of {look} regions members group moved is has =
     let n : ℕ = group.section.number in
     let seats : List Headed = map headed_member group.members in
     let same : lines_below_headings (is_section n) (map headed_member members) ≡ lines_below_headings (λ heading. not (is_lost heading)) seats =
@@ -190,14 +191,14 @@ section_of regions members group moved is has =
     (subst (λ l. IsPermutation (lines_below_headings (is_section n) regions ++ lines_below_headings is_lost seats) l) (sym is.drawn) all)
 
 -- each number has a section or no line
-section_or_none : (number : ℕ) (groups : List Group) → All IsGroup groups
+section_or_none : {look : Look} (number : ℕ) (groups : List Group) → All (IsGroup look) groups
     → Any (λ section. section.number ≡ number) (sections_of groups) ⊎ (filter (is_in number) (members_of_groups groups) ≡ [])
-section_or_none number [] each = inr refl
-section_or_none number (group ∷ groups) each =
-    let one : IsGroup group = All-head IsGroup group groups each in
+section_or_none {look} number [] each = inr refl
+section_or_none {look} number (group ∷ groups) each =
+    let one : IsGroup look group = All-head (IsGroup look) group groups each in
     elim (eqb_tells group.section.number number) [
       | inl same ↦ inl (any_at (λ section. section.number ≡ number) (sections_of (group ∷ groups)) group.section (0, omega arith, refl) same.1)
-      | inr apart ↦ elim (section_or_none number groups (All-tail IsGroup group groups each)) [
+      | inr apart ↦ elim (section_or_none number groups (All-tail (IsGroup look) group groups each)) [
         | inl found ↦ inl (any_next (λ section. section.number ≡ number) group.section (sections_of groups) found)
         | inr none ↦ inr (filter-append (is_in number) group.members (members_of_groups groups)
             ∙ ap (λ l. l ++ filter (is_in number) (members_of_groups groups)) (filter_other number group.section.number group.members apart.1 one.alike)
@@ -215,23 +216,23 @@ no_lines regions members number moved none =
     let short : length below ≡ 0 = ap length nothing in
     nil_from_length (lines_below_headings (is_section number) regions) (omega (arith, long, short))
 
-all_lost : (groups : List Group) → All IsGroup groups
+all_lost : {look : Look} (groups : List Group) → All (IsGroup look) groups
     → lines_below_headings is_lost (map headed_member (members_of_groups groups)) ≡ flat_map (λ section. section.lost) (sections_of groups)
-all_lost [] each = refl
-all_lost (group ∷ groups) each =
-    let one : IsGroup group = All-head IsGroup group groups each in
+all_lost {look} [] each = refl
+all_lost {look} (group ∷ groups) each =
+    let one : IsGroup look group = All-head (IsGroup look) group groups each in
     ap (lines_below_headings is_lost) (map-append headed_member group.members (members_of_groups groups))
     ∙ below_both is_lost (map headed_member group.members) (map headed_member (members_of_groups groups))
     ∙ ap (λ l. l ++ lines_below_headings is_lost (map headed_member (members_of_groups groups))) (sym one.lost)
-    ∙ ap (λ l. group.section.lost ++ l) (all_lost groups (All-tail IsGroup group groups each))
+    ∙ ap (λ l. group.section.lost ++ l) (all_lost groups (All-tail (IsGroup look) group groups each))
 
-all_drawn : (groups : List Group) → All IsGroup groups → lines_drawn (all_of (sections_of groups)) ≡ lines_of_regions (regions_of_members (members_of_groups groups))
-all_drawn [] each = refl
-all_drawn (group ∷ groups) each =
-    let one : IsGroup group = All-head IsGroup group groups each in
+all_drawn : {look : Look} (groups : List Group) → All (IsGroup look) groups → lines_drawn (all_of (sections_of groups)) ≡ lines_of_regions (regions_of_members (members_of_groups groups))
+all_drawn {look} [] each = refl
+all_drawn {look} (group ∷ groups) each =
+    let one : IsGroup look group = All-head (IsGroup look) group groups each in
     map-append (λ s. s.line) group.section.spots (all_of (sections_of groups))
     ∙ ap (λ l. l ++ lines_drawn (all_of (sections_of groups))) one.drawn
-    ∙ ap (λ l. lines_of_regions (regions_of_members group.members) ++ l) (all_drawn groups (All-tail IsGroup group groups each))
+    ∙ ap (λ l. lines_of_regions (regions_of_members group.members) ++ l) (all_drawn groups (All-tail (IsGroup look) group groups each))
     ∙ sym (ap lines_of_regions (map-append (λ m. m.region) group.members (members_of_groups groups))
     ∙ map-append (λ r. r.line.now) (regions_of_members group.members) (regions_of_members (members_of_groups groups)))
 
@@ -241,27 +242,27 @@ all_more : (sections : List Section) (section : Section) → all_of (sections ++
 all_more sections section =
     flat_map-append (λ s. s.spots) sections (section ∷ []) ∙ ap (λ l. all_of sections ++ l) (append-nil section.spots)
 
-pub no_group : (first : Site) (members : List Member) (y : ℕ) → AreGrouped first members 0 y []
-no_group first members y = record {
+pub no_group : (look : Look) (first : Site) (members : List Member) (y : ℕ) → AreGrouped look first members 0 y []
+no_group look first members y = record {
   groups = [];
   joined = refl;
   taken = refl;
-  each = All-nil IsGroup;
+  each = All-nil (IsGroup look);
   rise = λ i j d less inside. absurd (omega (arith, inside));
   below = λ d inside. All-nil (λ section. section.number < (get_or members 0 d).section);
   stand = λ small. All-nil (λ section. AreBoxesStanding section.spots);
   rooms = All-nil (λ group. HasRoomOf first group.site);
 }
 
-pub group_more : (first site : Site) (members part : List Member) (begin end y bottom number : ℕ) (spots more : List BoxSpot) (done : AreGrouped first members begin y spots)
+pub group_more : (look : Look) (first site : Site) (members part : List Member) (begin end y bottom number : ℕ) (spots more : List BoxSpot) (done : AreGrouped look first members begin y spots)
     → take end members ≡ take begin members ++ part → y ≤ bottom
     → All (λ member. member.section ≡ number) part
     → All (λ section. section.number < number) (sections_of done.groups)
     → ((d : Member) → end < length members → number < (get_or members end d).section)
     → IsNonDecreasingBy member_number part → HasRoomOf first site
-    → AreOfSection site part bottom more
-    → AreGrouped first members end bottom (spots ++ more)
-group_more first site members part begin end y bottom number spots more done joined down alike less next lost_last room last =
+    → AreOfSection look site part bottom more
+    → AreGrouped look first members end bottom (spots ++ more)
+group_more look first site members part begin end y bottom number spots more done joined down alike less next lost_last room last =
     let section : Section = record { number = number; spots = more; lost = lines_below_headings is_lost (map headed_member part) } in
     let group : Group = record { section = section; members = part; site = site } in
     let before : List Section = sections_of done.groups in
@@ -272,8 +273,9 @@ group_more first site members part begin end y bottom number spots more done joi
       taken =
           flat_map-append (λ g. g.members) done.groups (group ∷ [])
           ∙ ap (λ l. members_of_groups done.groups ++ l) (append-nil part) ∙ ap (λ l. l ++ part) done.taken ∙ sym joined;
-      each = All-push IsGroup done.groups group done.each (record {
+      each = All-push (IsGroup look) done.groups group done.each (record {
         drawn = last.drawn;
+        looks = last.looks;
         lost = refl;
         alike = alike;
         lost_last = lost_last;
@@ -294,10 +296,10 @@ group_more first site members part begin end y bottom number spots more done joi
       rooms = All-push (λ g. HasRoomOf first g.site) done.groups group done.rooms room;
     }
 
-pub grouped : (first : Site) (functions : List Listed) (lines : List Line) (members : List Member) (count end : ℕ) (spots : List BoxSpot) → length members ≤ count
-    → AreMembersOf lines members → AreIndentedBySection members → All (IsLostByRoot functions) members → AreGrouped first members count end spots
-    → AreOfSections first functions lines end spots
-grouped first functions lines members count end spots past are indented by_root done =
+pub grouped : (look : Look) (first : Site) (functions : List Listed) (lines : List Line) (members : List Member) (count end : ℕ) (spots : List BoxSpot) → length members ≤ count
+    → AreMembersOf lines members → AreIndentedBySection members → AreSortedBySection lines members → All (IsLostByRoot functions) members
+    → AreGrouped look first members count end spots → AreOfSections look first functions lines end spots
+grouped look first functions lines members count end spots past are indented sorted by_root done =
     let regions : List Headed = map headed_line lines in
     let taken : members_of_groups done.groups ≡ members = done.taken ∙ take_all count members past in
     let drawn : lines_of_regions (regions_of_members members) ≡ lines_drawn spots =
@@ -324,9 +326,10 @@ grouped first functions lines members count end spots past are indented by_root 
             (ap (λ ms. lines_below_headings is_lost (map headed_member ms)) (sym taken) ∙ all_lost done.groups done.each)
             (below_permuted is_lost regions (map headed_member members) are.seated);
       };
-      by_root = groups_by_root functions done.groups done.each (subst (All (IsLostByRoot functions)) (sym taken) by_root);
+      by_root = groups_by_root look functions done.groups done.each (subst (All (IsLostByRoot functions)) (sym taken) by_root);
       stand = done.stand;
       nested = λ sides.
-          All-map (HasNestedBoxes regions) (λ g. g.section) done.groups
-          (λ k d inside. nested_group first regions members (get_or done.groups k d) sides (done.rooms k d inside) are.seated indented (has k d inside) (done.each k d inside));
+          All-map (HasNestedBoxes look regions) (λ g. g.section) done.groups
+          (λ k d inside. nested_group look first regions members (get_or done.groups k d) sides (done.rooms k d inside) (sorted ((get_or done.groups k d).section.number)) indented
+          (has k d inside) (done.each k d inside));
     }

@@ -18,9 +18,12 @@ pub mod Headings
 pub mod Depths
 pub mod Filtered
 pub mod Members
+pub mod MemberOrder
 pub mod Chained
 pub mod Lost
 pub mod Nested
+pub mod Tops
+pub mod Looks
 pub mod Groups
 pub mod Once
 pub mod Sections
@@ -31,6 +34,8 @@ pub mod Roots
 pub mod HexDigits
 pub mod DecimalDigits
 pub mod Ranges
+pub mod Keys
+pub mod Marks
 pub mod Examples
 pub mod SideBySide
 pub mod Seated
@@ -39,4 +44,5 @@ pub mod SeatedUpTo
 pub mod Counted
 pub mod Crowded
 pub mod Beside
+pub mod Rising
 pub mod Siblings

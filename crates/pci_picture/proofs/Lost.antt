@@ -5,6 +5,7 @@ use Rattle.std.specs.List.{All}
 use Rattle.std.proofs.lemmas.List.Elements.{All-cons, All-head, All-nil, All-tail}
 use Rattle.pci_picture.specs.Drawings.{Group, IsGroup, members_of_groups, sections_of}
 use Rattle.pci_picture.specs.Headings.{Headed, headed, is_lost, lines_below_headings, number_of_section}
+use Rattle.pci_picture.specs.Looks.{Look}
 use Rattle.pci_picture.specs.Maps.{headed_member}
 use Rattle.pci_picture.specs.Roots.{AreRoots, IsLostByRoot, AreLostByRoot, Listed, section_by_root, root_bus_of}
 use Rattle.pci_picture.specs.Slots.{IsOfLine, bus_of_line, bus_of_slot, slot_of_key}
@@ -31,18 +32,18 @@ section_if_lost None number section own lost is same at holds = same ∙ at
 abbrev IsAt : List Listed → ℕ → List ℕ → Type 0
 IsAt functions number line = number ≡ section_by_root functions line
 
-one_more : (lost : Bool) (functions : List Listed) (number section depth : ℕ) (line : List ℕ) (rest : List Headed)
+one_more : (lost : Bool) (functions : List Listed) (number section depth top : ℕ) (line : List ℕ) (rest : List Headed)
     → (IsTrue lost → section ≡ section_by_root functions line) → section ≡ number → All (IsAt functions number) (lines_below_headings is_lost rest)
-    → All (IsAt functions number) (lines_below_headings is_lost (headed (if lost then Lost else InSection section) depth line ∷ rest))
-one_more true functions number section depth line rest own is before =
+    → All (IsAt functions number) (lines_below_headings is_lost (headed (if lost then Lost else InSection section) depth top line ∷ rest))
+one_more true functions number section depth top line rest own is before =
     All-cons (IsAt functions number) line (lines_below_headings is_lost rest) (sym is ∙ own refl) before
-one_more false functions number section depth line rest own is before = before
+one_more false functions number section depth top line rest own is before = before
 
 lost_at : (functions : List Listed) (number : ℕ) (members : List Member) → All (IsLostByRoot functions) members → All (λ member. member.section ≡ number) members
     → All (IsAt functions number) (lines_below_headings is_lost (map headed_member members))
 lost_at functions number [] by_root alike = All-nil (IsAt functions number)
 lost_at functions number (member ∷ members) by_root alike =
-    one_more member.is_lost functions number member.section member.region.depth member.region.line.now (map headed_member members)
+    one_more member.is_lost functions number member.section member.region.depth member.top member.region.line.now (map headed_member members)
     (All-head (IsLostByRoot functions) member members by_root) (All-head (λ m. m.section ≡ number) member members alike)
     (lost_at functions number members (All-tail (IsLostByRoot functions) member members by_root) (All-tail (λ m. m.section ≡ number) member members alike))
 
@@ -56,12 +57,12 @@ back_of : {X : Type 0} (P : X → Type 0) (xs ys : List X) → All P (xs ++ ys) 
 back_of P [] ys all = all
 back_of P (x ∷ xs) ys all = back_of P xs ys (All-tail P x (xs ++ ys) all)
 
-pub groups_by_root : (functions : List Listed) (groups : List Group) → All IsGroup groups → All (IsLostByRoot functions) (members_of_groups groups)
+pub groups_by_root : (look : Look) (functions : List Listed) (groups : List Group) → All (IsGroup look) groups → All (IsLostByRoot functions) (members_of_groups groups)
     → All (AreLostByRoot functions) (sections_of groups)
-groups_by_root functions [] each by_root = All-nil (AreLostByRoot functions)
-groups_by_root functions (group ∷ groups) each by_root =
-    let one : IsGroup group = All-head IsGroup group groups each in
+groups_by_root look functions [] each by_root = All-nil (AreLostByRoot functions)
+groups_by_root look functions (group ∷ groups) each by_root =
+    let one : IsGroup look group = All-head (IsGroup look) group groups each in
     All-cons (AreLostByRoot functions) group.section (sections_of groups)
     (subst (All (IsAt functions group.section.number)) (sym one.lost)
     (lost_at functions group.section.number group.members (front_of (IsLostByRoot functions) group.members (members_of_groups groups) by_root) one.alike))
-    (groups_by_root functions groups (All-tail IsGroup group groups each) (back_of (IsLostByRoot functions) group.members (members_of_groups groups) by_root))
+    (groups_by_root look functions groups (All-tail (IsGroup look) group groups each) (back_of (IsLostByRoot functions) group.members (members_of_groups groups) by_root))

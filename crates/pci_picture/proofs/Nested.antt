@@ -1,17 +1,18 @@
 -- The members of a section in place, and how deep they stand.
-use Rattle.std.proofs.Common.{arith, ◌≡◌, ◌≤◌, ◌+◌, ◌*◌, ◌==◌, ◌&&◌, not, ℕ, zero, suc, Bool, true, false, cond, if◌then◌else◌, IsTrue, List, [], ◌∷◌, map, take, drop, refl, sym, ap, ap₂, subst, ◌∙◌, inl, inr}
+use Rattle.std.proofs.Common.{arith, ◌≡◌, ◌≤◌, ◌+◌, ◌*◌, ◌==◌, ◌&&◌, not, ℕ, zero, suc, Bool, true, false, cond, if◌then◌else◌, IsTrue, List, [], ◌∷◌, ◌++◌, map, take, drop, refl, sym, ap, ap₂, subst, ◌∙◌, inl, inr}
 use Rattle.std.specs.List.{All, filter, position_or_len, slice_index_or}
-use Rattle.std.specs.List.Sorted.{IsNonDecreasingBy, IsPermutation}
-use Rattle.std.proofs.lemmas.Bool.{and_parts, cases_Bool, eqb-true}
+use Rattle.std.specs.List.Sorted.{IsNonDecreasingBy}
+use Rattle.std.proofs.lemmas.Bool.{cases_Bool}
 use Rattle.std.proofs.lemmas.List.{take-append-drop}
 use Rattle.std.proofs.lemmas.List.Elements.{All-filter, All-head, All-tail, filter_agree}
 use Rattle.pci_picture.specs.Drawings.{Group, HasRoomOf, IsGroup}
 use Rattle.pci_picture.specs.Headings.{Headed, is_below_heading, is_below_no_heading, is_lost, is_section, lines_below_headings}
 use Rattle.pci_picture.specs.Lanes.{IsIndented}
 use Rattle.pci_picture.specs.Maps.{headed_member, lines_of_regions, regions_of_members}
-use Rattle.pci_picture.specs.Members.{AreIndentedBySection, IsFlatIfLost, is_member_in_place, member_number, regions_below}
-use Rattle.pci_picture.specs.Nested.{HasNestedBoxes, headed_in}
-use Rattle.pci_picture.specs.Sides.{AreIndented, HasSides, count_in_place}
+use Rattle.pci_picture.specs.Members.{AreIndentedBySection, IsFlatIfLost, is_member_in_place, member_number}
+use Rattle.pci_picture.specs.Looks.{Look, looks_of}
+use Rattle.pci_picture.specs.Nested.{AreSortedByTop, HasNestedBoxes, headed_in}
+use Rattle.pci_picture.specs.Sides.{AreIndented, HasSides, StandBeside, count_in_place}
 use Rattle.pci_picture.specs.Spots.{Section}
 use Rattle.pci_picture.specs.declared.map.Heading.{Heading}
 use Rattle.pci_picture.specs.declared.map.Heading.TheVariants.{Section as InSection, Lost, Off}
@@ -19,7 +20,7 @@ use Rattle.pci_picture.specs.declared.plan.Member.{Member}
 use Rattle.pci_picture.specs.declared.plan.Site.{Site}
 use Rattle.pci_picture.specs.declared.region.Region.{Region}
 use Rattle.pci_picture.proofs.Chained.{Steps, indented_by}
-use Rattle.pci_picture.proofs.Filtered.{filter_map, filter_permuted, filter_twice}
+use Rattle.pci_picture.proofs.Filtered.{filter_twice}
 
 -- ---- what is out of place stands last
 
@@ -116,35 +117,13 @@ lost_lines (m ∷ ms) = elim (cases_Bool m.is_lost) [
   | inr inside ↦ rw inside (lost_lines ms)
 ]
 
-section_is : (number section : ℕ) (lost : Bool) → is_section number (if lost then Lost else InSection section) ≡ (not lost && (section == number))
+pub section_is : (number section : ℕ) (lost : Bool) → is_section number (if lost then Lost else InSection section) ≡ (not lost && (section == number))
 section_is number section true = refl
 section_is number section false = refl
 
-not_lost : (b : Bool) → not b ≡ true → b ≡ false
+pub not_lost : (b : Bool) → not b ≡ true → b ≡ false
 not_lost false is = refl
 not_lost true is = cc
-
-headed_as : (number : ℕ) (m : Member) → is_member_in_place number m ≡ true → headed_member m ≡ headed_in number m.region
-headed_as number m is =
-    let both = and_parts (not m.is_lost) (m.section == number) is in
-    let same : m.section ≡ number = eqb-true m.section number both.1 in
-    rw (not_lost m.is_lost both.0) (ap (λ n. headed_in n m.region) same)
-
-headed_below : (number : ℕ) (ms : List Member) → map headed_member (filter (is_member_in_place number) ms) ≡ map (headed_in number) (regions_below number ms)
-headed_below number [] = refl
-headed_below number (m ∷ ms) = elim (cases_Bool (is_member_in_place number m)) [
-  | inl inside ↦ rw inside (ap₂ (λ (h : Headed) (hs : List Headed). h ∷ hs) (headed_as number m inside) (headed_below number ms))
-  | inr outside ↦ rw outside (headed_below number ms)
-]
-
-told_below : (number : ℕ) (regions : List Headed) (members : List Member) → IsPermutation regions (map headed_member members)
-    → IsPermutation (filter (λ region. is_section number region.heading) regions) (map (headed_in number) (regions_below number members))
-told_below number regions members moved =
-    subst (λ l. IsPermutation (filter (λ region. is_section number region.heading) regions) l)
-    (filter_map (λ region. is_section number region.heading) headed_member members
-    ∙ ap (map headed_member) (filter_agree (λ m. is_section number ((headed_member m).heading)) (is_member_in_place number) (λ m. section_is number m.section m.is_lost) members)
-    ∙ headed_below number members)
-    (filter_permuted (λ region. is_section number region.heading) regions (map headed_member members) moved)
 
 -- ---- a group is a nested section
 
@@ -157,36 +136,39 @@ sides_like first site sides room = record {
 abbrev pub is_in : ℕ → Member → Bool
 is_in number member = member.section == number
 
-pub nested_group : (first : Site) (regions : List Headed) (members : List Member) (group : Group) → HasSides first → HasRoomOf first group.site
-    → IsPermutation regions (map headed_member members) → AreIndentedBySection members → filter (is_in group.section.number) members ≡ group.members
-    → IsGroup group → HasNestedBoxes regions group.section
-nested_group first regions members group sides room moved are has is =
+pub nested_group : (look : Look) (first : Site) (regions : List Headed) (members : List Member) (group : Group) → HasSides first → HasRoomOf first group.site
+    → AreSortedByTop (headed_in group.section.number regions) (map headed_member (filter (is_member_in_place group.section.number) members))
+    → AreIndentedBySection members → filter (is_in group.section.number) members ≡ group.members
+    → IsGroup look group → HasNestedBoxes look regions group.section
+nested_group look first regions members group sides room sorted are has is =
     let n : ℕ = group.section.number in
     let ms : List Member = group.members in
     let count : ℕ = count_in_place ms in
     let every : List Region = regions_of_members ms in
     let last : LostLast ms = lost_last n ms is.alike is.lost_last in
-    let below : regions_below n members ≡ take count every =
-    ap regions_of_members (sym (filter_twice in_place (is_in n) members) ∙ ap (filter in_place) has ∙ sym (front_is out_of_place ms last)) ∙ sym (regions_taken count ms) in
+    let below : filter (is_member_in_place n) members ≡ take count ms =
+    sym (filter_twice in_place (is_in n) members) ∙ ap (filter in_place) has ∙ sym (front_is out_of_place ms last) in
+    let front : take count every ≡ regions_of_members (take count ms) = regions_taken count ms in
     let behind : drop count every ≡ regions_of_members (filter out_of_place ms) = regions_dropped count ms ∙ ap regions_of_members (back_is out_of_place ms last) in
-    let indented : IsIndented (take count every) = subst IsIndented below (are.indented n) in
+    let indented : IsIndented (regions_of_members (take count ms)) = subst (λ l. IsIndented (regions_of_members l)) below (are.indented n) in
     let flat : All IsFlatIfLost ms = subst (All IsFlatIfLost) has (All-filter (is_in n) IsFlatIfLost members are.flat) in
     let both : AreIndented count every = record {
-      inside = indented;
+      inside = subst IsIndented (sym front) indented;
       lost = subst IsIndented (sym behind) (indented_by (filter out_of_place ms) (flat_steps 0 ms flat));
     } in
     record {
-      inside = take count every;
+      inside = take count ms;
       lost = drop count every;
-      told = subst (λ l. IsPermutation (filter (λ region. is_section n region.heading) regions) (map (headed_in n) l)) below (told_below n regions members moved);
+      told = subst (λ l. AreSortedByTop (headed_in n regions) (map headed_member l)) below sorted;
       out_of_place = ap lines_of_regions behind ∙ sym (lost_lines ms) ∙ sym is.lost;
-      drawn = is.drawn ∙ ap lines_of_regions (sym (take-append-drop count every));
+      drawn = is.drawn ∙ ap lines_of_regions (sym (take-append-drop count every) ∙ ap (λ l. l ++ drop count every) front);
+      looks = is.looks ∙ ap (λ l. looks_of look false l ++ looks_of look true (drop count every)) front;
       indented = indented;
       site = group.site;
       room = sides_like first group.site sides room;
       widths = is.beside.widths;
       sides = is.beside.sides;
-      beside = is.beside.beside both;
+      beside = subst (λ l. StandBeside group.site l (drop count every) is.beside.widths) front (is.beside.beside both);
     }
 
 -- ---- regions that are kept
@@ -196,16 +178,25 @@ section_kept n (InSection m) = elim (m == n) as (λ b. (b && true) ≡ b) [ true
 section_kept n Lost = refl
 section_kept n Off = refl
 
-pub nested_of_all : (regions : List Headed) (section : Section) → HasNestedBoxes (filter is_below_heading regions) section → HasNestedBoxes regions section
-nested_of_all regions section is = record {
+looks_same : (one other : Look) → ((is_lost : Bool) (line : List ℕ) → one is_lost line ≡ other is_lost line) → (is_lost : Bool) (regions : List Region)
+    → looks_of one is_lost regions ≡ looks_of other is_lost regions
+looks_same one other same is_lost [] = refl
+looks_same one other same is_lost (region ∷ regions) =
+    ap₂ (λ l ls. l ∷ ls) (same is_lost region.line.now) (looks_same one other same is_lost regions)
+
+-- the same with looks that agree, and of all regions
+pub nested_of_all : (one other : Look) → ((is_lost : Bool) (line : List ℕ) → one is_lost line ≡ other is_lost line) → (regions : List Headed) (section : Section)
+    → HasNestedBoxes one (filter is_below_heading regions) section → HasNestedBoxes other regions section
+nested_of_all one other same regions section is = record {
   inside = is.inside;
   lost = is.lost;
-  told = subst (λ l. IsPermutation l (map (headed_in section.number) is.inside))
+  told = subst (λ l. AreSortedByTop l (map headed_member is.inside))
       (filter_twice (λ region. is_section section.number region.heading) is_below_heading regions
       ∙ filter_agree (λ region. is_section section.number region.heading && is_below_heading region) (λ region. is_section section.number region.heading)
       (λ region. section_kept section.number region.heading) regions) is.told;
   out_of_place = is.out_of_place;
   drawn = is.drawn;
+  looks = is.looks ∙ ap₂ (λ l ls. l ++ ls) (looks_same one other same false (regions_of_members is.inside)) (looks_same one other same true is.lost);
   indented = is.indented;
   site = is.site;
   room = is.room;

@@ -23,7 +23,7 @@ lines_headed : (reading : ReadSoFar) (lines : List (List ℕ)) → lines_in (hea
 lines_headed reading [] = refl
 lines_headed reading (line ∷ lines) =
     map-append (λ region. region.line) (headed_behind reading line) (headed_lines (read_on reading line) lines)
-    ∙ ap (λ l. l ++ lines_in (headed_lines (read_on reading line) lines)) (map_headed reading.heading (depth_of_line reading line) (indented_if_region line))
+    ∙ ap (λ l. l ++ lines_in (headed_lines (read_on reading line) lines)) (map_headed reading (depth_of_line reading line) (indented_if_region line))
     ∙ ap (λ l. indented_if_region line ++ l) (lines_headed (read_on reading line) lines)
 
 -- ---- regions by sections
@@ -38,13 +38,13 @@ abbrev Rises : List Section → Type 0
 Rises sections = AllPairs (λ one other. one.number < other.number) sections
 
 -- one region more of a section that is none of these
-none_of_them : (sections : List Section) (n depth : ℕ) (line : List ℕ) (regions : List Headed) → All (λ section. n < section.number) sections
-    → in_sections sections (headed (InSection n) depth line ∷ regions) ≡ in_sections sections regions
-none_of_them [] n depth line regions above = refl
-none_of_them (section ∷ sections) n depth line regions above =
+none_of_them : (sections : List Section) (n depth top : ℕ) (line : List ℕ) (regions : List Headed) → All (λ section. n < section.number) sections
+    → in_sections sections (headed (InSection n) depth top line ∷ regions) ≡ in_sections sections regions
+none_of_them [] n depth top line regions above = refl
+none_of_them (section ∷ sections) n depth top line regions above =
     let less : n < section.number = All-head (λ s. n < s.number) section sections above in
     rw (ne_eqb n section.number (λ same. omega (arith, less, same)))
-    (ap (λ l. below regions section ++ l) (none_of_them sections n depth line regions (All-tail (λ s. n < s.number) section sections above)))
+    (ap (λ l. below regions section ++ l) (none_of_them sections n depth top line regions (All-tail (λ s. n < s.number) section sections above)))
 
 no_section : (n : ℕ) → Any (λ (section : Section). section.number ≡ n) [] → ⊥
 no_section n (k, section, inside, at, is) = omega (arith, inside)
@@ -55,19 +55,19 @@ found_behind n section sections apart (zero, other, inside, at, is) = absurd (ap
 found_behind n section sections apart (suc k, other, inside, at, is) = (k, other, omega (arith, inside), at, is)
 
 -- one region more of one of them
-one_of_them : (sections : List Section) (n depth : ℕ) (line : List ℕ) (regions : List Headed) → Rises sections → Any (λ section. section.number ≡ n) sections
-    → IsPermutation (line ∷ in_sections sections regions) (in_sections sections (headed (InSection n) depth line ∷ regions))
-one_of_them [] n depth line regions rise found = absurd (no_section n found)
-one_of_them (section ∷ sections) n depth line regions rise found =
+one_of_them : (sections : List Section) (n depth top : ℕ) (line : List ℕ) (regions : List Headed) → Rises sections → Any (λ section. section.number ≡ n) sections
+    → IsPermutation (line ∷ in_sections sections regions) (in_sections sections (headed (InSection n) depth top line ∷ regions))
+one_of_them [] n depth top line regions rise found = absurd (no_section n found)
+one_of_them (section ∷ sections) n depth top line regions rise found =
     elim (eqb_tells section.number n) [
       | inl same ↦
           let above : All (λ s. n < s.number) sections =
           subst (λ m. All (λ s. m < s.number) sections) same.1 (pairs_head (λ one other. one.number < other.number) section sections rise) in
           rw (eq-eqb n section.number (sym same.1))
           (subst (λ l. IsPermutation (line ∷ (below regions section ++ in_sections sections regions)) (line ∷ (below regions section ++ l)))
-          (sym (none_of_them sections n depth line regions above)) (IsPermutation-refl _))
+          (sym (none_of_them sections n depth top line regions above)) (IsPermutation-refl _))
       | inr apart ↦
-          let rest = one_of_them sections n depth line regions (pairs_tail (λ one other. one.number < other.number) section sections rise)
+          let rest = one_of_them sections n depth top line regions (pairs_tail (λ one other. one.number < other.number) section sections rise)
           (found_behind n section sections apart.1 found) in
           rw (ne_eqb n section.number (λ same. apart.1 (sym same)))
           (IsPermutation-trans _ _ _ (IsPermutation-sym _ _ (IsPermutation-middle (below regions section) line (in_sections sections regions)))
@@ -83,15 +83,15 @@ none_below : (sections : List Section) → in_sections sections [] ≡ []
 none_below [] = refl
 none_below (section ∷ sections) = none_below sections
 
-one_more : (sections : List Section) (heading : Heading) (depth : ℕ) (line : List ℕ) (regions : List Headed) → Rises sections
+one_more : (sections : List Section) (heading : Heading) (depth top : ℕ) (line : List ℕ) (regions : List Headed) → Rises sections
     → ((n : ℕ) → heading ≡ InSection n → Any (λ section. section.number ≡ n) sections)
-    → IsPermutation (line ∷ parts sections regions) (parts sections (headed heading depth line ∷ regions))
-one_more sections (InSection n) depth line regions rise found =
+    → IsPermutation (line ∷ parts sections regions) (parts sections (headed heading depth top line ∷ regions))
+one_more sections (InSection n) depth top line regions rise found =
     IsPermutation-append_left (lines_below_headings is_lost regions ++ lines_below_headings is_below_no_heading regions) (line ∷ in_sections sections regions) _
-    (one_of_them sections n depth line regions rise (found n refl))
-one_more sections Lost depth line regions rise found =
+    (one_of_them sections n depth top line regions rise (found n refl))
+one_more sections Lost depth top line regions rise found =
     IsPermutation-sym _ _ (IsPermutation-middle (in_sections sections regions) line (lines_below_headings is_lost regions ++ lines_below_headings is_below_no_heading regions))
-one_more sections Off depth line regions rise found =
+one_more sections Off depth top line regions rise found =
     let sections_and_lost = in_sections sections regions ++ lines_below_headings is_lost regions in
     subst (λ l. IsPermutation (line ∷ l) (in_sections sections regions ++ (lines_below_headings is_lost regions ++ line ∷ lines_below_headings is_below_no_heading regions)))
     (append_assoc (in_sections sections regions) (lines_below_headings is_lost regions) (lines_below_headings is_below_no_heading regions))
@@ -102,31 +102,31 @@ one_more sections Off depth line regions rise found =
 abbrev Covers : List Section → List Headed → Type 0
 Covers sections regions = (number : ℕ) → Any (λ section. section.number ≡ number) sections ⊎ (lines_below_headings (is_section number) regions ≡ [])
 
-found_for : (sections : List Section) (regions : List Headed) (depth : ℕ) (line : List ℕ) (heading : Heading) → Covers sections (headed heading depth line ∷ regions)
+found_for : (sections : List Section) (regions : List Headed) (depth top : ℕ) (line : List ℕ) (heading : Heading) → Covers sections (headed heading depth top line ∷ regions)
     → (n : ℕ) → heading ≡ InSection n → Any (λ section. section.number ≡ n) sections
-found_for sections regions depth line heading covers n is =
+found_for sections regions depth top line heading covers n is =
     elim (covers n) [
       | inl found ↦ found
       | inr none ↦
-          let some : lines_below_headings (is_section n) (headed heading depth line ∷ regions) ≡ line ∷ lines_below_headings (is_section n) regions =
-          ap (λ h. lines_below_headings (is_section n) (headed h depth line ∷ regions)) is ∙ rw (eq-eqb n n refl) refl in
+          let some : lines_below_headings (is_section n) (headed heading depth top line ∷ regions) ≡ line ∷ lines_below_headings (is_section n) regions =
+          ap (λ h. lines_below_headings (is_section n) (headed h depth top line ∷ regions)) is ∙ rw (eq-eqb n n refl) refl in
           let long : suc (length (lines_below_headings (is_section n) regions)) ≡ 0 = ap length (sym some ∙ none) in
           absurd (omega (arith, long))
     ]
 
-less_by : (is : Bool) (depth : ℕ) (line : List ℕ) (heading : Heading) (rest : List Headed) → lines_in (cond is (headed heading depth line ∷ rest) rest) ≡ [] → lines_in rest ≡ []
-less_by true depth line heading rest none = let long : suc (length (lines_in rest)) ≡ 0 = ap length none in absurd (omega (arith, long))
-less_by false depth line heading rest none = none
+less_by : (is : Bool) (depth top : ℕ) (line : List ℕ) (heading : Heading) (rest : List Headed) → lines_in (cond is (headed heading depth top line ∷ rest) rest) ≡ [] → lines_in rest ≡ []
+less_by true depth top line heading rest none = let long : suc (length (lines_in rest)) ≡ 0 = ap length none in absurd (omega (arith, long))
+less_by false depth top line heading rest none = none
 
 parted : (sections : List Section) (regions : List Headed) → Rises sections → Covers sections regions → IsPermutation (lines_in regions) (parts sections regions)
 parted sections [] rise covers = subst (λ l. IsPermutation [] (l ++ [])) (sym (none_below sections)) (IsPermutation-refl [])
 parted sections (region ∷ regions) rise covers =
     let fewer : Covers sections regions = λ n. elim (covers n) [
       | inl found ↦ inl found
-      | inr none ↦ inr (less_by (is_section n region.heading) region.depth region.line region.heading (filter (λ r. is_section n r.heading) regions) none)
+      | inr none ↦ inr (less_by (is_section n region.heading) region.depth region.top region.line region.heading (filter (λ r. is_section n r.heading) regions) none)
     ] in
     IsPermutation-trans _ _ _ (IsPermutation-cons region.line (lines_in regions) (parts sections regions) (parted sections regions rise fewer))
-    (one_more sections region.heading region.depth region.line regions rise (found_for sections regions region.depth region.line region.heading covers))
+    (one_more sections region.heading region.depth region.top region.line regions rise (found_for sections regions region.depth region.top region.line region.heading covers))
 
 -- ---- what is drawn
 

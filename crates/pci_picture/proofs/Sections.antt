@@ -1,18 +1,19 @@
 -- The regions of sections while they are drawn.
-use Rattle.std.proofs.Common.{◌≡◌, ◌≤◌, ◌<◌, ◌+◌, ◌-◌, ◌==◌, ℕ, true, List, [], ◌∷◌, ◌++◌, map, take, drop, length, get_or, Result, Ok, Err, IfOk, refl, sym, ap, subst, ◌∙◌, arith, inl, inr}
+use Rattle.std.proofs.Common.{◌≡◌, ◌≤◌, ◌<◌, ◌+◌, ◌-◌, ◌==◌, ℕ, true, List, [], ◌∷◌, ◌++◌, map, take, drop, length, get_or, Result, Ok, Err, IfOk, refl, sym, ap, subst, ◌∙◌, arith, inl, inr, Bool, codes}
 use Rattle.std.specs.List.{All, filter, slice_split}
 use Rattle.std.specs.List.Sorted.{IsNonDecreasingBy, IsPermutation}
 use Rattle.std.proofs.lemmas.Bool.{cases_lt, eqb-true}
 use Rattle.std.proofs.lemmas.List.{append_assoc, map-append, map_more, take_more, take-append-drop, take-take, drop-take, take_all, length-take, length-drop, get_or-take, get_or-drop, get_or_default}
 use Rattle.std.proofs.lemmas.List.Sorted.{IsNonDecreasingBy-drop, IsNonDecreasingBy-take, IsPermutation-trans, IsPermutation-append_left, IsPermutation-map}
-use Rattle.std.proofs.lemmas.List.Elements.{All-weaker}
+use Rattle.std.proofs.lemmas.List.Elements.{All-nil, All-push, All-weaker}
 use Rattle.pci_picture.specs.Boxes.{IsDrawnOf, IsDrawnByRoots}
 use Rattle.pci_picture.specs.Canvases.{AddsToCanvas, AddsSome, HasDrawn}
-use Rattle.pci_picture.specs.Drawings.{AreGrouped, AreOfSection, AreOfSections, HasRoomOf, IsRunOfSection, sections_of}
+use Rattle.pci_picture.specs.Drawings.{AreGrouped, AreOff, AreOfSection, AreOfSections, HasRoomOf, IsRunOfSection, sections_of}
 use Rattle.pci_picture.specs.Headings.{AreSectionsOf, headed_regions, is_below_heading}
 use Rattle.pci_picture.specs.Lines.{is_feed, region_lines}
+use Rattle.pci_picture.specs.Looks.{Look, class_told}
 use Rattle.pci_picture.specs.Maps.{AreMembersOf, IsReadOf, lines_of_regions, regions_under, regions_of_members, regions_placed, lines_read}
-use Rattle.pci_picture.specs.Members.{AreIndentedBySection, member_number}
+use Rattle.pci_picture.specs.Members.{AreIndentedBySection, AreSortedBySection, member_number}
 use Rattle.pci_picture.specs.Nested.{HasNestedBoxes}
 use Rattle.pci_picture.specs.Roots.{IsLostByRoot, Listed}
 use Rattle.pci_picture.specs.Sides.{HasSides}
@@ -70,44 +71,43 @@ both_places regions front back n none some all empty is_front is_back first seco
 
 -- ---- one row of what is off more
 
-pub none_off : {A : Type 0} (regions : List Region) (canvas : Canvas A) → (length regions == 0) ≡ true
-    → AddsSome (λ spots. lines_drawn spots ≡ lines_of_regions regions) canvas canvas
-none_off [] canvas is = record { spots = []; hold = refl; adds = unchanged canvas }
-none_off (region ∷ regions) canvas is = let l : length (region ∷ regions) ≡ 0 = eqb-true _ 0 is in absurd (omega (arith, l))
+pub no_rows : {A : Type 0} (canvas : Canvas A) → AddsSome (AreOff []) canvas canvas
+no_rows canvas = record { spots = []; hold = record { drawn = refl; grey = All-nil (λ spot. spot.class ≡ codes "off") }; adds = unchanged canvas }
 
-pub no_rows : {A : Type 0} (canvas : Canvas A) → AddsSome (λ spots. lines_drawn spots ≡ lines_of_regions []) canvas canvas
-no_rows canvas = record { spots = []; hold = refl; adds = unchanged canvas }
+pub none_off : {A : Type 0} (regions : List Region) (canvas : Canvas A) → (length regions == 0) ≡ true → AddsSome (AreOff regions) canvas canvas
+none_off [] canvas is = no_rows canvas
+none_off (region ∷ regions) canvas is = let l : length (region ∷ regions) ≡ 0 = eqb-true _ 0 is in absurd (omega (arith, l))
 
 pub row_more : {A : Type 0} (regions : List Region) (i : ℕ) (region : Region) (x y width : ℕ) (first before after : Canvas A) → i < length regions
     → region ≡ get_or regions i region
-    → AddsSome (λ spots. lines_drawn spots ≡ lines_of_regions (take i regions)) first before → AddsToCanvas (spot_at x y width 13 region.line.now ∷ []) before after
-    → AddsSome (λ spots. lines_drawn spots ≡ lines_of_regions (take (i + 1) regions)) first after
+    → AddsSome (AreOff (take i regions)) first before → AddsToCanvas (spot_at x y width 13 (codes "off") region.line.now ∷ []) before after
+    → AddsSome (AreOff (take (i + 1) regions)) first after
 row_more regions i region x y width first before after inside at done one =
     let more : lines_of_regions (take (i + 1) regions) ≡ lines_of_regions (take i regions) ++ region.line.now ∷ [] =
     map_more (λ r. r.line.now) regions i region inside
     ∙ ap (λ r. lines_of_regions (take i regions) ++ r.line.now ∷ []) (sym at) in
-    let spot : BoxSpot = spot_at x y width 13 region.line.now in
+    let spot : BoxSpot = spot_at x y width 13 (codes "off") region.line.now in
     record {
       spots = done.spots ++ spot ∷ [];
-      hold = map-append (λ s. s.line) done.spots (spot ∷ []) ∙ ap (λ l. l ++ region.line.now ∷ []) done.hold ∙ sym more;
+      hold = record {
+        drawn = map-append (λ s. s.line) done.spots (spot ∷ []) ∙ ap (λ l. l ++ region.line.now ∷ []) done.hold.drawn ∙ sym more;
+        grey = All-push (λ s. s.class ≡ codes "off") done.spots spot done.hold.grey refl;
+      };
       adds = then_adds done.spots (spot ∷ []) first before after done.adds one;
     }
 
 pub all_rows : {A : Type 0} (regions every : List Region) (i : ℕ) (first before after : Canvas A) → length regions ≤ i → regions ≡ every
-    → AddsToCanvas [] first before → AddsSome (λ spots. lines_drawn spots ≡ lines_of_regions (take i regions)) before after
-    → AddsSome (λ spots. lines_drawn spots ≡ lines_of_regions every) first after
+    → AddsToCanvas [] first before → AddsSome (AreOff (take i regions)) before after → AddsSome (AreOff every) first after
 all_rows regions every i first before after past is head done =
-    then_some (λ spots. lines_drawn spots ≡ lines_of_regions every) first before after head
-    (subst (λ l. AddsSome (λ spots. lines_drawn spots ≡ lines_of_regions l) before after) (take_all i regions past ∙ is) done)
+    then_some (AreOff every) first before after head (subst (λ l. AddsSome (AreOff l) before after) (take_all i regions past ∙ is) done)
 
-pub same_rows : {A : Type 0} (regions every : List Region) (first after : Canvas A) → regions ≡ every
-    → AddsSome (λ spots. lines_drawn spots ≡ lines_of_regions regions) first after → AddsSome (λ spots. lines_drawn spots ≡ lines_of_regions every) first after
-same_rows regions every first after is done = subst (λ l. AddsSome (λ spots. lines_drawn spots ≡ lines_of_regions l) first after) is done
+pub same_rows : {A : Type 0} (regions every : List Region) (first after : Canvas A) → regions ≡ every → AddsSome (AreOff regions) first after → AddsSome (AreOff every) first after
+same_rows regions every first after is done = subst (λ l. AddsSome (AreOff l) first after) is done
 
 -- ---- one section more
 
-pub no_section : {A : Type 0} (first : Site) (members : List Member) (y : ℕ) (canvas : Canvas A) → AddsSome (AreGrouped first members 0 y) canvas canvas
-no_section first members y canvas = record { spots = []; hold = no_group first members y; adds = unchanged canvas }
+pub no_section : {A : Type 0} (look : Look) (first : Site) (members : List Member) (y : ℕ) (canvas : Canvas A) → AddsSome (AreGrouped look first members 0 y) canvas canvas
+no_section look first members y canvas = record { spots = []; hold = no_group look first members y; adds = unchanged canvas }
 
 part_alike : (members : List Member) (begin end number : ℕ) → begin ≤ end → end ≤ length members
     → ((d : Member) → (get_or members begin d).section ≡ number) → IsRunOfSection members begin end
@@ -125,13 +125,13 @@ between number here there is up apart =
       | inr more ↦ absurd (apart (omega (arith, up, more)))
     ]
 
-pub section_more : {A : Type 0} (row site : Site) (members part : List Member) (begin end y bottom : ℕ) (member : Member) (first before after : Canvas A) → begin < end
+pub section_more : {A : Type 0} (look : Look) (row site : Site) (members part : List Member) (begin end y bottom : ℕ) (member : Member) (first before after : Canvas A) → begin < end
     → end ≤ length members → member ≡ get_or members begin member → part ≡ take (end - begin) (drop begin members) → y ≤ bottom
     → IsNonDecreasingBy (λ (m : Member). m.section) members → IsNonDecreasingBy member_number members → IsRunOfSection members begin end → HasRoomOf row site
-    → AddsSome (AreGrouped row members begin y) first before
-    → AddsSome (AreOfSection site part bottom) before after
-    → AddsSome (AreGrouped row members end bottom) first after
-section_more row site members part begin end y bottom member first before after up within at is down sorted lost_last run room done adds =
+    → AddsSome (AreGrouped look row members begin y) first before
+    → AddsSome (AreOfSection look site part bottom) before after
+    → AddsSome (AreGrouped look row members end bottom) first after
+section_more look row site members part begin end y bottom member first before after up within at is down sorted lost_last run room done adds =
     let joined : take end members ≡ take begin members ++ part =
     ap (λ n. take n members) (omega arith) ∙ take_both begin (end - begin) members ∙ ap (λ l. take begin members ++ l) (sym is) in
     let number : ℕ = member.section in
@@ -140,7 +140,7 @@ section_more row site members part begin end y bottom member first before after 
     record {
       spots = done.spots ++ adds.spots;
       hold =
-          group_more row site members part begin end y bottom number done.spots adds.spots done.hold joined down
+          group_more look row site members part begin end y bottom number done.spots adds.spots done.hold joined down
           (subst (All (λ m. m.section ≡ number)) (sym is) (part_alike members begin end number (omega arith) within there run))
           (subst (λ n. All (λ section. section.number < n) (sections_of done.hold.groups)) (there member) (done.hold.below member (omega arith)))
           (λ d inside. between number ((get_or members begin d).section) ((get_or members end d).section) (there d)
@@ -151,12 +151,13 @@ section_more row site members part begin end y bottom member first before after 
       adds = then_adds done.spots adds.spots first before after done.adds adds.adds;
     }
 
-pub all_sections : {A : Type 0} (row : Site) (functions : List Listed) (lines : List Line) (members : List Member) (begin y : ℕ) (first after : Canvas A) → length members ≤ begin
-    → AreMembersOf lines members → AreIndentedBySection members → All (IsLostByRoot functions) members → AddsSome (AreGrouped row members begin y) first after
-    → AddsSome (AreOfSections row functions lines y) first after
-all_sections row functions lines members begin y first after past are indented by_root done = record {
+pub all_sections : {A : Type 0} (look : Look) (row : Site) (functions : List Listed) (lines : List Line) (members : List Member) (begin y : ℕ) (first after : Canvas A) → length members ≤ begin
+    → AreMembersOf lines members → AreIndentedBySection members → AreSortedBySection lines members → All (IsLostByRoot functions) members
+    → AddsSome (AreGrouped look row members begin y) first after
+    → AddsSome (AreOfSections look row functions lines y) first after
+all_sections look row functions lines members begin y first after past are indented sorted by_root done = record {
   spots = done.spots;
-  hold = grouped row functions lines members begin y done.spots past are indented by_root done.hold;
+  hold = grouped look row functions lines members begin y done.spots past are indented sorted by_root done.hold;
   adds = done.adds;
 }
 
@@ -167,17 +168,17 @@ sorted_members lines before after is moved =
 
 -- ---- the whole
 
-pub whole_picture : {A T E : Type 0} (row : Site) (functions : List Listed) (map : List ℕ) (read : Map A) (new before between last : Canvas A) (y height : ℕ) (result : Result T E) (bytes : T → List ℕ)
-    → HasSides row → IsReadOf (slice_split is_feed map) read → y ≤ height
-    → HasDrawn [] new → AddsToCanvas [] new before → AddsSome (AreOfSections row functions read.lines.items y) before between
-    → AddsSome (λ spots. lines_drawn spots ≡ lines_of_regions read.off.items) between last
+pub whole_picture : {A T E : Type 0} (look : Look) (row : Site) (functions : List Listed) (map faults : List ℕ) (read : Map A) (new before between last : Canvas A) (y height : ℕ) (result : Result T E) (bytes : T → List ℕ)
+    → ((is_lost : Bool) (line : List ℕ) → look is_lost line ≡ class_told faults is_lost line) → HasSides row → IsReadOf (slice_split is_feed map) read → y ≤ height
+    → HasDrawn [] new → AddsToCanvas [] new before → AddsSome (AreOfSections look row functions read.lines.items y) before between
+    → AddsSome (AreOff read.off.items) between last
     → ((spots : List BoxSpot) → HasDrawn spots last → IfOk result (λ text. IsDrawnOf spots height (bytes text)))
-    → IfOk result (λ text. IsDrawnByRoots functions map (bytes text))
-whole_picture row functions map read new before between last y height (Err e) bytes sides told down none kept some off finished = tt
-whole_picture row functions map read new before between last y height (Ok text) bytes sides told down none kept some off finished =
+    → IfOk result (λ text. IsDrawnByRoots functions map faults (bytes text))
+whole_picture look row functions map faults read new before between last y height (Err e) bytes same sides told down none kept some off finished = tt
+whole_picture look row functions map faults read new before between last y height (Ok text) bytes same sides told down none kept some off finished =
     let joined : some.spots ++ off.spots ≡ all_of some.hold.sections ++ off.spots = ap (λ l. l ++ off.spots) (sym some.hold.joined) in
     let both : lines_drawn (some.spots ++ off.spots) ≡ lines_drawn some.spots ++ lines_of_regions read.off.items =
-    map-append (λ s. s.line) some.spots off.spots ∙ ap (λ l. lines_drawn some.spots ++ l) off.hold in
+    map-append (λ s. s.line) some.spots off.spots ∙ ap (λ l. lines_drawn some.spots ++ l) off.hold.drawn in
     record {
       picture = record {
         sections = some.hold.sections;
@@ -190,15 +191,17 @@ whole_picture row functions map read new before between last y height (Ok text) 
         below_headings =
             sections_of_all (headed_regions map) some.hold.sections
             (subst (λ l. AreSectionsOf l some.hold.sections) told.kept some.hold.below_headings);
-        below_none = off.hold ∙ told.off;
+        below_none = off.hold.drawn ∙ told.off;
+        grey = off.hold.grey;
         height = height;
         drawn =
             subst (λ l. IsDrawnOf l height (bytes text)) joined
             (finished (some.spots ++ off.spots) (off.adds.behind some.spots (some.adds.behind [] (kept.behind [] none))));
         stand = λ small. some.hold.stand (omega (arith, down, small));
         nested =
-            All-weaker (HasNestedBoxes (filter is_below_heading (headed_regions map))) (HasNestedBoxes (headed_regions map)) (nested_of_all (headed_regions map)) some.hold.sections
-            (subst (λ l. All (HasNestedBoxes l) some.hold.sections) told.kept (some.hold.nested sides));
+            All-weaker (HasNestedBoxes look (filter is_below_heading (headed_regions map))) (HasNestedBoxes (class_told faults) (headed_regions map))
+            (nested_of_all look (class_told faults) same (headed_regions map)) some.hold.sections
+            (subst (λ l. All (HasNestedBoxes look l) some.hold.sections) told.kept (some.hold.nested sides));
       };
       by_root = some.hold.by_root;
     }

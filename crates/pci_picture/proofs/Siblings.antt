@@ -5,14 +5,16 @@ use Rattle.std.proofs.lemmas.Bool.{cases_lt}
 use Rattle.std.proofs.lemmas.List.{length-append, length-map}
 use Rattle.std.proofs.lemmas.List.Elements.{Contains-get_or}
 use Rattle.pci_picture.specs.Lanes.{StandApart, StandsBetween, first_address_at, last_address_at, width_at}
-use Rattle.pci_picture.specs.Maps.{lines_of_regions}
+use Rattle.pci_picture.specs.Maps.{lines_of_regions, regions_of_members}
 use Rattle.pci_picture.specs.Sides.{AreSides, HasSides, sides_drawn, sides_of_width}
 use Rattle.pci_picture.specs.Siblings.{EndsAboveOrBeside, SiblingsAreApart, box_at}
 use Rattle.pci_picture.specs.Spots.{BoxSpot, first_address, lines_drawn, region_last_address, spot_at}
 use Rattle.pci_picture.specs.declared.lanes.Width.{Width}
+use Rattle.pci_picture.specs.declared.plan.Member.{Member}
 use Rattle.pci_picture.specs.declared.plan.Site.{Site}
 use Rattle.pci_picture.specs.declared.region.Region.{Region}
 use Rattle.pci_picture.proofs.Apart.{boxes_are_apart}
+use Rattle.pci_picture.proofs.Rising.{siblings_rise}
 
 -- a box is of the line at an index
 record IsOfLineAt (regions : List Region) (k : ℕ) (spot : BoxSpot) : Type 0 where
@@ -66,9 +68,11 @@ row_of site lost left split beside edge sides ends = elim (cases_lt 0 (length lo
 ]
 
 pub siblings_are_apart : SiblingsAreApart
-siblings_are_apart told section nested i j standing rise less inside same =
+siblings_are_apart look text section nested i j standing rise less within same =
     let spots : List BoxSpot = section.spots in
-    let regions : List Region = nested.inside in
+    let regions : List Region = regions_of_members nested.inside in
+    let members = length-map nested.inside (λ (m : Member). m.region) in
+    let inside : j < length regions = omega (arith, within, members) in
     let placed = nested.beside in
     let in_place = placed.in_place in
     let count : length placed.inner ≡ length regions = in_place.count in
@@ -79,8 +83,8 @@ siblings_are_apart told section nested i j standing rise less inside same =
     let low_i : i < length spots = omega (arith, low_j, less) in
     let one = line_at spots regions nested.lost nested.drawn i (omega (arith, less, inside)) in
     let two = line_at spots regions nested.lost nested.drawn j inside in
-    let here : Contains spots (box_at spots i) = Contains-get_or spots i (spot_at 0 0 0 0 []) low_i in
-    let there : Contains spots (box_at spots j) = Contains-get_or spots j (spot_at 0 0 0 0 []) low_j in
+    let here : Contains spots (box_at spots i) = Contains-get_or spots i (spot_at 0 0 0 0 [] []) low_i in
+    let there : Contains spots (box_at spots j) = Contains-get_or spots j (spot_at 0 0 0 0 [] []) low_j in
     let side_is : sides_drawn spots ≡ map sides_of_width (placed.inner ++ placed.outer) = nested.sides ∙ ap (map sides_of_width) placed.joined in
     let left_i = side_at spots placed.inner placed.outer side_is i (omega (arith, count, less, inside)) in
     let left_j = side_at spots placed.inner placed.outer side_is j (omega (arith, count, inside)) in
@@ -93,7 +97,7 @@ siblings_are_apart told section nested i j standing rise less inside same =
             let row : placed.left ≤ placed.split = row_of nested.site nested.lost placed.left placed.split placed.beside placed.edge nested.room ends in
             let between = in_place.between row in
             let apart : StandApart (width_at placed.inner i) (width_at placed.inner j) =
-            in_place.apart rise i j less inside same (omega (arith, also), omega (arith, meet)) in
+            in_place.apart (siblings_rise look text section nested rise) i j less inside same (omega (arith, also), omega (arith, meet)) in
             elim apart [
               | inl left ↦
                   inl (ends_beside (box_at spots i) (box_at spots j) placed.inner i j placed.left placed.split left_i left_j

@@ -1,31 +1,33 @@
 -- Which boxes a picture has, by their titles and where they stand.
-use Rattle.std.specs.Prelude.{◌≡◌, ℕ, Bool, List, [], ◌∷◌, ◌++◌, if◌then◌else◌, map}
+use Rattle.std.specs.Prelude.{◌≡◌, ℕ, Bool, List, [], ◌∷◌, ◌++◌, codes, if◌then◌else◌, map}
 use Rattle.std.specs.List.{All, flat_map}
 use Rattle.std.specs.List.Sorted.{IsPermutation}
 use Rattle.pci_picture.specs.Elements.{box_text, words_text, axis_text, tick_text, gap_text}
 use Rattle.pci_picture.specs.Headings.{AreSectionsOf, headed_regions, is_below_no_heading, lines_below_headings}
 use Rattle.pci_picture.specs.Lines.{is_feed, line_if_region, region_lines}
+use Rattle.pci_picture.specs.Looks.{class_told}
 use Rattle.pci_picture.specs.Nested.{HasNestedBoxes}
 use Rattle.pci_picture.specs.Roots.{AreLostByRoot, Listed}
 use Rattle.pci_picture.specs.Spots.{Section, BoxSpot, spot_at, lines_drawn, all_of, EachStands}
 use Rattle.pci_picture.specs.Whole.{picture_text}
 
--- a box by its title, its left end and its top, its width and its height
+-- a box by its title, its class, its left end and its top, its width and its height
 pub record Titled : Type 0 where
   pub title : List ℕ
+  pub class : List ℕ
   pub x : ℕ
   pub y : ℕ
   pub width : ℕ
   pub height : ℕ
 
-abbrev pub titled : ℕ → ℕ → ℕ → ℕ → List ℕ → Titled
-titled x y width height title = record { title = title; x = x; y = y; width = width; height = height }
+abbrev pub titled : ℕ → ℕ → ℕ → ℕ → List ℕ → List ℕ → Titled
+titled x y width height class title = record { title = title; class = class; x = x; y = y; width = width; height = height }
 
 -- a text is these boxes, in their order, with words, ticks and gaps between them, which have no title
 pub data HasTitles : List Titled → List ℕ → Type 0 where
   no_element : HasTitles [] []
   a_box : (x y width height : ℕ) (class anchor title rest : List ℕ) (boxes : List Titled) → HasTitles boxes rest
-      → HasTitles (titled x y width height title ∷ boxes) (box_text x y width height class anchor title ++ rest)
+      → HasTitles (titled x y width height class title ∷ boxes) (box_text x y width height class anchor title ++ rest)
   a_line : (x y : ℕ) (class line rest : List ℕ) (boxes : List Titled) → HasTitles boxes rest
       → HasTitles boxes (words_text x y class line ++ rest)
   at_axis : (x y : ℕ) (faint line rest : List ℕ) (boxes : List Titled) → HasTitles boxes rest
@@ -44,9 +46,9 @@ first_title_line (b ∷ title) = if is_feed b then [] else b ∷ first_title_lin
 abbrev pub titled_line : List ℕ → List (List ℕ)
 titled_line title = line_if_region (first_title_line title)
 
--- the same, with where the box stands
+-- the same, with the class of the box and where it stands
 abbrev pub titled_spot : Titled → List BoxSpot
-titled_spot box = map (spot_at box.x box.y box.width box.height) (titled_line box.title)
+titled_spot box = map (spot_at box.x box.y box.width box.height box.class) (titled_line box.title)
 
 -- a text has these regions of a map as first lines of its titles, in their order and with their places, and no others
 pub record HasSpots (spots : List BoxSpot) (text : List ℕ) : Type 0 where
@@ -72,22 +74,23 @@ pub record IsDrawnOf (spots : List BoxSpot) (height : ℕ) (text : List ℕ) : T
 -- in the map, and no other title begins with such a line. A section has what stands below the headings with its number, and
 -- some of what is out of place. What stands below no such heading is off, in its order. In each section the boxes stand at
 -- heights that rise with addresses, where the height of the picture was not cut off at 64 bits, and inside each other as deep as
--- the lines of the map
-pub record IsPictureOf (map text : List ℕ) : Type 0 where
+-- the lines of the map. A box has the class of its part, with marks for the faults that name it; what is off is grey
+pub record IsPictureOf (map faults text : List ℕ) : Type 0 where
   pub sections : List Section
   pub off : List BoxSpot
   pub each_once : IsPermutation (region_lines map) (lines_drawn (all_of sections ++ off))
   pub below_headings : AreSectionsOf (headed_regions map) sections
   pub below_none : lines_drawn off ≡ lines_below_headings is_below_no_heading (headed_regions map)
+  pub grey : All (λ spot. spot.class ≡ codes "off") off
   pub height : ℕ
   pub drawn : IsDrawnOf (all_of sections ++ off) height text
   pub stand : EachStands height sections
-  pub nested : All (HasNestedBoxes (headed_regions map)) sections
+  pub nested : All (HasNestedBoxes (class_told faults) (headed_regions map)) sections
 
 -- the same, where each region out of place is in the section of the root from which its bus is reached, by the functions that
 -- are listed, and of its space
-pub record IsDrawnByRoots (functions : List Listed) (map text : List ℕ) : Type 0 where
-  pub picture : IsPictureOf map text
+pub record IsDrawnByRoots (functions : List Listed) (map faults text : List ℕ) : Type 0 where
+  pub picture : IsPictureOf map faults text
   pub by_root : All (AreLostByRoot functions) picture.sections
 
 -- sections that have what stands below their headings and what is out of place, and a list of what is off, have each region of

@@ -24,7 +24,7 @@ AreChained lines = (k : ℕ) (d : Line) → k < length lines → IsChained lines
 -- ---- while they are read
 
 abbrev pub reading_of : {A : Type 0} → Reader A → ReadSoFar
-reading_of reader = reading_at reader.heading reader.is_taken reader.level
+reading_of reader = reading_at reader.heading reader.is_taken reader.level reader.top
 
 -- the last line is of a section, with this first address of its line of depth 1, and stands so deep
 pub record IsLastLine (lines : List Line) (number top level : ℕ) : Type 0 where

@@ -1,14 +1,15 @@
 -- What is drawn of a section, and of all.
-use Rattle.std.specs.Prelude.{◌≡◌, ◌<◌, ◌≤◌, ◌+◌, ◌-◌, ◌^◌, ℕ, List, map, take, length, slice_index_or}
+use Rattle.std.specs.Prelude.{◌≡◌, ◌<◌, ◌≤◌, ◌+◌, ◌-◌, ◌^◌, ℕ, List, codes, map, take, length, slice_index_or}
 use Rattle.std.specs.List.{All, AllPairs, flat_map}
 use Rattle.std.specs.List.Sorted.{IsPermutation, IsNonDecreasingBy}
 use Rattle.pci_picture.specs.Headings.{AreSectionsOf, is_lost, lines_below_headings}
+use Rattle.pci_picture.specs.Looks.{Look, looks_placed, looks_up_to}
 use Rattle.pci_picture.specs.Maps.{headed_line, headed_member, lines_of_regions, regions_of_members, regions_placed, regions_under}
 use Rattle.pci_picture.specs.Members.{member_number}
 use Rattle.pci_picture.specs.Nested.{HasNestedBoxes}
 use Rattle.pci_picture.specs.Roots.{AreLostByRoot, Listed}
 use Rattle.pci_picture.specs.Sides.{HasSides, StandBesideIn, count_in_place, sides_drawn, sides_of_width, widths_placed}
-use Rattle.pci_picture.specs.Spots.{Section, BoxSpot, first_address, region_last_address, lines_drawn, all_of, Rise, AreBoxesStanding, EachStands}
+use Rattle.pci_picture.specs.Spots.{Section, BoxSpot, first_address, region_last_address, classes_drawn, lines_drawn, all_of, Rise, AreBoxesStanding, EachStands}
 use Rattle.pci_picture.specs.Stacked.{height_at}
 use Rattle.pci_picture.specs.declared.heights.Run.{Run}
 use Rattle.pci_picture.specs.declared.lanes.Width.{Width}
@@ -16,6 +17,7 @@ use Rattle.pci_picture.specs.declared.map.Line.{Line}
 use Rattle.pci_picture.specs.declared.plan.Member.{Member}
 use Rattle.pci_picture.specs.declared.plan.Placed.{Placed}
 use Rattle.pci_picture.specs.declared.plan.Site.{Site}
+use Rattle.pci_picture.specs.declared.region.Region.{Region}
 
 -- where a box stands, of the heights of its first address and of the one past its last
 pub record IsFramed (height_of : ℕ → ℕ) (first last y height : ℕ) : Type 0 where
@@ -33,8 +35,9 @@ pub record ArePlanned (lines : List (List ℕ)) (runs : List Run) (bottom : ℕ)
   pub rise : Rise lines (height_at runs bottom)
 
 -- the boxes of regions with these widths, whose heights are those of their addresses, where the runs stand in their order
-pub record AreFramed (placed : List Placed) (runs : List Run) (bottom : ℕ) (spots : List BoxSpot) : Type 0 where
+pub record AreFramed (look : Look) (placed : List Placed) (runs : List Run) (bottom : ℕ) (spots : List BoxSpot) : Type 0 where
   pub drawn : lines_drawn spots ≡ lines_of_regions (regions_placed placed)
+  pub looks : classes_drawn spots ≡ looks_placed look placed
   pub sides : sides_drawn spots ≡ map sides_of_width (widths_placed placed)
   pub framed : IsNonDecreasingBy (λ (run : Run). run.begin) runs
       → All (IsFramedAt (height_at runs bottom)) spots
@@ -46,10 +49,16 @@ pub record AreDrawnBeside (site : Site) (members : List Member) (spots : List Bo
   pub beside : StandBesideIn site (count_in_place members) (regions_of_members members) widths
 
 -- the boxes of the members of a section that ends at a height
-pub record AreOfSection (site : Site) (members : List Member) (end : ℕ) (spots : List BoxSpot) : Type 0 where
+pub record AreOfSection (look : Look) (site : Site) (members : List Member) (end : ℕ) (spots : List BoxSpot) : Type 0 where
   pub drawn : lines_drawn spots ≡ lines_of_regions (regions_of_members members)
+  pub looks : classes_drawn spots ≡ looks_up_to look (count_in_place members) (regions_of_members members)
   pub stand : end < 2 ^ 64 - 1 → AreBoxesStanding spots
   pub beside : AreDrawnBeside site members spots
+
+-- the boxes of what is off
+pub record AreOff (regions : List Region) (spots : List BoxSpot) : Type 0 where
+  pub drawn : lines_drawn spots ≡ lines_of_regions regions
+  pub grey : All (λ spot. spot.class ≡ codes "off") spots
 
 -- ---- members by sections
 
@@ -66,8 +75,9 @@ pub record Group : Type 0 where
   pub members : List Member
   pub site : Site
 
-pub record IsGroup (group : Group) : Type 0 where
+pub record IsGroup (look : Look) (group : Group) : Type 0 where
   pub drawn : lines_drawn group.section.spots ≡ lines_of_regions (regions_of_members group.members)
+  pub looks : classes_drawn group.section.spots ≡ looks_up_to look (count_in_place group.members) (regions_of_members group.members)
   pub lost : group.section.lost ≡ lines_below_headings is_lost (map headed_member group.members)
   pub alike : All (λ member. member.section ≡ group.section.number) group.members
   pub lost_last : IsNonDecreasingBy member_number group.members
@@ -85,11 +95,11 @@ abbrev pub members_of_groups : List Group → List Member
 members_of_groups groups = flat_map (λ group. group.members) groups
 
 -- the boxes of the first members in sections with one room, of which the last one ends at a height
-pub record AreGrouped (first : Site) (members : List Member) (count end : ℕ) (spots : List BoxSpot) : Type 0 where
+pub record AreGrouped (look : Look) (first : Site) (members : List Member) (count end : ℕ) (spots : List BoxSpot) : Type 0 where
   pub groups : List Group
   pub joined : all_of (sections_of groups) ≡ spots
   pub taken : members_of_groups groups ≡ take count members
-  pub each : All IsGroup groups
+  pub each : All (IsGroup look) groups
   pub rise : AllPairs (λ one other. one.number < other.number) (sections_of groups)
   pub below : (d : Member) → count < length members
       → All (λ section. section.number < (slice_index_or members count d).section) (sections_of groups)
@@ -98,11 +108,11 @@ pub record AreGrouped (first : Site) (members : List Member) (count end : ℕ) (
 
 -- the boxes of lines in sections, of which the last one ends at a height: each region once. What is out of place is in the
 -- section of the root, by the functions that are listed. The lines stand as deep as they were read
-pub record AreOfSections (first : Site) (functions : List Listed) (lines : List Line) (end : ℕ) (spots : List BoxSpot) : Type 0 where
+pub record AreOfSections (look : Look) (first : Site) (functions : List Listed) (lines : List Line) (end : ℕ) (spots : List BoxSpot) : Type 0 where
   pub sections : List Section
   pub joined : all_of sections ≡ spots
   pub each_once : IsPermutation (lines_of_regions (regions_under lines)) (lines_drawn spots)
   pub below_headings : AreSectionsOf (map headed_line lines) sections
   pub by_root : All (AreLostByRoot functions) sections
   pub stand : EachStands end sections
-  pub nested : HasSides first → All (HasNestedBoxes (map headed_line lines)) sections
+  pub nested : HasSides first → All (HasNestedBoxes look (map headed_line lines)) sections

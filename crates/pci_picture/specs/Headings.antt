@@ -3,7 +3,7 @@ use Rattle.std.specs.Prelude.{◌≡◌, ◌⊎◌, ◌<◌, ℕ, Bool, true, fa
 use Rattle.std.specs.List.{All, AllPairs, Any, filter, flat_map, slice_split}
 use Rattle.std.specs.List.Sorted.{IsPermutation}
 use Rattle.pci_picture.specs.Lines.{leading_blanks, unindented_line, is_feed, is_region_line, is_register, nth_word, says, indented_if_region, hex_value, words_in_line}
-use Rattle.pci_picture.specs.Spots.{Section, lines_drawn}
+use Rattle.pci_picture.specs.Spots.{Section, first_address, lines_drawn}
 use Rattle.pci_picture.specs.declared.map.Heading.{Heading}
 use Rattle.pci_picture.specs.declared.map.Heading.TheVariants.{Section as InSection, Lost, Off}
 
@@ -22,19 +22,20 @@ heading_told line =
     else Off)
     else (if says (nth_word (words_in_line line) 0) (codes "outside") || says (nth_word (words_in_line line) 0) (codes "unreached") then Lost else Off)
 
--- what the lines above a line say of it: its heading, whether it stands below a line `unclaimed S`, and how deep the line right
--- before it stands, 0 where that is no region
+-- what the lines above a line say of it: its heading, whether it stands below a line `unclaimed S`, how deep the line right
+-- before it stands, 0 where that is no region, and the first address of the last line of depth 1
 pub record ReadSoFar : Type 0 where
   pub heading : Heading
   pub is_taken : Bool
   pub level : ℕ
+  pub top : ℕ
 
-abbrev pub reading_at : Heading → Bool → ℕ → ReadSoFar
-reading_at heading is_taken level = record { heading = heading; is_taken = is_taken; level = level }
+abbrev pub reading_at : Heading → Bool → ℕ → ℕ → ReadSoFar
+reading_at heading is_taken level top = record { heading = heading; is_taken = is_taken; level = level; top = top }
 
 -- the first line of a text stands below no heading
 abbrev pub at_begin : ReadSoFar
-at_begin = reading_at Off false 0
+at_begin = reading_at Off false 0 0
 
 abbrev pub is_in_section : Heading → Bool
 is_in_section (InSection n) = true
@@ -53,30 +54,39 @@ depth_behind reading steps =
 abbrev pub depth_of_line : ReadSoFar → List ℕ → ℕ
 depth_of_line reading line = depth_behind reading (leading_blanks line / 2)
 
+-- the first address of the line of depth 1 that a region is or stands inside, where it stands so deep
+abbrev pub top_behind : ReadSoFar → ℕ → List ℕ → ℕ
+top_behind reading depth line = if depth == 1 then first_address line else reading.top
+
 -- what is said of the line below a line: the line is a heading where it has fewer than two blanks before it, else a region or
 -- something else
 unfoldable pub read_on : ReadSoFar → List ℕ → ReadSoFar
 read_on reading line =
     if nat_lt (leading_blanks line) 2
-    then reading_at (heading_told line) false 0
+    then reading_at (heading_told line) false 0 reading.top
     else (if is_region_line (unindented_line line)
-    then reading_at reading.heading reading.is_taken (depth_of_line reading line)
-    else reading_at reading.heading (says (nth_word (words_in_line line) 0) (codes "unclaimed")) 0)
+    then reading_at reading.heading reading.is_taken (depth_of_line reading line) (top_behind reading (depth_of_line reading line) (unindented_line line))
+    else reading_at reading.heading (says (nth_word (words_in_line line) 0) (codes "unclaimed")) 0 reading.top)
 
 -- ---- the regions of a map, each with its heading and its depth
 
--- a region, the heading above it, and how deep it stands
+-- a region, the heading above it, how deep it stands, and the first address of the line of depth 1 that it is or stands inside
 pub record Headed : Type 0 where
   pub heading : Heading
   pub depth : ℕ
+  pub top : ℕ
   pub line : List ℕ
 
-abbrev pub headed : Heading → ℕ → List ℕ → Headed
-headed heading depth line = record { heading = heading; depth = depth; line = line }
+abbrev pub headed : Heading → ℕ → ℕ → List ℕ → Headed
+headed heading depth top line = record { heading = heading; depth = depth; top = top; line = line }
+
+-- a region at a depth
+abbrev pub headed_at : ReadSoFar → ℕ → List ℕ → Headed
+headed_at reading depth line = headed reading.heading depth (top_behind reading depth line) line
 
 -- the region that a line is, if it is one
 abbrev pub headed_behind : ReadSoFar → List ℕ → List Headed
-headed_behind reading line = map (headed reading.heading (depth_of_line reading line)) (indented_if_region line)
+headed_behind reading line = map (headed_at reading (depth_of_line reading line)) (indented_if_region line)
 
 -- the regions of some lines
 abbrev pub headed_lines : ReadSoFar → List (List ℕ) → List Headed

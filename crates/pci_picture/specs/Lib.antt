@@ -7,6 +7,8 @@ pub mod Spots
 pub mod Headings
 pub mod Boxes
 pub mod Canvases
+pub mod Marks
+pub mod Looks
 pub mod Maps
 pub mod Depths
 pub mod Drawings
@@ -19,6 +21,6 @@ pub mod ByRoots
 pub mod Lanes
 pub mod Seats
 pub mod Sides
-pub mod Members
 pub mod Nested
+pub mod Members
 pub mod Siblings

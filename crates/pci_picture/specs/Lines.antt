@@ -80,6 +80,10 @@ is_slot word =
     (length word == 7) && (slice_index word 2 == 58) && (slice_index word 5 == 46)
     && is_register (take 2 word) && is_register (take 2 (drop 3 word)) && is_digit (slice_index word 6)
 
+-- its number, in hex `bbddf`
+unfoldable pub slot_number_of : List ℕ → ℕ
+slot_number_of word = hex_value (take 2 word) * 4096 + hex_value (take 2 (drop 3 word)) * 16 + hex_digit_value (slice_index word 6)
+
 abbrev pub names_register : List (List ℕ) → ℕ → Bool
 names_register words at = is_slot (nth_word words at) && is_register (nth_word words (at + 1))
 

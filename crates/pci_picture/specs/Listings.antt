@@ -1,13 +1,9 @@
 -- Which functions the text of `show` lists.
-use Rattle.std.specs.Prelude.{ℕ, Bool, ◌+◌, ◌*◌, ◌&&◌, Some, None, List, [], ◌∷◌, ◌++◌, take, drop, fold, slice_index, nat_eq, codes, if◌then◌else◌}
+use Rattle.std.specs.Prelude.{ℕ, Bool, ◌&&◌, Some, None, List, [], ◌∷◌, ◌++◌, take, fold, nat_eq, codes, if◌then◌else◌}
 use Rattle.std.specs.List.{slice_split, starts_with}
 use Rattle.std.specs.List.Sorted.{IsPermutation, IsNonDecreasingBy}
-use Rattle.pci_picture.specs.Lines.{hex_digit_value, hex_value, is_feed, is_number, is_register, is_slot, nth_word, unindented_line, words_in_line}
+use Rattle.pci_picture.specs.Lines.{hex_value, is_feed, is_number, is_register, is_slot, nth_word, slot_number_of, unindented_line, words_in_line}
 use Rattle.pci_picture.specs.Roots.{Listed}
-
--- the number of a slot `bb:dd.f`, in hex `bbddf`
-unfoldable pub slot_number_of : List ℕ → ℕ
-slot_number_of word = hex_value (take 2 word) * 4096 + hex_value (take 2 (drop 3 word)) * 16 + hex_digit_value (slice_index word 6)
 
 -- ---- lines
 

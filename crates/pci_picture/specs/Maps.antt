@@ -35,12 +35,13 @@ heading_in (Some number) = Section number
 heading_in None = Lost
 
 abbrev pub headed_line : Line → Headed
-headed_line line = headed (heading_in line.section) line.region.depth line.region.line.now
+headed_line line = headed (heading_in line.section) line.region.depth line.top line.region.line.now
 
 abbrev pub headed_member : Member → Headed
-headed_member member = headed (if member.is_lost then Lost else Section member.section) member.region.depth member.region.line.now
+headed_member member = headed (if member.is_lost then Lost else Section member.section) member.region.depth member.top member.region.line.now
 
--- a map has the regions of some lines of text, each with its heading and its depth; those that are off stand apart
+-- a map has the regions of some lines of text, each with its heading, its depth and its line of depth 1; those that are off stand
+-- apart
 pub record IsReadOf {A : Type 0} (lines : List (List ℕ)) (read : Map A) : Type 0 where
   pub each_once : IsPermutation (flat_map indented_if_region lines) (lines_read read)
   pub kept : map headed_line read.lines.items ≡ filter is_below_heading (headed_lines at_begin lines)

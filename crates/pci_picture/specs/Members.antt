@@ -1,9 +1,11 @@
 -- The members of sections, and how deep they stand.
-use Rattle.std.specs.Prelude.{◌≡◌, ℕ, ◌+◌, ◌*◌, ◌==◌, ◌&&◌, Bool, IsTrue, not, List, if◌then◌else◌}
+use Rattle.std.specs.Prelude.{◌≡◌, ℕ, ◌+◌, ◌*◌, ◌==◌, ◌&&◌, Bool, IsTrue, not, List, map, if◌then◌else◌}
 use Rattle.std.specs.List.{All, filter}
 use Rattle.std.specs.List.Sorted.{IsNonDecreasingBy}
 use Rattle.pci_picture.specs.Lanes.{IsIndented}
-use Rattle.pci_picture.specs.Maps.{regions_of_members}
+use Rattle.pci_picture.specs.Maps.{headed_line, headed_member, regions_of_members}
+use Rattle.pci_picture.specs.Nested.{AreSortedByTop, headed_in}
+use Rattle.pci_picture.specs.declared.map.Line.{Line}
 use Rattle.pci_picture.specs.declared.plan.Member.{Member}
 use Rattle.pci_picture.specs.declared.region.Region.{Region}
 
@@ -27,3 +29,8 @@ pub record AreIndentedBySection (members : List Member) : Type 0 where
   pub indented : (number : ℕ) → IsIndented (regions_below number members)
   pub flat : All IsFlatIfLost members
   pub lost_last : IsNonDecreasingBy member_number members
+
+-- what is in place of a section are the regions of its lines, in their order but that lines of depth 1 rise
+abbrev pub AreSortedBySection : List Line → List Member → Type 0
+AreSortedBySection lines members =
+    (number : ℕ) → AreSortedByTop (headed_in number (map headed_line lines)) (map headed_member (filter (is_member_in_place number) members))

@@ -2,6 +2,7 @@
 use Rattle.std.specs.Prelude.{◌≡◌, ℕ, Bool, ◌==◌, ◌||◌, ◌/◌, ◌%◌, List, [], take, codes, if◌then◌else◌}
 use Rattle.std.specs.List.{position_or_len}
 use Rattle.pci_picture.specs.Lines.{hex_value, is_dash_byte, nth_word, says, words_in_line}
+use Rattle.pci_picture.specs.Marks.{key_of_region}
 
 -- ---- the numbers of slots and keys
 
@@ -41,5 +42,6 @@ is_io_line line = digits_of_word (nth_word (words_in_line line) 0) == 8
 
 -- a key and a number of digits are those of a line
 pub record IsOfLine (line : List ℕ) (key digits : ℕ) : Type 0 where
+  pub key_is : key ≡ key_of_region (words_in_line line)
   pub bus : bus_of_slot (slot_of_key key) ≡ bus_of_line line
   pub space : (digits == 8) ≡ is_io_line line

@@ -19,19 +19,23 @@ pub record IsExtentWord (word : List ℕ) (first last : ℕ) : Type 0 where
 
 -- ---- boxes with their places
 
--- a line of a map that is a region, and where its box stands: its left end and its top, its width and its height
+-- a line of a map that is a region, the class of its box, and where this stands: its left end and its top, its width and its height
 pub record BoxSpot : Type 0 where
   pub line : List ℕ
+  pub class : List ℕ
   pub x : ℕ
   pub y : ℕ
   pub width : ℕ
   pub height : ℕ
 
-abbrev pub spot_at : ℕ → ℕ → ℕ → ℕ → List ℕ → BoxSpot
-spot_at x y width height line = record { line = line; x = x; y = y; width = width; height = height }
+abbrev pub spot_at : ℕ → ℕ → ℕ → ℕ → List ℕ → List ℕ → BoxSpot
+spot_at x y width height class line = record { line = line; class = class; x = x; y = y; width = width; height = height }
 
 abbrev pub lines_drawn : List BoxSpot → List (List ℕ)
 lines_drawn spots = map (λ spot. spot.line) spots
+
+abbrev pub classes_drawn : List BoxSpot → List (List ℕ)
+classes_drawn spots = map (λ spot. spot.class) spots
 
 -- a section of a picture: its number, its boxes, and those of its lines that are out of place
 pub record Section : Type 0 where

@@ -1,11 +1,12 @@
 //! A board, read from the texts of three commands.
 ghost use Rattle.std.specs.Prelude.{◌≡◌, [], ◌∷◌, Some, None, unwrap_or, slice_index_or, IfOk};
 ghost use Rattle.std.specs.List.{slice_split};
-ghost use Rattle.pci_picture.specs.Depths.{AreChained};
 ghost use Rattle.pci_picture.specs.Boxes.{titled_line};
+ghost use Rattle.pci_picture.specs.Depths.{AreChained};
 ghost use Rattle.pci_picture.specs.Lines.{is_feed};
 ghost use Rattle.pci_picture.specs.Listings.{AreFunctionsListed};
 ghost use Rattle.pci_picture.specs.Maps.{IsReadOf};
+ghost use Rattle.pci_picture.specs.Marks.{AreFaultsOf};
 ghost use Rattle.pci_picture.specs.Roots.{AreBusesAbove, AreRoots, go_up, listed_functions};
 
 use super::faults::{Fault, Faults};
@@ -118,6 +119,7 @@ impl<'a, A: Allocator + Copy> Board<'a, A> {
     pub fn read(alloc: A, texts: &Texts<'a>) -> Result<Board<'a, A>, OutOfMemory>
         ensures map { IfOk result (λ board. IsReadOf (slice_split is_feed texts.entry.now.map.now) board.map) }
         ensures chained { IfOk result (λ board. AreChained board.map.lines.items) }
+        ensures faults { IfOk result (λ board. AreFaultsOf texts.entry.now.faults.now board.faults) }
         ensures show { IfOk result (λ board. AreFunctionsListed texts.entry.now.show.now (listed_functions board.functions.items)) }
     {
         let mut functions = read_functions(alloc, texts.show)?;

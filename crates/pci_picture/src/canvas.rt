@@ -80,7 +80,7 @@ impl<A: Allocator + Copy> Canvas<A> {
     /// Draws a box with its title.
     pub fn add_box(&mut self, shape: Shape<'_>, title: &[u8]) -> Result<(), OutOfMemory>
         ensures { OnOk result (AddsToCanvas (titled_spot (titled shape.entry.at.x shape.entry.at.y shape.entry.at.width
-            shape.entry.at.height title.now)) self.old self.new) }
+            shape.entry.at.height shape.entry.class.now title.now)) self.old self.new) }
     {
         self.element.clear();
         push_box(

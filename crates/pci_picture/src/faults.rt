@@ -1,4 +1,6 @@
 //! The text of `faults --why`.
+ghost use Rattle.std.specs.List.Sorted.{IsNonDecreasingBy};
+ghost use Rattle.pci_picture.specs.declared.faults.Naming.{Naming};
 
 use super::memory::OutOfMemory;
 use super::reading::{key_at, slot_number, slot_of, stripped, word, word_count};
@@ -13,6 +15,32 @@ pub enum Keys {
 }
 
 impl Keys {
+    ghost use Rattle.std.specs.Prelude.{◌≡◌};
+    ghost use Rattle.pci_picture.specs.Lines.{words_in_line};
+    ghost use Rattle.pci_picture.specs.Marks.{keys_of_fault, keys_told};
+
+    /// Those that the first line of a fault names.
+    #[tactic(auto, unfolding(crate::specs::Marks::keys_of_fault))]
+    fn of(number: u8, line: &[u8]) -> Keys
+        ensures { keys_told result ≡ keys_of_fault number (words_in_line line.now) }
+    {
+        let count = word_count(line);
+        match number {
+            60 | 63 => match key_at(line, 2) {
+                Some(key) => Keys::One(key),
+                None => Keys::None,
+            },
+            61 | 62 => match (
+                key_at(line, count.saturating_sub(4)),
+                key_at(line, count.saturating_sub(2)),
+            ) {
+                (Some(one), Some(other)) => Keys::Two(one, other),
+                _ => Keys::None,
+            },
+            _ => Keys::None,
+        }
+    }
+
     /// The first of them.
     pub fn first(self) -> Option<u64> {
         match self {
@@ -42,6 +70,22 @@ pub struct Fault {
 }
 
 impl Fault {
+    ghost use Rattle.std.specs.Prelude.{◌≡◌};
+    ghost use Rattle.pci_picture.specs.Marks.{number_before_blank};
+
+    /// The number with which the first line of a fault begins: two digits and a blank.
+    #[tactic(auto, unfolding(crate::specs::Marks::number_before_blank))]
+    fn number_of(line: &[u8]) -> Option<u8>
+        ensures { result ≡ number_before_blank line.now }
+    {
+        match line {
+            [tens @ b'0'..=b'9', ones @ b'0'..=b'9', b' ', ..] => {
+                Some((*tens - b'0') * 10 + (*ones - b'0'))
+            }
+            _ => None,
+        }
+    }
+
     /// How many lines it has.
     pub fn lines(&self) -> usize {
         self.end.saturating_sub(self.begin)
@@ -74,35 +118,16 @@ pub struct Faults<'a, A: Allocator> {
     pub namings: Vec<Naming, A>,
     /// By rising slot.
     pub badges: Vec<Badge, A>,
+    ghost sorted: { IsNonDecreasingBy (λ (naming : Naming). naming.key) namings.items },
 }
 
-/// The number with which the first line of a fault begins: two digits and a blank.
-fn fault_number(line: &[u8]) -> Option<u8> {
-    match line {
-        [tens @ b'0'..=b'9', ones @ b'0'..=b'9', b' ', ..] => {
-            Some((*tens - b'0') * 10 + (*ones - b'0'))
-        }
-        _ => None,
-    }
-}
-
-/// The regions that the first line of a fault names.
-fn keys_of(number: u8, line: &[u8]) -> Keys {
-    let count = word_count(line);
-    match number {
-        60 | 63 => match key_at(line, 2) {
-            Some(key) => Keys::One(key),
-            None => Keys::None,
-        },
-        61 | 62 => match (
-            key_at(line, count.saturating_sub(4)),
-            key_at(line, count.saturating_sub(2)),
-        ) {
-            (Some(one), Some(other)) => Keys::Two(one, other),
-            _ => Keys::None,
-        },
-        _ => Keys::None,
-    }
+/// The faults of the lines that were read. What they name and what the tree shows of them stands in their order.
+#[derive(Drop)]
+struct Reader<'a, A: Allocator> {
+    lines: Vec<&'a [u8], A>,
+    faults: Vec<Fault, A>,
+    namings: Vec<Naming, A>,
+    badges: Vec<Badge, A>,
 }
 
 /// The first slot of a line.
@@ -115,10 +140,15 @@ fn first_slot(line: &[u8]) -> Option<u32> {
     None
 }
 
-impl<'a, A: Allocator + Copy> Faults<'a, A> {
+impl<'a, A: Allocator + Copy> Reader<'a, A> {
+    ghost use Rattle.std.specs.Prelude.{◌≡◌, ◌++◌, Some, OnOk};
+    ghost use Rattle.pci_picture.specs.Marks.{AddsFault, fault_numbers, keys_told, namings_of, number_before_blank};
+
     /// Adds a fault, by its first line.
-    fn begin(&mut self, number: u8, line: &'a [u8]) -> Result<(), OutOfMemory> {
-        let keys = keys_of(number, line);
+    fn begin(&mut self, number: u8, line: &'a [u8]) -> Result<(), OutOfMemory>
+        ensures { OnOk result (AddsFault (Some number) line.entry.now self.old self.new) }
+    {
+        let keys = Keys::of(number, line);
         let fault = self.faults.len();
         let begin = self.lines.len();
         self.lines.push(line)?;
@@ -133,7 +163,10 @@ impl<'a, A: Allocator + Copy> Faults<'a, A> {
     }
 
     /// Adds the regions that a fault is about.
-    fn name(&mut self, keys: Keys, fault: usize) -> Result<(), OutOfMemory> {
+    fn name(&mut self, keys: Keys, fault: usize) -> Result<(), OutOfMemory>
+        ensures named { OnOk result (self.new.namings.items ≡ self.old.namings.items ++ namings_of fault (keys_told keys)) }
+        ensures same { self.new.faults ≡ self.old.faults }
+    {
         match keys {
             Keys::None => {}
             Keys::One(key) => self.namings.push(Naming { key, fault })?,
@@ -146,7 +179,10 @@ impl<'a, A: Allocator + Copy> Faults<'a, A> {
     }
 
     /// Adds what the tree shows of a fault.
-    fn mark(&mut self, number: u8, keys: Keys, line: &[u8]) -> Result<(), OutOfMemory> {
+    fn mark(&mut self, number: u8, keys: Keys, line: &[u8]) -> Result<(), OutOfMemory>
+        ensures faults { self.new.faults ≡ self.old.faults }
+        ensures namings { self.new.namings ≡ self.old.namings }
+    {
         if number == 60 {
             let last = word(line, word_count(line).saturating_sub(1));
             if let Some(slot) = slot_number(last) {
@@ -167,7 +203,10 @@ impl<'a, A: Allocator + Copy> Faults<'a, A> {
     }
 
     /// Adds one badge.
-    fn badge(&mut self, slot: u32, number: u8, is_bridge: bool) -> Result<(), OutOfMemory> {
+    fn badge(&mut self, slot: u32, number: u8, is_bridge: bool) -> Result<(), OutOfMemory>
+        ensures faults { self.new.faults ≡ self.old.faults }
+        ensures namings { self.new.namings ≡ self.old.namings }
+    {
         self.badges.push(Badge {
             slot,
             number,
@@ -177,7 +216,10 @@ impl<'a, A: Allocator + Copy> Faults<'a, A> {
     }
 
     /// Adds a further line of the last fault.
-    fn reason(&mut self, line: &'a [u8]) -> Result<(), OutOfMemory> {
+    fn reason(&mut self, line: &'a [u8]) -> Result<(), OutOfMemory>
+        ensures faults { fault_numbers self.new.faults.items ≡ fault_numbers self.old.faults.items }
+        ensures namings { self.new.namings ≡ self.old.namings }
+    {
         if let Some(fault) = self.faults.last_mut() {
             self.lines.push(line)?;
             fault.end = self.lines.len();
@@ -186,8 +228,10 @@ impl<'a, A: Allocator + Copy> Faults<'a, A> {
     }
 
     /// Reads a line: the first one of a fault, a further one, or none of a fault.
-    fn take(&mut self, line: &'a [u8]) -> Result<(), OutOfMemory> {
-        if let Some(number) = fault_number(line) {
+    fn take(&mut self, line: &'a [u8]) -> Result<(), OutOfMemory>
+        ensures { OnOk result (AddsFault (number_before_blank line.entry.now) line.entry.now self.old self.new) }
+    {
+        if let Some(number) = Fault::number_of(line) {
             self.begin(number, line)
         } else if line.starts_with(b"  ") {
             self.reason(stripped(line))
@@ -195,25 +239,38 @@ impl<'a, A: Allocator + Copy> Faults<'a, A> {
             Ok(())
         }
     }
+}
+
+impl<'a, A: Allocator + Copy> Faults<'a, A> {
+    ghost use Rattle.std.specs.Prelude.{◌≡◌, ◌==◌, IfOk};
+    ghost use Rattle.std.specs.List.{filter, slice_get};
+    ghost use Rattle.pci_picture.specs.Marks.{AreFaultsOf, has_naming, has_one_of};
 
     /// Reads the faults from what `faults --why` prints.
-    pub fn read(alloc: A, text: &'a str) -> Result<Faults<'a, A>, OutOfMemory> {
-        let mut faults = Faults {
+    pub fn read(alloc: A, text: &'a str) -> Result<Faults<'a, A>, OutOfMemory>
+        ensures { IfOk result (λ faults. AreFaultsOf text.entry.now faults) }
+    {
+        let mut reader = Reader {
             lines: Vec::new(alloc),
             faults: Vec::new(alloc),
             namings: Vec::new(alloc),
             badges: Vec::new(alloc),
         };
         for line in text.split('\n') {
-            faults.take(line.as_bytes())?;
+            reader.take(line.as_bytes())?;
         }
-        faults
+        reader
             .namings
             .sort_by_key(|naming| (naming.key, naming.fault))?;
-        faults
+        reader
             .badges
             .sort_by_key(|badge| (badge.slot, badge.number, badge.is_bridge))?;
-        Ok(faults)
+        Ok(Faults {
+            lines: reader.lines,
+            faults: reader.faults,
+            namings: reader.namings,
+            badges: reader.badges,
+        })
     }
 
     /// The line with an index, or nothing behind the last one.
@@ -225,7 +282,9 @@ impl<'a, A: Allocator + Copy> Faults<'a, A> {
     }
 
     /// The faults that are about a region.
-    pub fn of(&self, key: u64) -> &[Naming] {
+    pub fn of(&self, key: u64) -> &[Naming]
+        ensures { result.now ≡ filter (λ naming. naming.key == key) self.now.namings.items }
+    {
         let begin = self.namings.partition_point(|naming| naming.key < key);
         let end = self.namings.partition_point(|naming| naming.key <= key);
         self.namings.as_slice().get(begin..end).unwrap_or(&[])
@@ -238,11 +297,22 @@ impl<'a, A: Allocator + Copy> Faults<'a, A> {
         self.badges.as_slice().get(begin..end).unwrap_or(&[])
     }
 
+    /// Whether the fault with an index has one of two numbers.
+    fn is_numbered(&self, index: usize, one: u8, other: u8) -> bool
+        ensures { result ≡ has_one_of one other (slice_get self.now.faults.items index) }
+    {
+        match self.faults.get(index) {
+            Some(fault) => fault.number == one || fault.number == other,
+            None => false,
+        }
+    }
+
     /// Whether a fault about a region has one of two numbers.
-    pub fn has(&self, key: u64, one: u8, other: u8) -> bool {
+    pub fn has(&self, key: u64, one: u8, other: u8) -> bool
+        ensures { result ≡ has_naming self.now.faults.items self.now.namings.items one other key }
+    {
         self.of(key)
             .iter()
-            .filter_map(|naming| self.faults.get(naming.fault))
-            .any(|fault| fault.number == one || fault.number == other)
+            .any(|naming| self.is_numbered(naming.fault, one, other))
     }
 }

@@ -15,6 +15,7 @@ pub mod lanes;
 pub mod laws;
 pub mod legend;
 pub mod listing;
+pub mod look;
 pub mod map;
 pub mod memory;
 pub mod picture;

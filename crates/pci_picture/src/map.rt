@@ -89,7 +89,7 @@ struct Reader<'a, A: Allocator> {
 impl<'a, A: Allocator + Copy> Reader<'a, A> {
     /// Adds a region below the heading.
     fn put(&mut self, region: Region<'a>) -> Result<(), OutOfMemory>
-        ensures taken { OnOk result (TakesUp (headed self.old.heading region.entry.depth region.entry.line.now ∷ []) self.old.map self.new.map) }
+        ensures taken { OnOk result (TakesUp (headed self.old.heading region.entry.depth self.old.top region.entry.line.now ∷ []) self.old.map self.new.map) }
         ensures chained { OnOk result (AreChained self.old.map.lines.items → StandsWithin self.old region.entry → KnowsDepths self.new) }
         ensures same { reading_of self.new ≡ reading_of self.old }
     {

@@ -6,6 +6,7 @@ ghost use Rattle.std.specs.List.Sorted.{IsNonDecreasingBy};
 ghost use Rattle.pci_picture.specs.Cuts.{AddsEnds, IsRegionCut, KeepsCuts};
 ghost use Rattle.pci_picture.specs.Drawings.{ArePlanned, IsFramed};
 ghost use Rattle.pci_picture.specs.Lanes.{IsIndented};
+ghost use Rattle.pci_picture.specs.Looks.{Look, looks_of, looks_placed, looks_up_to};
 ghost use Rattle.pci_picture.specs.Maps.{lines_of_regions, regions_of_members, regions_placed};
 ghost use Rattle.pci_picture.specs.Sides.{AddsWidths, StandBesideIn, count_in_place, widths_placed};
 ghost use Rattle.pci_picture.specs.Stacked.{height_at};
@@ -299,6 +300,8 @@ impl<'a, A: Allocator + Copy> Plan<'a, A> {
         ensures planned { IfOk result (λ plan. plan.heights.bottom < 2 ^ 64 - 1
             → ArePlanned (lines_of_regions (regions_of_members members.entry.now)) plan.heights.runs.items plan.heights.bottom) }
         ensures down { IfOk result (λ plan. site.now.y ≤ plan.heights.bottom) }
+        ensures looks { IfOk result (λ plan. (look : Look) → looks_placed look plan.placed.items
+            ≡ looks_up_to look (count_in_place members.entry.now) (regions_of_members members.entry.now)) }
         ensures beside { IfOk result (λ plan. StandBesideIn site.now (count_in_place members.entry.now)
             (regions_of_members members.entry.now) (widths_placed plan.placed.items)) }
     {
@@ -351,6 +354,7 @@ fn placed_of<'a, A: Allocator + Copy>(
     index: usize,
 ) -> Result<Vec<Placed<'a>, A>, OutOfMemory>
     ensures regions { IfOk result (λ placed. regions_placed placed.items ≡ regions.entry.now) }
+    ensures looks { IfOk result (λ placed. (look : Look) → looks_placed look placed.items ≡ looks_up_to look index regions.entry.now) }
     ensures beside { IfOk result (λ placed. StandBesideIn site.now index regions.entry.now (widths_placed placed.items)) }
 {
     let left = site.x.saturating_add(AXIS);
@@ -389,6 +393,8 @@ fn place<'a, A: Allocator + Copy>(
     is_lost: bool,
 ) -> Result<(), OutOfMemory>
     ensures regions { OnOk result (regions_placed placed.new.items ≡ regions_placed placed.old.items ++ regions.entry.now) }
+    ensures looks { OnOk result ((look : Look) → looks_placed look placed.new.items
+        ≡ looks_placed look placed.old.items ++ looks_of look is_lost regions.entry.now) }
     ensures widths { OnOk result (IsIndented regions.entry.now → AddsWidths whole.left whole.right column regions.entry.now
         (widths_placed placed.old.items) (widths_placed placed.new.items)) }
 {

@@ -1,11 +1,11 @@
 //! Words, numbers and slots of a line.
-ghost use Rattle.std.specs.Prelude.{◌≡◌, ◌≤◌, ◌<◌, length, is_some, IfSome};
+ghost use Rattle.std.specs.Prelude.{◌≡◌, ◌≤◌, ◌<◌, ◌+◌, ◌*◌, drop, length, is_some, IfSome};
 ghost use Rattle.std.specs.List.{after_first, before_first, position_or_len};
 ghost use Rattle.pci_picture.specs.Bits.{lowest_of_16};
-ghost use Rattle.pci_picture.specs.Listings.{slot_number_of};
+ghost use Rattle.pci_picture.specs.Marks.{is_register_or_told, key_named_at, number_in_slot, number_of_place};
 ghost use Rattle.pci_picture.specs.Slots.{bus_of_slot, bus_of_word, digits_of_word, slot_of_key};
 ghost use Rattle.pci_picture.specs.Spots.{IsExtentWord};
-ghost use Rattle.pci_picture.specs.Lines.{leading_blanks, unindented_line, words_in_line, is_feed, nth_word, digit_of, hex_number_of, decimal_digit_of, decimal_number, is_register, is_slot, is_range, is_told_number, hex_value};
+ghost use Rattle.pci_picture.specs.Lines.{leading_blanks, unindented_line, words_in_line, is_feed, nth_word, digit_of, hex_number_of, decimal_digit_of, decimal_number, decimal_value, is_register, is_slot, is_range, is_told_number, hex_value, slot_number_of};
 
 use std::simd::prelude::*;
 
@@ -21,7 +21,10 @@ pub fn word(line: &[u8], index: usize) -> &[u8]
 }
 
 /// How many words a line has.
-pub fn word_count(line: &[u8]) -> usize {
+#[tactic(auto, unfolding(crate::specs::Lines::words_in_line))]
+pub fn word_count(line: &[u8]) -> usize
+    ensures { result ≡ length (words_in_line line.now) }
+{
     line.split(|byte| *byte == b' ')
         .filter(|word| !word.is_empty())
         .count()
@@ -150,7 +153,7 @@ pub fn hex_byte(digits: &[u8]) -> Option<u8>
 }
 
 /// The number of a slot `bb:dd.f`, in hex `bbddf`.
-#[tactic(auto, unfolding(crate::specs::Lines::is_slot, crate::specs::Slots::bus_of_slot, crate::specs::Listings::slot_number_of))]
+#[tactic(auto, unfolding(crate::specs::Lines::is_slot, crate::specs::Slots::bus_of_slot, crate::specs::Lines::slot_number_of))]
 pub fn slot_number(text: &[u8]) -> Option<u32>
     ensures value { IfSome result (λ number. number ≡ slot_number_of text.now) }
     ensures some { is_some result ≡ is_slot text.now }
@@ -200,7 +203,9 @@ fn decimal(digits: &[u8]) -> Option<u16>
 /// The number of a told range `+n`, from 1 to 4096.
 #[tactic(auto, unfolding(crate::specs::Lines::is_told_number))]
 pub fn told_number(text: &[u8]) -> Option<u16>
-    ensures { is_some result ≡ is_told_number text.now }
+    ensures some { is_some result ≡ is_told_number text.now }
+    ensures value { IfSome result (λ number. number ≡ decimal_value (drop 1 text.now)) }
+    ensures most { IfSome result (λ number. number ≤ 4096) }
 {
     if text.len() < 2 || 5 < text.len() || text[0] != b'+' || text[1] == b'0' {
         return None;
@@ -223,7 +228,8 @@ pub enum Place {
 /// all registers.
 #[tactic(auto, unfolding(crate::specs::Slots::slot_of_key))]
 pub fn region_key(slot: u32, place: Place) -> u64
-    ensures { slot_of_key result ≡ slot }
+    ensures slot { slot_of_key result ≡ slot }
+    ensures key { result ≡ slot * 65536 + number_of_place place }
 {
     let number = match place {
         Place::Register(register) => u16::from(register),
@@ -241,7 +247,11 @@ pub fn slot_of(key: u64) -> u32
 }
 
 /// What names a region of a slot, of a word `r` or `+n`.
-fn place_of(text: &[u8]) -> Option<Place> {
+#[tactic(auto, unfolding(crate::specs::Marks::number_in_slot))]
+fn place_of(text: &[u8]) -> Option<Place>
+    ensures some { is_some result ≡ is_register_or_told text.now }
+    ensures number { IfSome result (λ place. number_of_place place ≡ number_in_slot text.now) }
+{
     match hex_byte(text) {
         Some(register) => Some(Place::Register(register)),
         None => Some(Place::Told(told_number(text)?)),
@@ -249,7 +259,10 @@ fn place_of(text: &[u8]) -> Option<Place> {
 }
 
 /// The key of the region that two words of a line name: a slot, and a register or a told range.
-pub fn key_at(line: &[u8], index: usize) -> Option<u64> {
+#[tactic(auto, unfolding(crate::specs::Marks::key_of_words))]
+pub fn key_at(line: &[u8], index: usize) -> Option<u64>
+    ensures { result ≡ key_named_at (words_in_line line.now) index }
+{
     let slot = slot_number(word(line, index))?;
     let place = place_of(word(line, index.saturating_add(1)))?;
     Some(region_key(slot, place))

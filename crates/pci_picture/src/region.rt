@@ -1,6 +1,7 @@
 //! Lines of a map.
-ghost use Rattle.std.specs.Prelude.{◌≡◌, ◌&&◌, [], ◌∷◌, IsTrue, MatchOption, IfSome, is_some, codes, if◌then◌else◌};
+ghost use Rattle.std.specs.Prelude.{◌≡◌, ◌&&◌, [], ◌∷◌, IsTrue, MatchOption, Some, IfSome, is_some, codes, if◌then◌else◌};
 ghost use Rattle.pci_picture.specs.Lines.{is_one_line, names_part, is_region_line, is_register, is_slot, is_told_number, names_told, nth_word, line_if_region, says, words_in_line};
+ghost use Rattle.pci_picture.specs.Marks.{key_named_at, key_of_region, key_of_words, look_of_part, word_of_part};
 ghost use Rattle.pci_picture.specs.Slots.{IsOfLine, bus_of_slot, bus_of_word, slot_of_key, slot_word};
 ghost use Rattle.pci_picture.specs.Spots.{IsExtentWord};
 
@@ -44,6 +45,7 @@ pub struct Region<'a> {
     ghost is_told: { IsTrue (is_region_line line.now) },
     ghost ends: { IsExtentWord (nth_word (words_in_line line.now) 0) first last },
     ghost is_of_line: { IsOfLine line.now key digits },
+    ghost looks: { word_of_part part ≡ look_of_part (words_in_line line.now) },
 }
 
 impl Region<'_> {
@@ -76,6 +78,8 @@ struct Named<'a> {
 fn named_by<'a>(part: Part, slot: &'a [u8], register: &'a [u8]) -> Option<Named<'a>>
     ensures some { is_some result ≡ (is_slot slot.now && is_register register.now) }
     ensures bus { IfSome result (λ named. bus_of_slot (slot_of_key named.key) ≡ bus_of_word slot.now) }
+    ensures key { IfSome result (λ named. key_of_words slot.now register.now ≡ Some named.key) }
+    ensures part { IfSome result (λ named. named.part ≡ part) }
 {
     let number = slot_number(slot)?;
     let offset = hex_byte(register)?;
@@ -92,6 +96,8 @@ fn named_by<'a>(part: Part, slot: &'a [u8], register: &'a [u8]) -> Option<Named<
 fn told_by<'a>(part: Part, slot: &'a [u8], register: &'a [u8], name: &'a [u8]) -> Option<Named<'a>>
     ensures some { is_some result ≡ (is_slot slot.now && is_told_number register.now) }
     ensures bus { IfSome result (λ named. bus_of_slot (slot_of_key named.key) ≡ bus_of_word slot.now) }
+    ensures key { IfSome result (λ named. key_of_words slot.now register.now ≡ Some named.key) }
+    ensures part { IfSome result (λ named. named.part ≡ part) }
 {
     let number = slot_number(slot)?;
     let told = told_number(register)?;
@@ -110,6 +116,9 @@ fn told_behind(part: Part, line: &[u8]) -> Option<Named<'_>>
         (if says (nth_word (words_in_line line.now) 3) (codes "pref") then 4 else 3) }
     ensures bus { IfSome result (λ named. bus_of_slot (slot_of_key named.key)
         ≡ bus_of_word (nth_word (words_in_line line.now) (if says (nth_word (words_in_line line.now) 3) (codes "pref") then 4 else 3))) }
+    ensures key { IfSome result (λ named. key_named_at (words_in_line line.now)
+        (if says (nth_word (words_in_line line.now) 3) (codes "pref") then 4 else 3) ≡ Some named.key) }
+    ensures part { IfSome result (λ named. named.part ≡ part) }
 {
     let next = word(line, 3);
     if next == b"pref".as_slice() {
@@ -120,10 +129,12 @@ fn told_behind(part: Part, line: &[u8]) -> Option<Named<'_>>
 }
 
 /// The part that stands at the third word of a line, and what names it.
-#[tactic(auto, unfolding(crate::specs::Lines::names_part, crate::specs::Slots::slot_word, crate::specs::Slots::bus_of_slot, crate::specs::Slots::slot_of_key))]
+#[tactic(auto, unfolding(crate::specs::Lines::names_part, crate::specs::Slots::slot_word, crate::specs::Slots::bus_of_slot, crate::specs::Slots::slot_of_key, crate::specs::Marks::key_of_region, crate::specs::Marks::look_of_part))]
 fn named_of(line: &[u8]) -> Option<Named<'_>>
     ensures some { is_some result ≡ names_part (words_in_line line.now) }
     ensures bus { IfSome result (λ named. bus_of_slot (slot_of_key named.key) ≡ bus_of_word (slot_word (words_in_line line.now))) }
+    ensures key { IfSome result (λ named. named.key ≡ key_of_region (words_in_line line.now)) }
+    ensures looks { IfSome result (λ named. word_of_part named.part ≡ look_of_part (words_in_line line.now)) }
 {
     let part = word(line, 2);
     if part == b"bar".as_slice() {

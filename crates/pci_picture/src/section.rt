@@ -2,15 +2,17 @@
 ghost use Rattle.std.specs.Prelude.{◌≤◌, [], ◌∷◌, IfOk, OnOk};
 ghost use Rattle.pci_picture.specs.Canvases.{AddsToCanvas, AddsSome};
 ghost use Rattle.pci_picture.specs.Drawings.{AreFramed, AreOfSection};
+ghost use Rattle.pci_picture.specs.Looks.{class_by};
 ghost use Rattle.pci_picture.specs.Spots.{spot_at};
 
 use super::board::Board;
 use super::canvas::{Canvas, Label, Shape};
 use super::elements::Frame;
-use super::faults::{Fault, Faults};
+use super::faults::Fault;
 use super::function::Buses;
 use super::heights::{Heights, LINE, Run};
 use super::lanes::Width;
+use super::look::{class_of, put_marks};
 use super::memory::OutOfMemory;
 use super::plan::{AXIS, Member, Placed, Plan, Site, Told, frame_of, with_key};
 use super::region::{Part, Region};
@@ -111,52 +113,6 @@ fn draw_axis<A: Allocator + Copy>(
     canvas.add_heading(label, words.bytes.as_slice())
 }
 
-/// The classes of a region's box.
-fn class_of<A: Allocator + Copy>(
-    faults: &Faults<'_, A>,
-    region: &Region<'_>,
-    is_lost: bool,
-) -> &'static str {
-    let [plain, clash, lost, both] = match region.part {
-        Part::Bar => ["bar", "bar clash", "bar lost", "bar clash lost"],
-        Part::Prefetchable => ["pref", "pref clash", "pref lost", "pref clash lost"],
-        Part::Rom => ["rom", "rom clash", "rom lost", "rom clash lost"],
-        Part::Window => ["window", "window clash", "window lost", "window clash lost"],
-        Part::Told => ["told", "told clash", "told lost", "told clash lost"],
-        Part::Held => ["held", "held clash", "held lost", "held clash lost"],
-        Part::Free => ["free", "free clash", "free lost", "free clash lost"],
-    };
-    let is_lost = is_lost || faults.has(region.key, 60, 63);
-    match (faults.has(region.key, 61, 62), is_lost) {
-        (false, false) => plain,
-        (true, false) => clash,
-        (false, true) => lost,
-        (true, true) => both,
-    }
-}
-
-/// Appends the numbers of a region's faults, each once, with a colon behind them. Its answer is whether there is one.
-fn put_marks<A: Allocator + Copy>(
-    words: &mut Words<A>,
-    faults: &Faults<'_, A>,
-    region: &Region<'_>,
-) -> Result<bool, OutOfMemory> {
-    let mut is_marked = false;
-    for number in 60..64u8 {
-        if faults.has(region.key, number, number) {
-            if is_marked {
-                words.put(b" ")?;
-            }
-            words.put(&[b'0' + number / 10, b'0' + number % 10])?;
-            is_marked = true;
-        }
-    }
-    if is_marked {
-        words.put(b": ")?;
-    }
-    Ok(is_marked)
-}
-
 /// The name of a region's box, by which a link finds it: `r00:1f.2-24`, none where it is free.
 fn anchor_of<A: Allocator + Copy>(alloc: A, region: &Region<'_>) -> Result<Words<A>, OutOfMemory> {
     let mut anchor = Words::new(alloc);
@@ -179,7 +135,9 @@ fn draw_box<A: Allocator + Copy>(
     placed: &Placed<'_>,
     at: Frame,
 ) -> Result<(), OutOfMemory>
-    ensures { OnOk result (AddsToCanvas (spot_at at.x at.y at.width at.height placed.entry.now.region.line.now ∷ []) canvas.old canvas.new) }
+    ensures { OnOk result (AddsToCanvas (spot_at at.x at.y at.width at.height
+        (class_by board.entry.now.faults placed.entry.now.is_lost placed.entry.now.region.line.now)
+        placed.entry.now.region.line.now ∷ []) canvas.old canvas.new) }
 {
     let region = &placed.region;
     let class = class_of(&board.faults, region, placed.is_lost);
@@ -413,7 +371,8 @@ fn draw_regions<A: Allocator + Copy>(
     board: &Board<'_, A>,
     plan: &Plan<'_, A>,
 ) -> Result<(), OutOfMemory>
-    ensures { OnOk result (AddsSome (AreFramed plan.entry.now.placed.items plan.entry.now.heights.runs.items plan.entry.now.heights.bottom) canvas.old canvas.new) }
+    ensures { OnOk result (AddsSome (AreFramed (class_by board.entry.now.faults) plan.entry.now.placed.items
+        plan.entry.now.heights.runs.items plan.entry.now.heights.bottom) canvas.old canvas.new) }
 {
     for placed in &plan.placed {
         let at = frame_of(&plan.heights, placed);
@@ -475,7 +434,7 @@ pub fn draw_section<A: Allocator + Copy>(
     site: &Site,
     members: &[Member<'_>],
 ) -> Result<u64, OutOfMemory>
-    ensures drawn { IfOk result (λ end. AddsSome (AreOfSection site.now members.entry.now end)
+    ensures drawn { IfOk result (λ end. AddsSome (AreOfSection (class_by board.entry.now.faults) site.now members.entry.now end)
         canvas.old canvas.new) }
     ensures down { IfOk result (λ end. site.now.y ≤ end) }
 {

@@ -5,6 +5,7 @@ use Rattle.pci_spec.specs.Text.{Block}
 use Rattle.pci_dump.specs.Begun.{AppendsBeginning}
 use Rattle.pci_check.specs.Audits.{IsDumpOf}
 use Rattle.pci_picture.specs.Boxes.{IsPictureOf}
+use Rattle.pci_picture.specs.ByRoots.{IsDrawnByRootsOfShow}
 use Rattle.pci_picture.specs.Whole.{IsPictureText}
 use Rattle.pciplan_cli.specs.CarriedOut.{TextsByPath}
 use Rattle.pciplan_cli.specs.Invocations.{IsInvocationOf, HasBadWords}
@@ -20,8 +21,8 @@ use Rattle.pciplan_front.specs.Went.{Went}
 abbrev pub map_words : List (List ℕ) → List (List ℕ)
 map_words words = codes "map" ∷ words
 
--- a well-formed picture of the map, where there is one: each of its regions is the title of one box; `show` and `faults` with
--- reasons have answers too, and no field says what is drawn of them
+-- a well-formed picture of the map, where there is one: each of its regions is the title of one box, which is marked where one of
+-- the faults with reasons names the region. What is out of place is drawn where the functions that `show` lists say
 pub record IsDrawn (beside : Beside) (dump probe : List Block) (answer : Answer) : Type 0 where
   pub map : Answer
   pub is_map : IsPairAnswer (task.Map beside) dump probe map
@@ -32,7 +33,8 @@ pub record IsDrawn (beside : Beside) (dump probe : List Block) (answer : Answer)
   pub are_faults : IsPairAnswer (task.Faults beside true) dump probe faults
   pub text : List ℕ
   pub picture : IsPictureText text
-  pub draws : IsPictureOf map.text text
+  pub draws : IsPictureOf map.text faults.text text
+  pub by_root : IsDrawnByRootsOfShow shown.text map.text faults.text text
   pub line : answer ≡ done_with map.remarks text
 
 -- the line `no ..` of the map, where there is none

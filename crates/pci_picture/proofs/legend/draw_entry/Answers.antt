@@ -8,5 +8,5 @@ pub returns : goal.returns
 returns g c =
     then_ok c.add_words.result [] _ _ _
     (adds_same [] _ _ _
-    (ap (λ t. map (spot_at c.args.x c.saturating_sub.result 16 11) (titled_line t)) c.as_bytes-title.ensures.value
-    ∙ ap (map (spot_at c.args.x c.saturating_sub.result 16 11)) c.title-text.ensures) c.in_ok-add_box.ensures) c.add_words.ensures
+    (ap (λ t. map (spot_at c.args.x c.saturating_sub.result 16 11 c.as_bytes.result.now) (titled_line t)) c.as_bytes-title.ensures.value
+    ∙ ap (map (spot_at c.args.x c.saturating_sub.result 16 11 c.as_bytes.result.now)) c.title-text.ensures) c.in_ok-add_box.ensures) c.add_words.ensures

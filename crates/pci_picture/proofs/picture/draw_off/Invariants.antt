@@ -1,11 +1,10 @@
-use Rattle.std.proofs.Common.{◌≡◌, ◌≤◌, take}
+use Rattle.std.proofs.Common.{◌≤◌, take}
 use Rattle.pci_picture.specs.Canvases.{AddsSome}
-use Rattle.pci_picture.specs.Maps.{lines_of_regions}
-use Rattle.pci_picture.specs.Spots.{lines_drawn}
+use Rattle.pci_picture.specs.Drawings.{AreOff}
 use Rattle.pci_picture.proofs.picture.draw_off.Given as goal
 
 abbrev pub invariant-loop-region : goal.invariant-loop-region
 invariant-loop-region g l = record {
   down : l.site.y ≤ l.y;
-  rows : AddsSome (λ spots. lines_drawn spots ≡ lines_of_regions (take l.region-index l.off)) l.initial.canvas l.canvas;
+  rows : AddsSome (AreOff (take l.region-index l.off)) l.initial.canvas l.canvas;
 }

@@ -12,6 +12,7 @@ use Rattle.pci_picture.proofs.Chained.{indented_members}
 use Rattle.pci_picture.proofs.Lost.{section_if_lost, section_told}
 use Rattle.pci_picture.proofs.Members.{sorted_by_first}
 use Rattle.pci_picture.proofs.Sections.{sorted_members}
+use Rattle.pci_picture.proofs.Tops.{sorted_members_of}
 use Rattle.pci_picture.proofs.picture.members.Goals as goal
 
 pub loop-line-preserved : goal.loop-line-preserved
@@ -21,7 +22,6 @@ loop-line-preserved g c =
     record {
       moved = grind (arith, common_steps);
       seated = grind (arith, common_steps);
-      tops = grind (arith, common_steps);
       by_root =
           subst (All (IsLostByRoot functions)) (sym c.in_ok-push.ensures.items)
           (All-push (IsLostByRoot functions) c.loop-line.members.items _ c.loop-line.invariant.by_root
@@ -34,6 +34,9 @@ pub returns : goal.returns
 returns g c =
     let lines = c.args.board.now.map.lines.items in
     let all = take_all c.loop-line.line-index lines (omega arith) in
+    let heads = c.loop-line.invariant.seated ∙ ap (map headed_line) all in
+    let moved = c.in_ok-sort_by_key.ensures.permutation in
+    let stable = c.in_ok-sort_by_key.ensures.stable (λ m. (m.section, m.is_lost, rank_of m)) (answers_always _ _ _ (λ f a r h k. search rules)) in
     let sorted = c.in_ok-sort_by_key.ensures.sorted (λ m. (m.section, m.is_lost, rank_of m)) (answers_always _ _ _ (λ f a r h k. search rules)) in
     record {
       moved = record {
@@ -42,17 +45,14 @@ returns g c =
             (c.loop-line.invariant.moved ∙ ap regions_under all) c.in_ok-sort_by_key.ensures.permutation;
         seated =
             subst (λ l. IsPermutation l (map headed_member c.sort_by_key.new.self.items))
-            (c.loop-line.invariant.seated ∙ ap (map headed_line) all)
+            heads
             (IsPermutation-map headed_member c.loop-line.members.items c.sort_by_key.new.self.items c.in_ok-sort_by_key.ensures.permutation);
         sorted =
             sorted_by_first (λ m. m.section) (λ x y. bool_cmp x.is_lost y.is_lost)
             (λ x y. ordering_then (nat_cmp ((rank_of x).0) ((rank_of y).0)) (nat_cmp ((rank_of x).1) ((rank_of y).1)))
             c.sort_by_key.new.self.items sorted;
       };
-      indented =
-          indented_members lines c.loop-line.members.items c.sort_by_key.new.self.items c.requires
-          (c.loop-line.invariant.seated ∙ ap (map headed_line) all) (c.loop-line.invariant.tops ∙ ap (map (λ l. l.top)) all)
-          c.in_ok-sort_by_key.ensures.permutation sorted
-          (c.in_ok-sort_by_key.ensures.stable (λ m. (m.section, m.is_lost, rank_of m)) (answers_always _ _ _ (λ f a r h k. search rules)));
+      indented = indented_members lines c.loop-line.members.items c.sort_by_key.new.self.items c.requires heads moved sorted stable;
+      sorted = sorted_members_of lines c.loop-line.members.items c.sort_by_key.new.self.items heads moved sorted stable;
       by_root = All-permutation (IsLostByRoot (listed_functions c.args.board.now.functions.items)) c.loop-line.members.items c.sort_by_key.new.self.items c.in_ok-sort_by_key.ensures.permutation c.loop-line.invariant.by_root;
     }

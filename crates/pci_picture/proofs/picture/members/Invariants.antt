@@ -8,6 +8,5 @@ abbrev pub invariant-loop-line : goal.invariant-loop-line
 invariant-loop-line g l = record {
   moved : regions_of_members l.members.items ≡ regions_under (take l.line-index l.board.map.lines.items);
   seated : map headed_member l.members.items ≡ map headed_line (take l.line-index l.board.map.lines.items);
-  tops : map (λ m. m.top) l.members.items ≡ map (λ x. x.top) (take l.line-index l.board.map.lines.items);
   by_root : All (IsLostByRoot (listed_functions l.board.functions.items)) l.members.items;
 }

@@ -1,4 +1,5 @@
 use Rattle.pci_picture.specs.Drawings.{AreFramed}
+use Rattle.pci_picture.specs.Looks.{class_by}
 use Rattle.pci_picture.proofs.Boxes.{then_draws, keeps_some, up_to}
 use Rattle.pci_picture.proofs.Framed.{adds_section}
 use Rattle.pci_picture.proofs.section.draw_section.Goals as goal
@@ -7,12 +8,13 @@ pub returns : goal.returns
 returns g c =
     let heights = c.in_ok-plan.plan.heights in
     let placed = c.in_ok-plan.plan.placed.items in
+    let look = class_by c.args.board.now.faults in
     record {
       drawn =
-          adds_section c.args.site.now c.args.members.now placed heights.runs.items heights.bottom c.end_of.result
+          adds_section look c.args.site.now c.args.members.now placed heights.runs.items heights.bottom c.end_of.result
           c.args.canvas.now c.draw_axis.new.canvas _
           (then_draws _ _ _ _ c.in_ok-write_heading.ensures c.in_ok-draw_axis.ensures)
-          (keeps_some (AreFramed placed heights.runs.items heights.bottom) _ _ _ c.in_ok-draw_regions.ensures c.in_ok-draw_tellings.ensures)
-          c.in_ok-plan.ensures.placed c.end_of.ensures c.in_ok-plan.ensures.planned c.in_ok-plan.ensures.beside;
+          (keeps_some (AreFramed look placed heights.runs.items heights.bottom) _ _ _ c.in_ok-draw_regions.ensures c.in_ok-draw_tellings.ensures)
+          c.in_ok-plan.ensures.placed c.end_of.ensures c.in_ok-plan.ensures.planned (c.in_ok-plan.ensures.looks look) c.in_ok-plan.ensures.beside;
       down = up_to c.args.site.now.y heights.bottom c.end_of.result c.in_ok-plan.ensures.down c.end_of.ensures;
     }

@@ -1,7 +1,8 @@
 use Rattle.std.proofs.Common.{inl, ap, subst, cond, List, ℕ, Bool}
 use Rattle.std.specs.Prelude.{string_bytes}
 use Rattle.pci_picture.specs.Boxes.{IsPictureOf}
-use Rattle.pciplan_tasks.specs.Answers.{Answer, answer_of}
+use Rattle.pci_picture.specs.ByRoots.{IsDrawnByRootsOfShow}
+use Rattle.pciplan_tasks.specs.Answers.{Answer, answer_of, text_bytes}
 use Rattle.pciplan_front.proofs.drawn.drawn.Goals as goal
 
 pub returns-in-Ok : goal.returns-in-Ok
@@ -18,6 +19,12 @@ returns-in-Ok c =
       are_faults = c.in_ok-faults.ensures.told;
       text = text;
       picture = c.in-Ok.ensures.closed;
-      draws = subst (λ (m : List ℕ). IsPictureOf m text) c.in_ok-lines_of-2.ensures c.in-Ok.ensures.drawn;
+      draws =
+          subst (λ (f : List ℕ). IsPictureOf (text_bytes c.in_ok-map.map.text) f text) c.in_ok-lines_of-3.ensures
+          (subst (λ (m : List ℕ). IsPictureOf m c.in_ok-lines_of-3.field-0.now text) c.in_ok-lines_of-2.ensures c.in-Ok.ensures.drawn);
+      by_root =
+          subst (λ (f : List ℕ). IsDrawnByRootsOfShow (text_bytes c.in_ok-shown.shown.text) (text_bytes c.in_ok-map.map.text) f text) c.in_ok-lines_of-3.ensures
+          (subst (λ (m : List ℕ). IsDrawnByRootsOfShow (text_bytes c.in_ok-shown.shown.text) m c.in_ok-lines_of-3.field-0.now text) c.in_ok-lines_of-2.ensures
+          (subst (λ (s : List ℕ). IsDrawnByRootsOfShow s c.in_ok-lines_of-2.field-0.now c.in_ok-lines_of-3.field-0.now text) c.in_ok-lines_of.ensures c.in-Ok.ensures.by_root));
       line = ap of_refused c.if-map.false;
     }

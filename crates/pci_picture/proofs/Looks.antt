@@ -1,0 +1,36 @@
+-- The looks of boxes while their regions are placed, and by the faults of a text.
+use Rattle.std.proofs.Common.{◌≡◌, ◌<◌, ◌+◌, ℕ, Bool, true, false, ◌||◌, List, [], ◌∷◌, ◌++◌, take, drop, length, get_or, sym, ap, ap₂, ◌∙◌}
+use Rattle.std.proofs.lemmas.List.{append_assoc, map-append, map_more}
+use Rattle.pci_picture.specs.Lines.{words_in_line}
+use Rattle.pci_picture.specs.Looks.{Look, class_by, class_told, looks_of, looks_placed, looks_up_to}
+use Rattle.pci_picture.specs.Marks.{AreFaultsOf, key_of_region, look_of_part, look_with}
+use Rattle.pci_picture.specs.declared.faults.Faults.{Faults}
+use Rattle.pci_picture.specs.declared.plan.Placed.{Placed}
+use Rattle.pci_picture.specs.declared.region.Region.{Region}
+
+-- one region more
+pub looks_more : (look : Look) (old : List (List ℕ)) (is_lost : Bool) (regions : List Region) (i : ℕ) (region : Region) (before after : List Placed) (placed : Placed)
+    → i < length regions → region ≡ get_or regions i region → looks_placed look before ≡ old ++ looks_of look is_lost (take i regions)
+    → placed.region ≡ region → placed.is_lost ≡ is_lost → after ≡ before ++ placed ∷ [] → looks_placed look after ≡ old ++ looks_of look is_lost (take (i + 1) regions)
+looks_more look old is_lost regions i region before after placed inside at is same flag new =
+    let front = looks_of look is_lost (take i regions) in
+    ap (looks_placed look) new ∙ map-append (λ p. look p.is_lost p.region.line.now) before (placed ∷ [])
+    ∙ ap (λ l. l ++ look placed.is_lost placed.region.line.now ∷ []) is
+    ∙ ap₂ (λ b r. (old ++ front) ++ look b r.line.now ∷ []) flag (same ∙ at)
+    ∙ append_assoc old front (look is_lost (get_or regions i region).line.now ∷ [])
+    ∙ ap (λ l. old ++ l) (sym (map_more (λ r. look is_lost r.line.now) regions i region inside))
+
+-- first those in place, then those out of place
+pub both_looks : (look : Look) (regions front back : List Region) (n : ℕ) (none some all : List Placed) → none ≡ [] → front ≡ take n regions → back ≡ drop n regions
+    → looks_placed look some ≡ looks_placed look none ++ looks_of look false front → looks_placed look all ≡ looks_placed look some ++ looks_of look true back
+    → looks_placed look all ≡ looks_up_to look n regions
+both_looks look regions front back n none some all empty is_front is_back first second =
+    second ∙ ap (λ l. l ++ looks_of look true back) (first ∙ ap (λ l. looks_placed look l ++ looks_of look false front) empty)
+    ∙ ap₂ (λ f b. looks_of look false f ++ looks_of look true b) is_front is_back
+
+-- the faults that were read are those of the text
+pub looks_told : {A : Type 0} (faults : Faults A) (text : List ℕ) → AreFaultsOf text faults → (is_lost : Bool) (line : List ℕ)
+    → class_by faults is_lost line ≡ class_told text is_lost line
+looks_told faults text are is_lost line =
+    let words = words_in_line line in
+    ap₂ (λ clashes lost. look_with clashes (is_lost || lost) (look_of_part words)) (are 61 62 (key_of_region words)) (are 60 63 (key_of_region words))

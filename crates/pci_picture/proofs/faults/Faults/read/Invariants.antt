@@ -1,0 +1,6 @@
+use Rattle.std.proofs.Common.{map}
+use Rattle.pci_picture.proofs.Marks.{AreReadFaults}
+use Rattle.pci_picture.proofs.faults.Faults.read.Given as goal
+
+abbrev pub invariant-loop-line : goal.invariant-loop-line
+invariant-loop-line g l = AreReadFaults (map (λ x. x.now) l.yielded) l.reader.faults.items l.reader.namings.items
