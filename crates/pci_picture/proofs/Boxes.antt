@@ -1,14 +1,16 @@
 -- What is added to a canvas, one element behind the other.
-use Rattle.std.proofs.Common.{◌≡◌, ◌≤◌, arith, ℕ, Bool, List, [], ◌∷◌, ◌++◌, refl, sym, ap, subst, ◌∙◌, Result, Ok, Err, IfOk}
+use Rattle.std.proofs.Common.{◌≡◌, ◌≤◌, arith, ℕ, Bool, List, [], ◌∷◌, ◌++◌, map, refl, sym, ap, subst, ◌∙◌, Result, Ok, Err, IfOk}
 use Rattle.std.proofs.lemmas.List.{append_assoc, append-nil}
 use Rattle.std.proofs.lemmas.List.Concat.{flat_map-append}
 use Rattle.std.specs.List.{flat_map}
 use Rattle.std.specs.String.{string_bytes}
 use Rattle.pci_picture.specs.Elements.{box_text, words_text, axis_text, tick_text, gap_text}
-use Rattle.pci_picture.specs.Boxes.{HasTitles, no_element, a_box, a_line, at_axis, a_tick, a_gap, Titled, titled, titled_spot, HasSpots, AreDrawn, IsDrawnOf}
-use Rattle.pci_picture.specs.Spots.{BoxSpot}
+use Rattle.pci_picture.specs.Boxes.{HasTitles, no_element, a_box, a_line, at_axis, a_tick, a_gap, Titled, titled, titled_line, titled_spot, HasSpots, AreDrawn, IsDrawnOf}
+use Rattle.pci_picture.specs.Spots.{BoxSpot, spot_at}
 use Rattle.pci_picture.specs.Whole.{picture_text}
 use Rattle.pci_picture.specs.Canvases.{HasDrawn, AddsToCanvas, AddsSome}
+use Rattle.pci_picture.specs.Drawings.{IsBoxOf}
+use Rattle.pci_picture.specs.Said.{IsTitleOf}
 use Rattle.pci_picture.specs.declared.canvas.Canvas.{Canvas}
 
 -- boxes behind boxes
@@ -197,6 +199,25 @@ box_ok result spots more before after is adds = subst (λ l. IfOk result (λ _. 
 
 pub adds_same : {A : Type 0} (spots more : List BoxSpot) (before after : Canvas A) → more ≡ spots → AddsToCanvas more before after → AddsToCanvas spots before after
 adds_same spots more before after is adds = subst (λ l. AddsToCanvas l before after) is adds
+
+-- a title that begins with no line of a map, and one that does
+pub bare_title : (box : Titled) → titled_line box.title ≡ [] → titled_spot box ≡ []
+bare_title box none = ap (map (spot_at box.x box.y box.width box.height box.class box.title)) none
+
+pub one_box : {A : Type 0} (box : Titled) (class said line : List ℕ) (before after : Canvas A) → titled_line box.title ≡ line ∷ [] → box.class ≡ class
+    → IsTitleOf said line box.title → AddsToCanvas (titled_spot box) before after
+    → AddsSome (IsBoxOf class said line box.x box.y box.width box.height) before after
+one_box box class said line before after own look says adds = record {
+  spots = titled_spot box;
+  hold = record {
+    title = box.title;
+    one =
+        ap (map (spot_at box.x box.y box.width box.height box.class box.title)) own
+        ∙ ap (λ k. spot_at box.x box.y box.width box.height k box.title line ∷ []) look;
+    titled = says;
+  };
+  adds = adds;
+}
 
 -- no height falls
 pub up_to : (a b c : ℕ) → a ≤ b → b ≤ c → a ≤ c

@@ -1,8 +1,10 @@
 -- Lines of maps, their headings, and titles.
-use Rattle.std.proofs.Common.{◌≡◌, ℕ, List, [], ◌∷◌, ◌++◌, codes, map, refl, arith}
+use Rattle.std.proofs.Common.{◌≡◌, ◌+◌, ◌*◌, ℕ, Some, None, true, false, List, [], ◌∷◌, ◌++◌, codes, map, refl, arith}
 use Rattle.pci_picture.specs.Headings.{AreSectionsOf, Headed, depth_behind, heading_told, read_on, headed_regions, is_lost, is_below_no_heading, is_section, lines_below_headings}
-use Rattle.pci_picture.specs.Lines.{region_lines, is_region_line, is_range, names_part, is_slot, is_register, is_told_number, words_in_line}
+use Rattle.pci_picture.specs.Lines.{region_lines, is_region_line, is_range, names_part, is_slot, is_register, is_told_number, slot_number_of, words_in_line}
 use Rattle.pci_picture.specs.Boxes.{titled_line}
+use Rattle.pci_picture.specs.Marks.{key_of_words, keys_of_fault, look_of_part, look_with, number_before_blank, number_in_slot}
+use Rattle.pci_picture.specs.Said.{faults_said}
 use Rattle.pci_picture.specs.Spots.{Section}
 use Rattle.pci_picture.specs.declared.map.Heading.TheVariants.{Section as InSection, Lost, Off}
 
@@ -117,3 +119,44 @@ steps_of_three = refl
 -- two sections of one number are refused
 one_section : (regions : List Headed) (one other : Section) → one.number ≡ other.number → AreSectionsOf regions (one ∷ other ∷ []) → ⊥
 one_section regions one other same are = omega (arith, are.rise 0 1 one (omega arith) (omega arith), same)
+
+-- a fault names two regions at its end, or one behind its number and its name
+of_clash : keys_of_fault 61 (words_in_line (codes "61 Clash bus 00 io 00000720 00:1f.3 20 00:1f.2 20")) ≡ (499 * 65536 + 32) ∷ (498 * 65536 + 32) ∷ []
+unfolding keys_of_fault key_of_words number_in_slot slot_number_of is_slot is_register words_in_line
+of_clash = refl
+
+of_one_region : keys_of_fault 60 (words_in_line (codes "60 Unreached 02:00.0 10 mem 00:02.0")) ≡ (2 * 4096 * 65536 + 16) ∷ []
+unfolding keys_of_fault key_of_words number_in_slot slot_number_of is_slot is_register words_in_line
+of_one_region = refl
+
+-- a told range, and what is no register
+of_told : keys_of_fault 63 (words_in_line (codes "63 Outside 01:00.0 +2")) ≡ (4096 * 65536 + 258) ∷ []
+unfolding keys_of_fault key_of_words number_in_slot slot_number_of is_slot is_register is_told_number words_in_line
+of_told = refl
+
+of_no_region : keys_of_fault 63 (words_in_line (codes "63 Outside 01:00.0 +0")) ≡ []
+unfolding keys_of_fault key_of_words number_in_slot slot_number_of is_slot is_register is_told_number words_in_line
+of_no_region = refl
+
+-- the first line of a fault, its reason, and a word that is no number
+of_first_line : number_before_blank (codes "61 Clash") ≡ Some 61
+unfolding number_before_blank
+of_first_line = refl
+
+of_reason : number_before_blank (codes "  shared 00000720-0000073f 32") ≡ None
+unfolding number_before_blank
+of_reason = refl
+
+-- a prefetchable BAR in a window that clashes, and one out of place
+of_pref : look_with true false (look_of_part (words_in_line (codes "e0000000-efffffff 256M bar pref 01:00.0 18"))) ≡ codes "pref clash"
+unfolding look_of_part words_in_line
+of_pref = refl
+
+of_lost_rom : look_with false true (look_of_part (words_in_line (codes "fe500000-fe50ffff 64K rom 02:00.0 30"))) ≡ codes "rom lost"
+unfolding look_of_part words_in_line
+of_lost_rom = refl
+
+-- a fault with a reason
+of_two_lines : faults_said (codes "61 Clash" ++ 10 ∷ codes "  shared d040-d05f 32") ≡ record { number = 61; lines = codes "61 Clash" ∷ codes "shared d040-d05f 32" ∷ [] } ∷ []
+unfolding number_before_blank
+of_two_lines = refl

@@ -3,10 +3,10 @@ use Rattle.std.proofs.Common.{◌≡◌, ◌≤◌, ◌<◌, ◌+◌, ◌-◌, �
 use Rattle.std.specs.List.{All, Any, Contains}
 use Rattle.std.specs.List.Sorted.{IsNonDecreasingBy}
 use Rattle.std.proofs.lemmas.List.{map-append, map_more, take_all}
-use Rattle.std.proofs.lemmas.List.Elements.{All-append, All-cons, All-nil, Contains-get_or}
+use Rattle.std.proofs.lemmas.List.Elements.{All-append, All-cons, All-nil, All-push, Contains-get_or}
 use Rattle.pci_picture.specs.Canvases.{AddsToCanvas, AddsSome}
-use Rattle.pci_picture.specs.Drawings.{IsFramed, IsFramedAt, ArePlanned, AreFramed, AreOfSection}
-use Rattle.pci_picture.specs.Looks.{Look, looks_placed, looks_up_to}
+use Rattle.pci_picture.specs.Drawings.{IsFramed, IsFramedAt, ArePlanned, AreFramed, AreOfSection, IsBoxOf}
+use Rattle.pci_picture.specs.Looks.{IsTitled, Look, looks_placed, looks_up_to}
 use Rattle.pci_picture.specs.Maps.{lines_of_regions, regions_of_members, regions_placed}
 use Rattle.pci_picture.specs.Sides.{sides_of_width, StandBesideIn, count_in_place, widths_placed}
 use Rattle.pci_picture.specs.Spots.{BoxSpot, first_address, region_last_address, spot_at, lines_drawn, IsEndOf, Rise, BoxStandsAt}
@@ -22,10 +22,10 @@ use Rattle.pci_picture.proofs.Boxes.{then_adds, then_keeps, then_some, unchanged
 
 -- ---- one box more
 
-framed_at : (region : Region) (height_of : ℕ → ℕ) (x y width height : ℕ) (class : List ℕ) → IsFramed height_of region.first region.last y height
-    → IsFramedAt height_of (spot_at x y width height class region.line.now)
+framed_at : (region : Region) (height_of : ℕ → ℕ) (x y width height : ℕ) (class title : List ℕ) → IsFramed height_of region.first region.last y height
+    → IsFramedAt height_of (spot_at x y width height class title region.line.now)
 unfolding first_address region_last_address
-framed_at region height_of x y width height class framed =
+framed_at region height_of x y width height class title framed =
     let first : region.first ≡ first_address region.line.now = region.ends.first_is in
     let last : region.last ≡ region_last_address region.line.now = region.ends.last_is in
     record {
@@ -39,7 +39,7 @@ framed_at region height_of x y width height class framed =
 pub none_framed : {A : Type 0} (look : Look) (runs : List Run) (bottom : ℕ) (canvas : Canvas A) → AddsSome (AreFramed look [] runs bottom) canvas canvas
 none_framed look runs bottom canvas = record {
   spots = [];
-  hold = record { drawn = refl; looks = refl; sides = refl; framed = λ sorted. All-nil (IsFramedAt (height_at runs bottom)) };
+  hold = record { drawn = refl; looks = refl; titled = All-nil (IsTitled look); sides = refl; framed = λ sorted. All-nil (IsFramedAt (height_at runs bottom)) };
   adds = unchanged canvas;
 }
 
@@ -48,7 +48,7 @@ pub box_more : {A : Type 0} (look : Look) (places : List Placed) (i : ℕ) (plac
     → AddsSome (AreFramed look (take i places) runs bottom) first before
     → (IsNonDecreasingBy (λ (run : Run). run.begin) runs → IsFramed (height_at runs bottom) placed.region.first placed.region.last y height)
     → x ≡ placed.width.left → width ≡ max 1 (placed.width.right - placed.width.left - 2)
-    → AddsToCanvas (spot_at x y width height (look placed.is_lost placed.region.line.now) placed.region.line.now ∷ []) before between → AddsToCanvas [] between after
+    → AddsSome (IsBoxOf (look.class placed.is_lost placed.region.line.now) (look.said placed.region.line.now) placed.region.line.now x y width height) before between → AddsToCanvas [] between after
     → AddsSome (AreFramed look (take (i + 1) places) runs bottom) first after
 box_more look places i placed runs bottom x y width height first before between after inside at done framed left wide one kept =
     let more : lines_of_regions (regions_placed (take (i + 1) places)) ≡ lines_of_regions (regions_placed (take i places)) ++ placed.region.line.now ∷ [] =
@@ -61,23 +61,25 @@ box_more look places i placed runs bottom x y width height first before between 
     ap (map sides_of_width) widths ∙ map-append sides_of_width (widths_placed (take i places)) (placed.width ∷ [])
     ∙ ap (λ (s : ℕ). map sides_of_width (widths_placed (take i places)) ++ (s, max 1 (placed.width.right - placed.width.left - 2)) ∷ []) (sym left)
     ∙ ap (λ (s : ℕ). map sides_of_width (widths_placed (take i places)) ++ (x, s) ∷ []) (sym wide) in
-    let class : List ℕ = look placed.is_lost placed.region.line.now in
+    let class : List ℕ = look.class placed.is_lost placed.region.line.now in
     let looks : looks_placed look (take (i + 1) places) ≡ looks_placed look (take i places) ++ class ∷ [] =
-    map_more (λ p. look p.is_lost p.region.line.now) places i placed inside
-    ∙ ap (λ (p : Placed). looks_placed look (take i places) ++ look p.is_lost p.region.line.now ∷ []) (sym at) in
-    let spot : BoxSpot = spot_at x y width height class placed.region.line.now in
+    map_more (λ p. look.class p.is_lost p.region.line.now) places i placed inside
+    ∙ ap (λ (p : Placed). looks_placed look (take i places) ++ look.class p.is_lost p.region.line.now ∷ []) (sym at) in
+    let spot : BoxSpot = spot_at x y width height class one.hold.title placed.region.line.now in
     record {
       spots = done.spots ++ spot ∷ [];
       hold = record {
         drawn = map-append (λ s. s.line) done.spots (spot ∷ []) ∙ ap (λ l. l ++ placed.region.line.now ∷ []) done.hold.drawn ∙ sym more;
         looks = map-append (λ s. s.class) done.spots (spot ∷ []) ∙ ap (λ l. l ++ class ∷ []) done.hold.looks ∙ sym looks;
+        titled = All-push (IsTitled look) done.spots spot done.hold.titled one.hold.titled;
         sides = map-append (λ (s : BoxSpot). (s.x, s.width)) done.spots (spot ∷ []) ∙ ap (λ l. l ++ (x, width) ∷ []) done.hold.sides ∙ sym sides;
         framed = λ sorted.
             All-append (IsFramedAt (height_at runs bottom)) done.spots (spot ∷ []) (done.hold.framed sorted)
-            (All-cons (IsFramedAt (height_at runs bottom)) spot [] (framed_at placed.region (height_at runs bottom) x y width height class (framed sorted))
+            (All-cons (IsFramedAt (height_at runs bottom)) spot [] (framed_at placed.region (height_at runs bottom) x y width height class one.hold.title (framed sorted))
             (All-nil (IsFramedAt (height_at runs bottom))));
       };
-      adds = then_keeps (done.spots ++ spot ∷ []) first between after (then_adds done.spots (spot ∷ []) first before between done.adds one) kept;
+      adds = then_keeps (done.spots ++ spot ∷ []) first between after (then_adds done.spots (spot ∷ []) first before between done.adds
+          (subst (λ l. AddsToCanvas l before between) one.hold.one one.adds)) kept;
     }
 
 pub all_framed : {A : Type 0} (look : Look) (places : List Placed) (i : ℕ) (runs : List Run) (bottom : ℕ) (first after : Canvas A) → length places ≤ i
@@ -120,6 +122,7 @@ of_section look site members placed runs bottom end spots framed is above planne
     record {
       drawn = drawn;
       looks = framed.looks ∙ looks;
+      titled = framed.titled;
       stand = λ small.
           let plan = planned (omega (arith, above, small)) in
           let rise : Rise (lines_drawn spots) (height_at runs bottom) = subst (λ l. Rise l (height_at runs bottom)) (sym drawn) plan.rise in

@@ -276,6 +276,7 @@ group_more look first site members part begin end y bottom number spots more don
       each = All-push (IsGroup look) done.groups group done.each (record {
         drawn = last.drawn;
         looks = last.looks;
+        titled = last.titled;
         lost = refl;
         alike = alike;
         lost_last = lost_last;

@@ -23,6 +23,8 @@ pub mod Chained
 pub mod Lost
 pub mod Nested
 pub mod Tops
+pub mod Said
+pub mod ReadSaid
 pub mod Looks
 pub mod Groups
 pub mod Once

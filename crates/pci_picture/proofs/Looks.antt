@@ -1,9 +1,13 @@
 -- The looks of boxes while their regions are placed, and by the faults of a text.
-use Rattle.std.proofs.Common.{◌≡◌, ◌<◌, ◌+◌, ℕ, Bool, true, false, ◌||◌, List, [], ◌∷◌, ◌++◌, take, drop, length, get_or, sym, ap, ap₂, ◌∙◌}
+use Rattle.std.proofs.Common.{◌≡◌, ◌<◌, ◌+◌, ℕ, Bool, true, false, ◌||◌, List, [], ◌∷◌, ◌++◌, take, drop, length, get_or, sym, ap, ap₂, subst, ◌∙◌}
+use Rattle.std.specs.List.{All}
 use Rattle.std.proofs.lemmas.List.{append_assoc, map-append, map_more}
+use Rattle.std.proofs.lemmas.List.Elements.{All-weaker}
 use Rattle.pci_picture.specs.Lines.{words_in_line}
-use Rattle.pci_picture.specs.Looks.{Look, class_by, class_told, looks_of, looks_placed, looks_up_to}
+use Rattle.pci_picture.specs.Looks.{IsTitled, Look, look_read, look_told, looks_of, looks_placed, looks_up_to}
 use Rattle.pci_picture.specs.Marks.{AreFaultsOf, key_of_region, look_of_part, look_with}
+use Rattle.pci_picture.specs.Said.{AreSaidOf, IsTitleOf}
+use Rattle.pci_picture.specs.Spots.{BoxSpot}
 use Rattle.pci_picture.specs.declared.faults.Faults.{Faults}
 use Rattle.pci_picture.specs.declared.plan.Placed.{Placed}
 use Rattle.pci_picture.specs.declared.region.Region.{Region}
@@ -14,11 +18,11 @@ pub looks_more : (look : Look) (old : List (List ℕ)) (is_lost : Bool) (regions
     → placed.region ≡ region → placed.is_lost ≡ is_lost → after ≡ before ++ placed ∷ [] → looks_placed look after ≡ old ++ looks_of look is_lost (take (i + 1) regions)
 looks_more look old is_lost regions i region before after placed inside at is same flag new =
     let front = looks_of look is_lost (take i regions) in
-    ap (looks_placed look) new ∙ map-append (λ p. look p.is_lost p.region.line.now) before (placed ∷ [])
-    ∙ ap (λ l. l ++ look placed.is_lost placed.region.line.now ∷ []) is
-    ∙ ap₂ (λ b r. (old ++ front) ++ look b r.line.now ∷ []) flag (same ∙ at)
-    ∙ append_assoc old front (look is_lost (get_or regions i region).line.now ∷ [])
-    ∙ ap (λ l. old ++ l) (sym (map_more (λ r. look is_lost r.line.now) regions i region inside))
+    ap (looks_placed look) new ∙ map-append (λ p. look.class p.is_lost p.region.line.now) before (placed ∷ [])
+    ∙ ap (λ l. l ++ look.class placed.is_lost placed.region.line.now ∷ []) is
+    ∙ ap₂ (λ b r. (old ++ front) ++ look.class b r.line.now ∷ []) flag (same ∙ at)
+    ∙ append_assoc old front (look.class is_lost (get_or regions i region).line.now ∷ [])
+    ∙ ap (λ l. old ++ l) (sym (map_more (λ r. look.class is_lost r.line.now) regions i region inside))
 
 -- first those in place, then those out of place
 pub both_looks : (look : Look) (regions front back : List Region) (n : ℕ) (none some all : List Placed) → none ≡ [] → front ≡ take n regions → back ≡ drop n regions
@@ -28,9 +32,21 @@ both_looks look regions front back n none some all empty is_front is_back first 
     second ∙ ap (λ l. l ++ looks_of look true back) (first ∙ ap (λ l. looks_placed look l ++ looks_of look false front) empty)
     ∙ ap₂ (λ f b. looks_of look false f ++ looks_of look true b) is_front is_back
 
+-- ---- looks that agree
+
+pub record SameLooks (one other : Look) : Type 0 where
+  pub class : (is_lost : Bool) (line : List ℕ) → one.class is_lost line ≡ other.class is_lost line
+  pub said : (line : List ℕ) → one.said line ≡ other.said line
+
+pub titled_same : (one other : Look) → SameLooks one other → (spots : List BoxSpot) → All (IsTitled one) spots → All (IsTitled other) spots
+titled_same one other same spots titled =
+    All-weaker (IsTitled one) (IsTitled other) (λ spot says. subst (λ said. IsTitleOf said spot.line spot.title) (same.said spot.line) says) spots titled
+
 -- the faults that were read are those of the text
-pub looks_told : {A : Type 0} (faults : Faults A) (text : List ℕ) → AreFaultsOf text faults → (is_lost : Bool) (line : List ℕ)
-    → class_by faults is_lost line ≡ class_told text is_lost line
-looks_told faults text are is_lost line =
-    let words = words_in_line line in
-    ap₂ (λ clashes lost. look_with clashes (is_lost || lost) (look_of_part words)) (are 61 62 (key_of_region words)) (are 60 63 (key_of_region words))
+pub looks_told : {A : Type 0} (faults : Faults A) (text : List ℕ) → AreFaultsOf text faults → AreSaidOf text faults → SameLooks (look_read faults) (look_told text)
+looks_told faults text are say = record {
+  class = λ is_lost line.
+      let words = words_in_line line in
+      ap₂ (λ clashes lost. look_with clashes (is_lost || lost) (look_of_part words)) (are 61 62 (key_of_region words)) (are 60 63 (key_of_region words));
+  said = λ line. say (key_of_region (words_in_line line));
+}

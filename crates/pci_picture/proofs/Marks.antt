@@ -1,21 +1,18 @@
 -- The faults of a text, and what they name.
-use Rattle.std.proofs.Common.{◌≡◌, ◌≤◌, ◌<◌, ◌+◌, ◌-◌, ◌==◌, ◌&&◌, ◌||◌, ◌⊎◌, ℕ, zero, suc, Bool, true, false, ltb, leb, cond, List, [], ◌∷◌, ◌++◌, map, length, take, drop, get_or, Option, Some, None, Bor, Ordering, refl, sym, ap, subst, ◌∙◌, inl, inr, arith}
+use Rattle.std.proofs.Common.{◌≡◌, ◌≤◌, ◌<◌, ◌+◌, ◌-◌, ◌==◌, ◌&&◌, ◌||◌, ◌⊎◌, ℕ, zero, suc, Bool, true, false, ltb, leb, cond, List, [], ◌∷◌, ◌++◌, map, length, take, drop, get_or, Option, Some, None, Bor, refl, sym, ap, subst, ◌∙◌, inl, inr, arith}
 use Rattle.std.specs.List.{All, filter, list_any, slice_get, slice_range, slice_split}
-use Rattle.std.specs.List.Sorted.{IsNonDecreasingBy, IsPartitionPoint, IsPermutation, IsSortedBy}
+use Rattle.std.specs.List.Sorted.{IsPartitionPoint, IsPermutation}
 use Rattle.std.specs.Option.{MatchOption, unwrap_or}
-use Rattle.std.specs.Ordering.{is_lt, nat_cmp, ordering_then}
 use Rattle.std.proofs.lemmas.Bool.{eq-eqb, leb-false, leb-true, ltb-false, ltb-true, ne_eqb}
 use Rattle.std.proofs.lemmas.List.{length-append, map-append}
 use Rattle.std.proofs.lemmas.List.Elements.{All-append, All-head, All-map, All-nil, All-tail, All-weaker}
 use Rattle.std.proofs.lemmas.List.Folds.{list_any-append}
-use Rattle.std.proofs.lemmas.List.Sorted.{IsNonDecreasingBy-from_all_adjacent, list_any-IsPermutation}
-use Rattle.std.proofs.lemmas.Map.Keys.{ge_from_not_lt}
+use Rattle.std.proofs.lemmas.List.Sorted.{list_any-IsPermutation}
 use Rattle.pci_picture.specs.Lines.{is_feed}
 use Rattle.pci_picture.specs.Marks.{AddsFault, fault_numbers, has_naming, has_one_of, is_named, is_naming, keys_begun, names_region, namings_of, number_before_blank, numbered_names, numbers_begun}
 use Rattle.pci_picture.specs.declared.faults.Fault.{Fault}
 use Rattle.pci_picture.specs.declared.faults.Naming.{Naming}
 use Rattle.pci_picture.specs.declared.faults.Reader.{Reader}
-use Rattle.pci_picture.proofs.Members.{first_not_less}
 
 -- ---- what is sorted by a number is found between two points
 
@@ -69,15 +66,6 @@ part_found None all items filtered result default begin end is found whole le in
     absurd (let long : length all ≡ length items = ap length whole in let no : ⊥ = elim found [ inl a ↦ omega (arith, a, le) | inr b ↦ omega (arith, b, long, inside) ] in no)
 part_found (Some x) all items filtered result default begin end is found whole le inside same =
     ap (λ r. r.now) is ∙ found.2 ∙ ap (λ l. slice_range l begin end) whole ∙ same
-
--- what is sorted by a pair that begins with a number is sorted by the number
-pub sorted_by_pair : {X : Type 0} (number : X → ℕ) (second : X → X → Ordering) (xs : List X)
-    → IsSortedBy (λ x y. is_lt (ordering_then (nat_cmp (number x) (number y)) (second x y))) xs → IsNonDecreasingBy number xs
-sorted_by_pair number second xs sorted =
-    IsNonDecreasingBy-from_all_adjacent number xs (λ k d inside.
-    let one = get_or xs k d in
-    let next = get_or xs (k + 1) d in
-    ge_from_not_lt (number next) (number one) (first_not_less (nat_cmp (number next) (number one)) (second next one) (sorted k d (omega arith) inside)))
 
 -- ---- tests of lists
 

@@ -20,6 +20,7 @@ use Rattle.pci_picture.specs.declared.plan.Member.{Member}
 use Rattle.pci_picture.specs.declared.plan.Site.{Site}
 use Rattle.pci_picture.specs.declared.region.Region.{Region}
 use Rattle.pci_picture.proofs.Chained.{Steps, indented_by}
+use Rattle.pci_picture.proofs.Looks.{SameLooks, titled_same}
 use Rattle.pci_picture.proofs.Filtered.{filter_twice}
 
 -- ---- what is out of place stands last
@@ -163,6 +164,7 @@ nested_group look first regions members group sides room sorted are has is =
       out_of_place = ap lines_of_regions behind ∙ sym (lost_lines ms) ∙ sym is.lost;
       drawn = is.drawn ∙ ap lines_of_regions (sym (take-append-drop count every) ∙ ap (λ l. l ++ drop count every) front);
       looks = is.looks ∙ ap (λ l. looks_of look false l ++ looks_of look true (drop count every)) front;
+      titled = is.titled;
       indented = indented;
       site = group.site;
       room = sides_like first group.site sides room;
@@ -178,14 +180,14 @@ section_kept n (InSection m) = elim (m == n) as (λ b. (b && true) ≡ b) [ true
 section_kept n Lost = refl
 section_kept n Off = refl
 
-looks_same : (one other : Look) → ((is_lost : Bool) (line : List ℕ) → one is_lost line ≡ other is_lost line) → (is_lost : Bool) (regions : List Region)
+looks_same : (one other : Look) → SameLooks one other → (is_lost : Bool) (regions : List Region)
     → looks_of one is_lost regions ≡ looks_of other is_lost regions
 looks_same one other same is_lost [] = refl
 looks_same one other same is_lost (region ∷ regions) =
-    ap₂ (λ l ls. l ∷ ls) (same is_lost region.line.now) (looks_same one other same is_lost regions)
+    ap₂ (λ l ls. l ∷ ls) (same.class is_lost region.line.now) (looks_same one other same is_lost regions)
 
 -- the same with looks that agree, and of all regions
-pub nested_of_all : (one other : Look) → ((is_lost : Bool) (line : List ℕ) → one is_lost line ≡ other is_lost line) → (regions : List Headed) (section : Section)
+pub nested_of_all : (one other : Look) → SameLooks one other → (regions : List Headed) (section : Section)
     → HasNestedBoxes one (filter is_below_heading regions) section → HasNestedBoxes other regions section
 nested_of_all one other same regions section is = record {
   inside = is.inside;
@@ -197,6 +199,7 @@ nested_of_all one other same regions section is = record {
   out_of_place = is.out_of_place;
   drawn = is.drawn;
   looks = is.looks ∙ ap₂ (λ l ls. l ++ ls) (looks_same one other same false (regions_of_members is.inside)) (looks_same one other same true is.lost);
+  titled = titled_same one other same section.spots is.titled;
   indented = is.indented;
   site = is.site;
   room = is.room;

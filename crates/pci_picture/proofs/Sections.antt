@@ -1,5 +1,5 @@
 -- The regions of sections while they are drawn.
-use Rattle.std.proofs.Common.{◌≡◌, ◌≤◌, ◌<◌, ◌+◌, ◌-◌, ◌==◌, ℕ, true, List, [], ◌∷◌, ◌++◌, map, take, drop, length, get_or, Result, Ok, Err, IfOk, refl, sym, ap, subst, ◌∙◌, arith, inl, inr, Bool, codes}
+use Rattle.std.proofs.Common.{◌≡◌, ◌≤◌, ◌<◌, ◌+◌, ◌-◌, ◌==◌, ℕ, true, List, [], ◌∷◌, ◌++◌, map, take, drop, length, get_or, Result, Ok, Err, IfOk, refl, sym, ap, subst, ◌∙◌, arith, inl, inr, codes}
 use Rattle.std.specs.List.{All, filter, slice_split}
 use Rattle.std.specs.List.Sorted.{IsNonDecreasingBy, IsPermutation}
 use Rattle.std.proofs.lemmas.Bool.{cases_lt, eqb-true}
@@ -8,10 +8,10 @@ use Rattle.std.proofs.lemmas.List.Sorted.{IsNonDecreasingBy-drop, IsNonDecreasin
 use Rattle.std.proofs.lemmas.List.Elements.{All-nil, All-push, All-weaker}
 use Rattle.pci_picture.specs.Boxes.{IsDrawnOf, IsDrawnByRoots}
 use Rattle.pci_picture.specs.Canvases.{AddsToCanvas, AddsSome, HasDrawn}
-use Rattle.pci_picture.specs.Drawings.{AreGrouped, AreOff, AreOfSection, AreOfSections, HasRoomOf, IsRunOfSection, sections_of}
+use Rattle.pci_picture.specs.Drawings.{AreGrouped, AreOffBoxes, AreOfSection, AreOfSections, HasRoomOf, IsBoxOf, IsRunOfSection, sections_of}
 use Rattle.pci_picture.specs.Headings.{AreSectionsOf, headed_regions, is_below_heading}
 use Rattle.pci_picture.specs.Lines.{is_feed, region_lines}
-use Rattle.pci_picture.specs.Looks.{Look, class_told}
+use Rattle.pci_picture.specs.Looks.{IsTitled, Look, look_told}
 use Rattle.pci_picture.specs.Maps.{AreMembersOf, IsReadOf, lines_of_regions, regions_under, regions_of_members, regions_placed, lines_read}
 use Rattle.pci_picture.specs.Members.{AreIndentedBySection, AreSortedBySection, member_number}
 use Rattle.pci_picture.specs.Nested.{HasNestedBoxes}
@@ -26,6 +26,7 @@ use Rattle.pci_picture.specs.declared.plan.Site.{Site}
 use Rattle.pci_picture.specs.declared.plan.Placed.{Placed}
 use Rattle.pci_picture.specs.declared.region.Region.{Region}
 use Rattle.pci_picture.proofs.Boxes.{then_adds, then_some, unchanged}
+use Rattle.pci_picture.proofs.Looks.{SameLooks, titled_same}
 use Rattle.pci_picture.proofs.Nested.{nested_of_all}
 use Rattle.pci_picture.proofs.Groups.{no_group, group_more, grouped, sections_of_all}
 
@@ -71,38 +72,39 @@ both_places regions front back n none some all empty is_front is_back first seco
 
 -- ---- one row of what is off more
 
-pub no_rows : {A : Type 0} (canvas : Canvas A) → AddsSome (AreOff []) canvas canvas
-no_rows canvas = record { spots = []; hold = record { drawn = refl; grey = All-nil (λ spot. spot.class ≡ codes "off") }; adds = unchanged canvas }
+pub no_rows : {A : Type 0} (look : Look) (canvas : Canvas A) → AddsSome (AreOffBoxes look []) canvas canvas
+no_rows look canvas = record { spots = []; hold = record { drawn = refl; grey = All-nil (λ spot. spot.class ≡ codes "off"); titled = All-nil (IsTitled look) }; adds = unchanged canvas }
 
-pub none_off : {A : Type 0} (regions : List Region) (canvas : Canvas A) → (length regions == 0) ≡ true → AddsSome (AreOff regions) canvas canvas
-none_off [] canvas is = no_rows canvas
-none_off (region ∷ regions) canvas is = let l : length (region ∷ regions) ≡ 0 = eqb-true _ 0 is in absurd (omega (arith, l))
+pub none_off : {A : Type 0} (look : Look) (regions : List Region) (canvas : Canvas A) → (length regions == 0) ≡ true → AddsSome (AreOffBoxes look regions) canvas canvas
+none_off look [] canvas is = no_rows look canvas
+none_off look (region ∷ regions) canvas is = let l : length (region ∷ regions) ≡ 0 = eqb-true _ 0 is in absurd (omega (arith, l))
 
-pub row_more : {A : Type 0} (regions : List Region) (i : ℕ) (region : Region) (x y width : ℕ) (first before after : Canvas A) → i < length regions
+pub row_more : {A : Type 0} (look : Look) (regions : List Region) (i : ℕ) (region : Region) (x y width : ℕ) (first before after : Canvas A) → i < length regions
     → region ≡ get_or regions i region
-    → AddsSome (AreOff (take i regions)) first before → AddsToCanvas (spot_at x y width 13 (codes "off") region.line.now ∷ []) before after
-    → AddsSome (AreOff (take (i + 1) regions)) first after
-row_more regions i region x y width first before after inside at done one =
+    → AddsSome (AreOffBoxes look (take i regions)) first before → AddsSome (IsBoxOf (codes "off") (look.said region.line.now) region.line.now x y width 13) before after
+    → AddsSome (AreOffBoxes look (take (i + 1) regions)) first after
+row_more look regions i region x y width first before after inside at done one =
     let more : lines_of_regions (take (i + 1) regions) ≡ lines_of_regions (take i regions) ++ region.line.now ∷ [] =
     map_more (λ r. r.line.now) regions i region inside
     ∙ ap (λ r. lines_of_regions (take i regions) ++ r.line.now ∷ []) (sym at) in
-    let spot : BoxSpot = spot_at x y width 13 (codes "off") region.line.now in
+    let spot : BoxSpot = spot_at x y width 13 (codes "off") one.hold.title region.line.now in
     record {
       spots = done.spots ++ spot ∷ [];
       hold = record {
         drawn = map-append (λ s. s.line) done.spots (spot ∷ []) ∙ ap (λ l. l ++ region.line.now ∷ []) done.hold.drawn ∙ sym more;
         grey = All-push (λ s. s.class ≡ codes "off") done.spots spot done.hold.grey refl;
+        titled = All-push (IsTitled look) done.spots spot done.hold.titled one.hold.titled;
       };
-      adds = then_adds done.spots (spot ∷ []) first before after done.adds one;
+      adds = then_adds done.spots (spot ∷ []) first before after done.adds (subst (λ l. AddsToCanvas l before after) one.hold.one one.adds);
     }
 
-pub all_rows : {A : Type 0} (regions every : List Region) (i : ℕ) (first before after : Canvas A) → length regions ≤ i → regions ≡ every
-    → AddsToCanvas [] first before → AddsSome (AreOff (take i regions)) before after → AddsSome (AreOff every) first after
-all_rows regions every i first before after past is head done =
-    then_some (AreOff every) first before after head (subst (λ l. AddsSome (AreOff l) before after) (take_all i regions past ∙ is) done)
+pub all_rows : {A : Type 0} (look : Look) (regions every : List Region) (i : ℕ) (first before after : Canvas A) → length regions ≤ i → regions ≡ every
+    → AddsToCanvas [] first before → AddsSome (AreOffBoxes look (take i regions)) before after → AddsSome (AreOffBoxes look every) first after
+all_rows look regions every i first before after past is head done =
+    then_some (AreOffBoxes look every) first before after head (subst (λ l. AddsSome (AreOffBoxes look l) before after) (take_all i regions past ∙ is) done)
 
-pub same_rows : {A : Type 0} (regions every : List Region) (first after : Canvas A) → regions ≡ every → AddsSome (AreOff regions) first after → AddsSome (AreOff every) first after
-same_rows regions every first after is done = subst (λ l. AddsSome (AreOff l) first after) is done
+pub same_rows : {A : Type 0} (look : Look) (regions every : List Region) (first after : Canvas A) → regions ≡ every → AddsSome (AreOffBoxes look regions) first after → AddsSome (AreOffBoxes look every) first after
+same_rows look regions every first after is done = subst (λ l. AddsSome (AreOffBoxes look l) first after) is done
 
 -- ---- one section more
 
@@ -169,9 +171,9 @@ sorted_members lines before after is moved =
 -- ---- the whole
 
 pub whole_picture : {A T E : Type 0} (look : Look) (row : Site) (functions : List Listed) (map faults : List ℕ) (read : Map A) (new before between last : Canvas A) (y height : ℕ) (result : Result T E) (bytes : T → List ℕ)
-    → ((is_lost : Bool) (line : List ℕ) → look is_lost line ≡ class_told faults is_lost line) → HasSides row → IsReadOf (slice_split is_feed map) read → y ≤ height
+    → SameLooks look (look_told faults) → HasSides row → IsReadOf (slice_split is_feed map) read → y ≤ height
     → HasDrawn [] new → AddsToCanvas [] new before → AddsSome (AreOfSections look row functions read.lines.items y) before between
-    → AddsSome (AreOff read.off.items) between last
+    → AddsSome (AreOffBoxes look read.off.items) between last
     → ((spots : List BoxSpot) → HasDrawn spots last → IfOk result (λ text. IsDrawnOf spots height (bytes text)))
     → IfOk result (λ text. IsDrawnByRoots functions map faults (bytes text))
 whole_picture look row functions map faults read new before between last y height (Err e) bytes same sides told down none kept some off finished = tt
@@ -193,14 +195,15 @@ whole_picture look row functions map faults read new before between last y heigh
             (subst (λ l. AreSectionsOf l some.hold.sections) told.kept some.hold.below_headings);
         below_none = off.hold.drawn ∙ told.off;
         grey = off.hold.grey;
+        off_titled = titled_same look (look_told faults) same off.spots off.hold.titled;
         height = height;
         drawn =
             subst (λ l. IsDrawnOf l height (bytes text)) joined
             (finished (some.spots ++ off.spots) (off.adds.behind some.spots (some.adds.behind [] (kept.behind [] none))));
         stand = λ small. some.hold.stand (omega (arith, down, small));
         nested =
-            All-weaker (HasNestedBoxes look (filter is_below_heading (headed_regions map))) (HasNestedBoxes (class_told faults) (headed_regions map))
-            (nested_of_all look (class_told faults) same (headed_regions map)) some.hold.sections
+            All-weaker (HasNestedBoxes look (filter is_below_heading (headed_regions map))) (HasNestedBoxes (look_told faults) (headed_regions map))
+            (nested_of_all look (look_told faults) same (headed_regions map)) some.hold.sections
             (subst (λ l. All (HasNestedBoxes look l) some.hold.sections) told.kept (some.hold.nested sides));
       };
       by_root = some.hold.by_root;

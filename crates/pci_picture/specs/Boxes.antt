@@ -5,7 +5,7 @@ use Rattle.std.specs.List.Sorted.{IsPermutation}
 use Rattle.pci_picture.specs.Elements.{box_text, words_text, axis_text, tick_text, gap_text}
 use Rattle.pci_picture.specs.Headings.{AreSectionsOf, headed_regions, is_below_no_heading, lines_below_headings}
 use Rattle.pci_picture.specs.Lines.{is_feed, line_if_region, region_lines}
-use Rattle.pci_picture.specs.Looks.{class_told}
+use Rattle.pci_picture.specs.Looks.{IsTitled, look_told}
 use Rattle.pci_picture.specs.Nested.{HasNestedBoxes}
 use Rattle.pci_picture.specs.Roots.{AreLostByRoot, Listed}
 use Rattle.pci_picture.specs.Spots.{Section, BoxSpot, spot_at, lines_drawn, all_of, EachStands}
@@ -46,9 +46,9 @@ first_title_line (b ∷ title) = if is_feed b then [] else b ∷ first_title_lin
 abbrev pub titled_line : List ℕ → List (List ℕ)
 titled_line title = line_if_region (first_title_line title)
 
--- the same, with the class of the box and where it stands
+-- the same, with the box: its title, its class and where it stands
 abbrev pub titled_spot : Titled → List BoxSpot
-titled_spot box = map (spot_at box.x box.y box.width box.height box.class) (titled_line box.title)
+titled_spot box = map (spot_at box.x box.y box.width box.height box.class box.title) (titled_line box.title)
 
 -- a text has these regions of a map as first lines of its titles, in their order and with their places, and no others
 pub record HasSpots (spots : List BoxSpot) (text : List ℕ) : Type 0 where
@@ -74,7 +74,8 @@ pub record IsDrawnOf (spots : List BoxSpot) (height : ℕ) (text : List ℕ) : T
 -- in the map, and no other title begins with such a line. A section has what stands below the headings with its number, and
 -- some of what is out of place. What stands below no such heading is off, in its order. In each section the boxes stand at
 -- heights that rise with addresses, where the height of the picture was not cut off at 64 bits, and inside each other as deep as
--- the lines of the map. A box has the class of its part, with marks for the faults that name it; what is off is grey
+-- the lines of the map. A box has the class of its part, with marks for the faults that name it; what is off is grey. Each title
+-- ends with the lines of these faults
 pub record IsPictureOf (map faults text : List ℕ) : Type 0 where
   pub sections : List Section
   pub off : List BoxSpot
@@ -82,10 +83,11 @@ pub record IsPictureOf (map faults text : List ℕ) : Type 0 where
   pub below_headings : AreSectionsOf (headed_regions map) sections
   pub below_none : lines_drawn off ≡ lines_below_headings is_below_no_heading (headed_regions map)
   pub grey : All (λ spot. spot.class ≡ codes "off") off
+  pub off_titled : All (IsTitled (look_told faults)) off
   pub height : ℕ
   pub drawn : IsDrawnOf (all_of sections ++ off) height text
   pub stand : EachStands height sections
-  pub nested : All (HasNestedBoxes (class_told faults) (headed_regions map)) sections
+  pub nested : All (HasNestedBoxes (look_told faults) (headed_regions map)) sections
 
 -- the same, where each region out of place is in the section of the root from which its bus is reached, by the functions that
 -- are listed, and of its space

@@ -1,15 +1,16 @@
 -- What is drawn of a section, and of all.
-use Rattle.std.specs.Prelude.{◌≡◌, ◌<◌, ◌≤◌, ◌+◌, ◌-◌, ◌^◌, ℕ, List, codes, map, take, length, slice_index_or}
+use Rattle.std.specs.Prelude.{◌≡◌, ◌<◌, ◌≤◌, ◌+◌, ◌-◌, ◌^◌, ℕ, List, [], ◌∷◌, codes, map, take, length, slice_index_or}
 use Rattle.std.specs.List.{All, AllPairs, flat_map}
 use Rattle.std.specs.List.Sorted.{IsPermutation, IsNonDecreasingBy}
 use Rattle.pci_picture.specs.Headings.{AreSectionsOf, is_lost, lines_below_headings}
-use Rattle.pci_picture.specs.Looks.{Look, looks_placed, looks_up_to}
+use Rattle.pci_picture.specs.Looks.{IsTitled, Look, looks_placed, looks_up_to}
 use Rattle.pci_picture.specs.Maps.{headed_line, headed_member, lines_of_regions, regions_of_members, regions_placed, regions_under}
 use Rattle.pci_picture.specs.Members.{member_number}
 use Rattle.pci_picture.specs.Nested.{HasNestedBoxes}
 use Rattle.pci_picture.specs.Roots.{AreLostByRoot, Listed}
+use Rattle.pci_picture.specs.Said.{IsTitleOf}
 use Rattle.pci_picture.specs.Sides.{HasSides, StandBesideIn, count_in_place, sides_drawn, sides_of_width, widths_placed}
-use Rattle.pci_picture.specs.Spots.{Section, BoxSpot, first_address, region_last_address, classes_drawn, lines_drawn, all_of, Rise, AreBoxesStanding, EachStands}
+use Rattle.pci_picture.specs.Spots.{Section, BoxSpot, first_address, region_last_address, classes_drawn, lines_drawn, all_of, spot_at, Rise, AreBoxesStanding, EachStands}
 use Rattle.pci_picture.specs.Stacked.{height_at}
 use Rattle.pci_picture.specs.declared.heights.Run.{Run}
 use Rattle.pci_picture.specs.declared.lanes.Width.{Width}
@@ -18,6 +19,12 @@ use Rattle.pci_picture.specs.declared.plan.Member.{Member}
 use Rattle.pci_picture.specs.declared.plan.Placed.{Placed}
 use Rattle.pci_picture.specs.declared.plan.Site.{Site}
 use Rattle.pci_picture.specs.declared.region.Region.{Region}
+
+-- one box of a line, with a class and a place, whose title says this of faults
+pub record IsBoxOf (class said line : List ℕ) (x y width height : ℕ) (spots : List BoxSpot) : Type 0 where
+  pub title : List ℕ
+  pub one : spots ≡ spot_at x y width height class title line ∷ []
+  pub titled : IsTitleOf said line title
 
 -- where a box stands, of the heights of its first address and of the one past its last
 pub record IsFramed (height_of : ℕ → ℕ) (first last y height : ℕ) : Type 0 where
@@ -38,6 +45,7 @@ pub record ArePlanned (lines : List (List ℕ)) (runs : List Run) (bottom : ℕ)
 pub record AreFramed (look : Look) (placed : List Placed) (runs : List Run) (bottom : ℕ) (spots : List BoxSpot) : Type 0 where
   pub drawn : lines_drawn spots ≡ lines_of_regions (regions_placed placed)
   pub looks : classes_drawn spots ≡ looks_placed look placed
+  pub titled : All (IsTitled look) spots
   pub sides : sides_drawn spots ≡ map sides_of_width (widths_placed placed)
   pub framed : IsNonDecreasingBy (λ (run : Run). run.begin) runs
       → All (IsFramedAt (height_at runs bottom)) spots
@@ -52,13 +60,15 @@ pub record AreDrawnBeside (site : Site) (members : List Member) (spots : List Bo
 pub record AreOfSection (look : Look) (site : Site) (members : List Member) (end : ℕ) (spots : List BoxSpot) : Type 0 where
   pub drawn : lines_drawn spots ≡ lines_of_regions (regions_of_members members)
   pub looks : classes_drawn spots ≡ looks_up_to look (count_in_place members) (regions_of_members members)
+  pub titled : All (IsTitled look) spots
   pub stand : end < 2 ^ 64 - 1 → AreBoxesStanding spots
   pub beside : AreDrawnBeside site members spots
 
 -- the boxes of what is off
-pub record AreOff (regions : List Region) (spots : List BoxSpot) : Type 0 where
+pub record AreOffBoxes (look : Look) (regions : List Region) (spots : List BoxSpot) : Type 0 where
   pub drawn : lines_drawn spots ≡ lines_of_regions regions
   pub grey : All (λ spot. spot.class ≡ codes "off") spots
+  pub titled : All (IsTitled look) spots
 
 -- ---- members by sections
 
@@ -78,6 +88,7 @@ pub record Group : Type 0 where
 pub record IsGroup (look : Look) (group : Group) : Type 0 where
   pub drawn : lines_drawn group.section.spots ≡ lines_of_regions (regions_of_members group.members)
   pub looks : classes_drawn group.section.spots ≡ looks_up_to look (count_in_place group.members) (regions_of_members group.members)
+  pub titled : All (IsTitled look) group.section.spots
   pub lost : group.section.lost ≡ lines_below_headings is_lost (map headed_member group.members)
   pub alike : All (λ member. member.section ≡ group.section.number) group.members
   pub lost_last : IsNonDecreasingBy member_number group.members

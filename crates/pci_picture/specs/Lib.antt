@@ -8,6 +8,7 @@ pub mod Headings
 pub mod Boxes
 pub mod Canvases
 pub mod Marks
+pub mod Said
 pub mod Looks
 pub mod Maps
 pub mod Depths

@@ -101,6 +101,7 @@ is_naming faults one other key naming = (naming.key == key) && has_one_of one ot
 abbrev pub has_naming : List Fault → List Naming → ℕ → ℕ → ℕ → Bool
 has_naming faults namings one other key = list_any (is_naming faults one other key) namings
 
+-- the keys that were read of a line
 abbrev pub keys_told : Keys → List ℕ
 keys_told NoKey = []
 keys_told (One key) = key ∷ []

@@ -1,10 +1,10 @@
 -- The boxes of a section with the depths of their lines, as the map's text tells them.
 use Rattle.std.specs.Prelude.{◌≡◌, ℕ, ◌==◌, List, ◌++◌, false, map, true}
-use Rattle.std.specs.List.{filter}
+use Rattle.std.specs.List.{All, filter}
 use Rattle.std.specs.List.Sorted.{IsNonDecreasingBy}
 use Rattle.pci_picture.specs.Headings.{Headed, is_section}
 use Rattle.pci_picture.specs.Lanes.{IsIndented}
-use Rattle.pci_picture.specs.Looks.{Look, looks_of}
+use Rattle.pci_picture.specs.Looks.{IsTitled, Look, looks_of}
 use Rattle.pci_picture.specs.Maps.{headed_member, lines_of_regions, regions_of_members}
 use Rattle.pci_picture.specs.Sides.{HasSides, StandBeside, sides_drawn, sides_of_width}
 use Rattle.pci_picture.specs.Spots.{Section, classes_drawn, lines_drawn}
@@ -30,7 +30,7 @@ pub record AreSortedByTop (told drawn : List Headed) : Type 0 where
 -- the boxes of a section are those of regions in place, and behind them those of regions out of place. The regions in place are
 -- those below its headings, each with its depth in the map's text, in the order of this text but that lines of depth 1 rise. Each
 -- is one step deeper at most than the one before it. Their boxes stand inside those of their parents, and side by side where they
--- have an address in common. Each box looks as its line says
+-- have an address in common. Each box looks as its line says, and so does its title
 pub record HasNestedBoxes (look : Look) (regions : List Headed) (section : Section) : Type 0 where
   pub inside : List Member
   pub lost : List Region
@@ -38,6 +38,7 @@ pub record HasNestedBoxes (look : Look) (regions : List Headed) (section : Secti
   pub out_of_place : lines_of_regions lost ≡ section.lost
   pub drawn : lines_drawn section.spots ≡ lines_of_regions (regions_of_members inside ++ lost)
   pub looks : classes_drawn section.spots ≡ looks_of look false (regions_of_members inside) ++ looks_of look true lost
+  pub titled : All (IsTitled look) section.spots
   pub indented : IsIndented (regions_of_members inside)
   pub site : Site
   pub room : HasSides site

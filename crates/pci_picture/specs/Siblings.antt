@@ -10,7 +10,7 @@ use Rattle.pci_picture.specs.declared.region.Region.{Region}
 
 -- the box at an index
 abbrev pub box_at : List BoxSpot → ℕ → BoxSpot
-box_at spots k = slice_index_or spots k (spot_at 0 0 0 0 [] [])
+box_at spots k = slice_index_or spots k (spot_at 0 0 0 0 [] [] [])
 
 -- one box ends above another one, or where that begins: one unit behind this at most, as a box without room has a unit
 abbrev pub EndsAboveOrBeside : BoxSpot → BoxSpot → Type 0

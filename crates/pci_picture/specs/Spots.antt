@@ -19,17 +19,19 @@ pub record IsExtentWord (word : List ℕ) (first last : ℕ) : Type 0 where
 
 -- ---- boxes with their places
 
--- a line of a map that is a region, the class of its box, and where this stands: its left end and its top, its width and its height
+-- a line of a map that is a region, the title and the class of its box, and where this stands: its left end and its top, its width
+-- and its height
 pub record BoxSpot : Type 0 where
   pub line : List ℕ
+  pub title : List ℕ
   pub class : List ℕ
   pub x : ℕ
   pub y : ℕ
   pub width : ℕ
   pub height : ℕ
 
-abbrev pub spot_at : ℕ → ℕ → ℕ → ℕ → List ℕ → List ℕ → BoxSpot
-spot_at x y width height class line = record { line = line; class = class; x = x; y = y; width = width; height = height }
+abbrev pub spot_at : ℕ → ℕ → ℕ → ℕ → List ℕ → List ℕ → List ℕ → BoxSpot
+spot_at x y width height class title line = record { line = line; title = title; class = class; x = x; y = y; width = width; height = height }
 
 abbrev pub lines_drawn : List BoxSpot → List (List ℕ)
 lines_drawn spots = map (λ spot. spot.line) spots

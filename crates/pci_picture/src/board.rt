@@ -1,5 +1,5 @@
 //! A board, read from the texts of three commands.
-ghost use Rattle.std.specs.Prelude.{◌≡◌, [], ◌∷◌, Some, None, unwrap_or, slice_index_or, IfOk};
+ghost use Rattle.std.specs.Prelude.{◌≡◌, ◌≤◌, [], ◌∷◌, ◌++◌, Some, None, drop, length, unwrap_or, slice_index_or, IfOk, OnOk};
 ghost use Rattle.std.specs.List.{slice_split};
 ghost use Rattle.pci_picture.specs.Boxes.{titled_line};
 ghost use Rattle.pci_picture.specs.Depths.{AreChained};
@@ -8,6 +8,7 @@ ghost use Rattle.pci_picture.specs.Listings.{AreFunctionsListed};
 ghost use Rattle.pci_picture.specs.Maps.{IsReadOf};
 ghost use Rattle.pci_picture.specs.Marks.{AreFaultsOf};
 ghost use Rattle.pci_picture.specs.Roots.{AreBusesAbove, AreRoots, go_up, listed_functions};
+ghost use Rattle.pci_picture.specs.Said.{AddsMore, AreSaidOf, IsTitleOf, lines_of_fault, said_by, said_lines};
 
 use super::faults::{Fault, Faults};
 use super::function::{Buses, Function, Span, find};
@@ -120,6 +121,7 @@ impl<'a, A: Allocator + Copy> Board<'a, A> {
         ensures map { IfOk result (λ board. IsReadOf (slice_split is_feed texts.entry.now.map.now) board.map) }
         ensures chained { IfOk result (λ board. AreChained board.map.lines.items) }
         ensures faults { IfOk result (λ board. AreFaultsOf texts.entry.now.faults.now board.faults) }
+        ensures said { IfOk result (λ board. AreSaidOf texts.entry.now.faults.now board.faults) }
         ensures show { IfOk result (λ board. AreFunctionsListed texts.entry.now.show.now (listed_functions board.functions.items)) }
     {
         let mut functions = read_functions(alloc, texts.show)?;
@@ -191,7 +193,11 @@ impl<'a, A: Allocator + Copy> Board<'a, A> {
     }
 
     /// Appends the lines of a fault, with a line feed between two.
-    fn put_fault(&self, words: &mut Words<A>, fault: &Fault) -> Result<(), OutOfMemory> {
+    fn put_fault(&self, words: &mut Words<A>, fault: &Fault) -> Result<(), OutOfMemory>
+        ensures { OnOk result (fault.now.end ≤ length self.now.faults.lines.items
+            → words.new.bytes.items ≡ words.old.bytes.items
+            ++ drop 1 (said_lines (lines_of_fault self.now.faults (Some fault.now)))) }
+    {
         for index in fault.begin..fault.end {
             if index != fault.begin {
                 words.put(b"\n")?;
@@ -215,7 +221,9 @@ impl<'a, A: Allocator + Copy> Board<'a, A> {
     }
 
     /// Appends the buses behind a window, and the lines of a region's faults.
-    fn put_about(&self, words: &mut Words<A>, region: &Region<'_>) -> Result<(), OutOfMemory> {
+    fn put_about(&self, words: &mut Words<A>, region: &Region<'_>) -> Result<(), OutOfMemory>
+        ensures { OnOk result (AddsMore (said_by self.now.faults region.now.key) words.old.bytes.items words.new.bytes.items) }
+    {
         if region.part == Part::Window {
             words.put(b"\nto ")?;
             words.put_buses(self.buses(region))?;
@@ -231,7 +239,9 @@ impl<'a, A: Allocator + Copy> Board<'a, A> {
 
     /// The title of a region's box: its line of the map, and below it what is known of the region.
     pub fn title(&self, alloc: A, region: &Region<'_>) -> Result<Words<A>, OutOfMemory>
-        ensures { IfOk result (λ title. titled_line title.bytes.items ≡ region.entry.now.line.now ∷ []) }
+        ensures line { IfOk result (λ title. titled_line title.bytes.items ≡ region.entry.now.line.now ∷ []) }
+        ensures said { IfOk result (λ title. IsTitleOf (said_by self.entry.now.faults region.entry.now.key)
+            region.entry.now.line.now title.bytes.items) }
     {
         let mut title = Words::of(alloc, region.line)?;
         if region.part == Part::Free {

@@ -1,5 +1,8 @@
 //! The text of `faults --why`.
+ghost use Rattle.std.specs.Prelude.{◌≤◌, ◌<◌, length};
+ghost use Rattle.std.specs.List.{All};
 ghost use Rattle.std.specs.List.Sorted.{IsNonDecreasingBy};
+ghost use Rattle.pci_picture.specs.declared.faults.Fault.{Fault};
 ghost use Rattle.pci_picture.specs.declared.faults.Naming.{Naming};
 
 use super::memory::OutOfMemory;
@@ -119,6 +122,7 @@ pub struct Faults<'a, A: Allocator> {
     /// By rising slot.
     pub badges: Vec<Badge, A>,
     ghost sorted: { IsNonDecreasingBy (λ (naming : Naming). naming.key) namings.items },
+    ghost within: { All (λ (fault : Fault). (fault.begin < fault.end) × (fault.end ≤ length lines.items)) faults.items },
 }
 
 /// The faults of the lines that were read. What they name and what the tree shows of them stands in their order.
@@ -141,12 +145,15 @@ fn first_slot(line: &[u8]) -> Option<u32> {
 }
 
 impl<'a, A: Allocator + Copy> Reader<'a, A> {
-    ghost use Rattle.std.specs.Prelude.{◌≡◌, ◌++◌, Some, OnOk};
+    ghost use Rattle.std.specs.Prelude.{◌≡◌, ◌++◌, Some, List, OnOk};
     ghost use Rattle.pci_picture.specs.Marks.{AddsFault, fault_numbers, keys_told, namings_of, number_before_blank};
+    ghost use Rattle.pci_picture.specs.Said.{AreLinesOf, FaultSaid, with_fault_line, with_reason};
 
     /// Adds a fault, by its first line.
     fn begin(&mut self, number: u8, line: &'a [u8]) -> Result<(), OutOfMemory>
-        ensures { OnOk result (AddsFault (Some number) line.entry.now self.old self.new) }
+        ensures adds { OnOk result (AddsFault (Some number) line.entry.now self.old self.new) }
+        ensures said { OnOk result ((said : List FaultSaid) → AreLinesOf said self.old
+            → AreLinesOf (with_fault_line said line.entry.now (Some number)) self.new) }
     {
         let keys = Keys::of(number, line);
         let fault = self.faults.len();
@@ -166,6 +173,7 @@ impl<'a, A: Allocator + Copy> Reader<'a, A> {
     fn name(&mut self, keys: Keys, fault: usize) -> Result<(), OutOfMemory>
         ensures named { OnOk result (self.new.namings.items ≡ self.old.namings.items ++ namings_of fault (keys_told keys)) }
         ensures same { self.new.faults ≡ self.old.faults }
+        ensures lines { self.new.lines ≡ self.old.lines }
     {
         match keys {
             Keys::None => {}
@@ -182,6 +190,7 @@ impl<'a, A: Allocator + Copy> Reader<'a, A> {
     fn mark(&mut self, number: u8, keys: Keys, line: &[u8]) -> Result<(), OutOfMemory>
         ensures faults { self.new.faults ≡ self.old.faults }
         ensures namings { self.new.namings ≡ self.old.namings }
+        ensures lines { self.new.lines ≡ self.old.lines }
     {
         if number == 60 {
             let last = word(line, word_count(line).saturating_sub(1));
@@ -206,6 +215,7 @@ impl<'a, A: Allocator + Copy> Reader<'a, A> {
     fn badge(&mut self, slot: u32, number: u8, is_bridge: bool) -> Result<(), OutOfMemory>
         ensures faults { self.new.faults ≡ self.old.faults }
         ensures namings { self.new.namings ≡ self.old.namings }
+        ensures lines { self.new.lines ≡ self.old.lines }
     {
         self.badges.push(Badge {
             slot,
@@ -219,6 +229,8 @@ impl<'a, A: Allocator + Copy> Reader<'a, A> {
     fn reason(&mut self, line: &'a [u8]) -> Result<(), OutOfMemory>
         ensures faults { fault_numbers self.new.faults.items ≡ fault_numbers self.old.faults.items }
         ensures namings { self.new.namings ≡ self.old.namings }
+        ensures said { OnOk result ((said : List FaultSaid) → AreLinesOf said self.old
+            → AreLinesOf (with_reason said line.entry.now) self.new) }
     {
         if let Some(fault) = self.faults.last_mut() {
             self.lines.push(line)?;
@@ -229,7 +241,9 @@ impl<'a, A: Allocator + Copy> Reader<'a, A> {
 
     /// Reads a line: the first one of a fault, a further one, or none of a fault.
     fn take(&mut self, line: &'a [u8]) -> Result<(), OutOfMemory>
-        ensures { OnOk result (AddsFault (number_before_blank line.entry.now) line.entry.now self.old self.new) }
+        ensures adds { OnOk result (AddsFault (number_before_blank line.entry.now) line.entry.now self.old self.new) }
+        ensures said { OnOk result ((said : List FaultSaid) → AreLinesOf said self.old
+            → AreLinesOf (with_fault_line said line.entry.now (number_before_blank line.entry.now)) self.new) }
     {
         if let Some(number) = Fault::number_of(line) {
             self.begin(number, line)
@@ -242,13 +256,15 @@ impl<'a, A: Allocator + Copy> Reader<'a, A> {
 }
 
 impl<'a, A: Allocator + Copy> Faults<'a, A> {
-    ghost use Rattle.std.specs.Prelude.{◌≡◌, ◌==◌, IfOk};
+    ghost use Rattle.std.specs.Prelude.{◌≡◌, ◌==◌, [], map, slice_index_or, IfOk};
     ghost use Rattle.std.specs.List.{filter, slice_get};
     ghost use Rattle.pci_picture.specs.Marks.{AreFaultsOf, has_naming, has_one_of};
+    ghost use Rattle.pci_picture.specs.Said.{AreSaidOf};
 
     /// Reads the faults from what `faults --why` prints.
     pub fn read(alloc: A, text: &'a str) -> Result<Faults<'a, A>, OutOfMemory>
-        ensures { IfOk result (λ faults. AreFaultsOf text.entry.now faults) }
+        ensures named { IfOk result (λ faults. AreFaultsOf text.entry.now faults) }
+        ensures said { IfOk result (λ faults. AreSaidOf text.entry.now faults) }
     {
         let mut reader = Reader {
             lines: Vec::new(alloc),
@@ -259,9 +275,8 @@ impl<'a, A: Allocator + Copy> Faults<'a, A> {
         for line in text.split('\n') {
             reader.take(line.as_bytes())?;
         }
-        reader
-            .namings
-            .sort_by_key(|naming| (naming.key, naming.fault))?;
+        // they were added by rising fault, and the sort is stable
+        reader.namings.sort_by_key(|naming| naming.key)?;
         reader
             .badges
             .sort_by_key(|badge| (badge.slot, badge.number, badge.is_bridge))?;
@@ -274,7 +289,9 @@ impl<'a, A: Allocator + Copy> Faults<'a, A> {
     }
 
     /// The line with an index, or nothing behind the last one.
-    pub fn line(&self, index: usize) -> &'a [u8] {
+    pub fn line(&self, index: usize) -> &'a [u8]
+        ensures { result.now ≡ slice_index_or (map (λ line. line.now) self.entry.now.lines.items) index [] }
+    {
         match self.lines.get(index) {
             Some(line) => line,
             None => &[],

@@ -1,6 +1,6 @@
 //! How the box of a region looks, by its part and by the faults that name it.
 ghost use Rattle.std.specs.Prelude.{◌≡◌};
-ghost use Rattle.pci_picture.specs.Looks.{class_by};
+ghost use Rattle.pci_picture.specs.Looks.{look_read};
 ghost use Rattle.pci_picture.specs.Marks.{look_with, word_of_part};
 
 use super::faults::Faults;
@@ -36,7 +36,7 @@ pub fn class_of<A: Allocator + Copy>(
     region: &Region<'_>,
     is_lost: bool,
 ) -> &'static str
-    ensures { result.now ≡ class_by faults.entry.now is_lost region.entry.now.line.now }
+    ensures { result.now ≡ (look_read faults.entry.now).class is_lost region.entry.now.line.now }
 {
     let clashes = faults.has(region.key, 61, 62);
     let is_unreached = faults.has(region.key, 60, 63);

@@ -21,7 +21,6 @@ pub fn word(line: &[u8], index: usize) -> &[u8]
 }
 
 /// How many words a line has.
-#[tactic(auto, unfolding(crate::specs::Lines::words_in_line))]
 pub fn word_count(line: &[u8]) -> usize
     ensures { result ≡ length (words_in_line line.now) }
 {

@@ -1,9 +1,8 @@
 //! A section of a map: its axis, its boxes, and the ranges that its faults tell.
-ghost use Rattle.std.specs.Prelude.{◌≤◌, [], ◌∷◌, IfOk, OnOk};
+ghost use Rattle.std.specs.Prelude.{◌≤◌, [], IfOk, OnOk};
 ghost use Rattle.pci_picture.specs.Canvases.{AddsToCanvas, AddsSome};
-ghost use Rattle.pci_picture.specs.Drawings.{AreFramed, AreOfSection};
-ghost use Rattle.pci_picture.specs.Looks.{class_by};
-ghost use Rattle.pci_picture.specs.Spots.{spot_at};
+ghost use Rattle.pci_picture.specs.Drawings.{AreFramed, AreOfSection, IsBoxOf};
+ghost use Rattle.pci_picture.specs.Looks.{look_read};
 
 use super::board::Board;
 use super::canvas::{Canvas, Label, Shape};
@@ -135,9 +134,10 @@ fn draw_box<A: Allocator + Copy>(
     placed: &Placed<'_>,
     at: Frame,
 ) -> Result<(), OutOfMemory>
-    ensures { OnOk result (AddsToCanvas (spot_at at.x at.y at.width at.height
-        (class_by board.entry.now.faults placed.entry.now.is_lost placed.entry.now.region.line.now)
-        placed.entry.now.region.line.now ∷ []) canvas.old canvas.new) }
+    ensures { OnOk result (AddsSome (IsBoxOf
+        ((look_read board.entry.now.faults).class placed.entry.now.is_lost placed.entry.now.region.line.now)
+        ((look_read board.entry.now.faults).said placed.entry.now.region.line.now) placed.entry.now.region.line.now
+        at.x at.y at.width at.height) canvas.old canvas.new) }
 {
     let region = &placed.region;
     let class = class_of(&board.faults, region, placed.is_lost);
@@ -371,7 +371,7 @@ fn draw_regions<A: Allocator + Copy>(
     board: &Board<'_, A>,
     plan: &Plan<'_, A>,
 ) -> Result<(), OutOfMemory>
-    ensures { OnOk result (AddsSome (AreFramed (class_by board.entry.now.faults) plan.entry.now.placed.items
+    ensures { OnOk result (AddsSome (AreFramed (look_read board.entry.now.faults) plan.entry.now.placed.items
         plan.entry.now.heights.runs.items plan.entry.now.heights.bottom) canvas.old canvas.new) }
 {
     for placed in &plan.placed {
@@ -434,7 +434,7 @@ pub fn draw_section<A: Allocator + Copy>(
     site: &Site,
     members: &[Member<'_>],
 ) -> Result<u64, OutOfMemory>
-    ensures drawn { IfOk result (λ end. AddsSome (AreOfSection (class_by board.entry.now.faults) site.now members.entry.now end)
+    ensures drawn { IfOk result (λ end. AddsSome (AreOfSection (look_read board.entry.now.faults) site.now members.entry.now end)
         canvas.old canvas.new) }
     ensures down { IfOk result (λ end. site.now.y ≤ end) }
 {

@@ -1,6 +1,7 @@
 //! A line of words that is being written.
 ghost use Rattle.std.specs.Prelude.{◌≡◌, ◌++◌, [], IfOk, OnOk};
 ghost use Rattle.std.specs.List.{flat_map};
+ghost use Rattle.pci_picture.specs.Said.{AddsMore};
 
 use super::function::{Buses, Function};
 use super::memory::OutOfMemory;
@@ -72,7 +73,9 @@ impl<A: Allocator + Copy> Words<A> {
     }
 
     /// Appends the lowest `digits` hex digits of a number, at most 16.
-    pub fn put_hex(&mut self, number: u64, digits: usize) -> Result<(), OutOfMemory> {
+    pub fn put_hex(&mut self, number: u64, digits: usize) -> Result<(), OutOfMemory>
+        ensures { OnOk result (AddsMore [] self.old.bytes.items self.new.bytes.items) }
+    {
         let all = hex_digits(number);
         self.put(&all[16 - digits.min(16)..])
     }
@@ -93,7 +96,9 @@ impl<A: Allocator + Copy> Words<A> {
     }
 
     /// Appends the buses behind a bridge.
-    pub fn put_buses(&mut self, buses: Option<Buses>) -> Result<(), OutOfMemory> {
+    pub fn put_buses(&mut self, buses: Option<Buses>) -> Result<(), OutOfMemory>
+        ensures { OnOk result (AddsMore [] self.old.bytes.items self.new.bytes.items) }
+    {
         match buses {
             Some(buses) if buses.subordinate != 0 => {
                 if buses.secondary == buses.subordinate {

@@ -1,28 +1,59 @@
-use Rattle.std.proofs.Common.{List, ℕ, Bor, lit<, rules}
-use Rattle.std.specs.Ordering.{nat_cmp}
+use Rattle.std.proofs.Common.{List, ℕ, Bor, refl, lit<, rules}
 use Rattle.std.proofs.lemmas.Iterator.Consumers.{YieldsList-end}
 use Rattle.std.proofs.lemmas.Iterator.Splits.{YieldsList-from_str_split}
-use Rattle.std.proofs.lemmas.List.Sorted.{answers_always}
-use Rattle.pci_picture.proofs.Marks.{none_read, one_more, sorted_by_pair, whole_text}
+use Rattle.std.proofs.lemmas.List.Sorted.{IsNonDecreasingBy-from_sort, answers_always}
+use Rattle.pci_picture.specs.declared.faults.Faults.{Faults}
+use Rattle.pci_picture.proofs.Marks.{none_read, one_more, whole_text}
+use Rattle.pci_picture.proofs.ReadSaid.{faults_within, lines_more, no_lines, text_said}
 use Rattle.pci_picture.proofs.faults.Faults.read.Goals as goal
 
 pub loop-line-init : goal.loop-line-init
-loop-line-init g c = none_read _ _ c.new-3.ensures.items
+loop-line-init g c = record {
+  named = none_read _ _ c.new-3.ensures.items;
+  said = no_lines _ c.new.ensures.items c.new-2.ensures.items c.new-3.ensures.items;
+}
 
 pub loop-line-preserved : goal.loop-line-preserved
 loop-line-preserved g c =
-    one_more (λ (x : Bor (List ℕ)). x.now) c.loop-line.yielded c.in-Some.line c.as_bytes.result.now c.loop-line.reader c.take.new.self
-    c.as_bytes.ensures.value c.loop-line.invariant c.in_ok-take.ensures
+    let now = λ (x : Bor (List ℕ)). x.now in
+    record {
+      named =
+          one_more now c.loop-line.yielded c.in-Some.line c.as_bytes.result.now c.loop-line.reader c.take.new.self
+          c.as_bytes.ensures.value c.loop-line.invariant.named c.in_ok-take.ensures.adds;
+      said =
+          lines_more now c.loop-line.yielded c.in-Some.line c.as_bytes.result.now c.loop-line.reader c.take.new.self
+          c.as_bytes.ensures.value c.loop-line.invariant.said c.in_ok-take.ensures.adds c.in_ok-take.ensures.said;
+    }
 
 pub returns : goal.returns
 returns g c =
-    whole_text (λ (x : Bor (List ℕ)). x.now) c.loop-line.yielded c.args.text.now c.loop-line.reader.faults.items c.loop-line.reader.namings.items _
-    ((YieldsList-end (YieldsList-from_str_split 10 c.args.text.now (lit< tt) (cc) (cc) (cc)) c.loop-line.yielded _ c.loop-line.yielded_by _ _ c.in-None.is c.next.ensures.steps).0)
-    c.loop-line.invariant c.in_ok-sort_by_key.ensures.permutation
+    let now = λ (x : Bor (List ℕ)). x.now in
+    let whole =
+    (YieldsList-end (YieldsList-from_str_split 10 c.args.text.now (lit< tt) (cc) (cc) (cc)) c.loop-line.yielded _ c.loop-line.yielded_by _ _ c.in-None.is c.next.ensures.steps).0 in
+    let reader = c.loop-line.reader in
+    let faults : Faults _ = record {
+      lines = reader.lines;
+      faults = reader.faults;
+      namings = c.sort_by_key.new.self;
+      badges = reader.badges;
+      sorted =
+          IsNonDecreasingBy-from_sort (λ n. n.key) c.sort_by_key.new.self.items
+          (c.in_ok-sort_by_key.ensures.sorted (λ n. n.key) (answers_always _ _ _ (λ f a r h k. search rules)));
+      within = faults_within _ reader c.loop-line.invariant.said;
+    } in
+    record {
+      named =
+          whole_text now c.loop-line.yielded c.args.text.now c.loop-line.reader.faults.items c.loop-line.reader.namings.items _ whole
+          c.loop-line.invariant.named c.in_ok-sort_by_key.ensures.permutation;
+      said =
+          text_said now c.loop-line.yielded c.args.text.now reader faults whole c.loop-line.invariant.said refl refl
+          (c.in_ok-sort_by_key.ensures.stable (λ n. n.key) (answers_always _ _ _ (λ f a r h k. search rules)));
+    }
 
 pub invariant_of-result : goal.invariant_of-result
 invariant_of-result g c = record {
   sorted =
-      sorted_by_pair (λ n. n.key) (λ x y. nat_cmp x.fault y.fault) c.sort_by_key.new.self.items
-      (c.in_ok-sort_by_key.ensures.sorted (λ n. (n.key, n.fault)) (answers_always _ _ _ (λ f a r h k. search rules)));
+      IsNonDecreasingBy-from_sort (λ n. n.key) c.sort_by_key.new.self.items
+      (c.in_ok-sort_by_key.ensures.sorted (λ n. n.key) (answers_always _ _ _ (λ f a r h k. search rules)));
+  within = faults_within _ c.loop-line.reader c.loop-line.invariant.said;
 }

@@ -1,6 +1,10 @@
 use Rattle.std.proofs.Common.{map}
 use Rattle.pci_picture.proofs.Marks.{AreReadFaults}
+use Rattle.pci_picture.proofs.ReadSaid.{AreReadLines}
 use Rattle.pci_picture.proofs.faults.Faults.read.Given as goal
 
 abbrev pub invariant-loop-line : goal.invariant-loop-line
-invariant-loop-line g l = AreReadFaults (map (λ x. x.now) l.yielded) l.reader.faults.items l.reader.namings.items
+invariant-loop-line g l = record {
+  named : AreReadFaults (map (λ x. x.now) l.yielded) l.reader.faults.items l.reader.namings.items;
+  said : AreReadLines (map (λ x. x.now) l.yielded) l.reader;
+}

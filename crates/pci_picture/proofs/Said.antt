@@ -1,0 +1,222 @@
+-- What titles say of faults.
+use Rattle.std.proofs.Common.{◌≡◌, ◌≤◌, ◌<◌, ◌+◌, ◌-◌, ◌&&◌, if◌then◌else◌, ℕ, Bool, true, false, ltb, subst, Some, None, List, [], ◌∷◌, ◌++◌, map, length, take, drop, get_or, refl, sym, ap, ◌∙◌, arith}
+use Rattle.std.specs.List.{flat_map, slice_get, slice_range}
+use Rattle.std.specs.Prelude.{codes}
+use Rattle.std.specs.Cmp.Lexicographic.{same_text}
+use Rattle.std.proofs.lemmas.Bool.{ltb-false, ltb-true}
+use Rattle.std.proofs.lemmas.Option.{slice_get_past, slice_get_read}
+use Rattle.std.proofs.lemmas.Grind.{flat_map-append}
+use Rattle.std.proofs.lemmas.List.{append-nil, append_assoc, drop-map, get_or-drop, length-drop, length-map, length-take-le, take-map, take_more}
+use denote.Enum.Bare.{sameb}
+use Rattle.pci_picture.specs.Lines.{nth_word, says, words_in_line}
+use Rattle.pci_picture.specs.Marks.{look_of_part, word_of_part}
+use Rattle.pci_picture.specs.Said.{AddsMore, IsTitleOf, lines_of_fault, said_lines}
+use Rattle.pci_picture.specs.contracts.region.Part.{the_type}
+use Rattle.pci_picture.specs.declared.faults.Fault.{Fault}
+use Rattle.pci_picture.specs.declared.faults.Faults.{Faults}
+use Rattle.pci_picture.specs.declared.faults.Naming.{Naming}
+use Rattle.pci_picture.specs.declared.region.Part.TheVariants.{Bar, Prefetchable, Rom, Window, Told, Held, Free}
+use Rattle.pci_picture.specs.declared.region.Part.{Part}
+
+-- ---- bytes that are added
+
+pub some_more : (old new bytes : List ℕ) → new ≡ old ++ bytes → AddsMore [] old new
+some_more old new bytes is = (bytes, is ∙ ap (λ l. old ++ l) (sym (append-nil bytes)))
+
+pub none_more : (old : List ℕ) → AddsMore [] old old
+none_more old = ([], sym (append-nil old))
+
+pub more_behind : (ending a b c : List ℕ) → AddsMore [] a b → AddsMore ending b c → AddsMore ending a c
+more_behind ending a b c first second = (
+  first.0 ++ second.0,
+  second.1 ∙ ap (λ l. l ++ (second.0 ++ ending)) (first.1 ∙ ap (λ l. a ++ l) (append-nil first.0))
+      ∙ append_assoc a first.0 (second.0 ++ ending) ∙ ap (λ l. a ++ l) (sym (append_assoc first.0 second.0 ending)),
+)
+
+pub longer_ending : (one next a b c : List ℕ) → AddsMore one a b → c ≡ b ++ next → AddsMore (one ++ next) a c
+longer_ending one next a b c adds is = (
+  adds.0,
+  is ∙ ap (λ l. l ++ next) adds.1 ∙ append_assoc a (adds.0 ++ one) next ∙ ap (λ l. a ++ l) (append_assoc adds.0 one next),
+)
+
+-- ---- the lines of a fault
+
+abbrev pub said_of_naming : {A : Type 0} → Faults A → Naming → List ℕ
+said_of_naming faults naming = said_lines (lines_of_fault faults (slice_get faults.faults.items naming.fault))
+
+pub first_line : (line : List ℕ) → drop 1 (said_lines (line ∷ [])) ≡ line
+first_line line = append-nil line
+
+pub next_line : (lines : List (List ℕ)) (line : List ℕ) → 0 < length lines → drop 1 (said_lines (lines ++ line ∷ [])) ≡ drop 1 (said_lines lines) ++ 10 ∷ line
+next_line [] line long = absurd (omega (arith, long))
+next_line (first ∷ lines) line long =
+    ap (λ l. first ++ l) (flat_map-append (λ l. 10 ∷ l) lines (line ∷ []) ∙ ap (λ l. said_lines lines ++ 10 ∷ l) (append-nil line))
+    ∙ sym (append_assoc first (said_lines lines) (10 ∷ line))
+
+pub feed_before : (lines : List (List ℕ)) → 0 < length lines → said_lines lines ≡ 10 ∷ drop 1 (said_lines lines)
+feed_before [] long = absurd (omega (arith, long))
+feed_before (first ∷ lines) long = refl
+
+-- ---- the lines of a fault that is being written
+
+range_long : {X : Type 0} (xs : List X) (begin end : ℕ) → end ≤ length xs → length (slice_range xs begin end) ≡ end - begin
+range_long xs begin end inside =
+    let long : length (drop begin xs) ≡ length xs - begin = length-drop begin xs in
+    length-take-le (end - begin) (drop begin xs) (omega (arith, long, inside))
+
+more_of_range : (lines : List (List ℕ)) (begin index : ℕ) → begin ≤ index → index < length lines
+    → slice_range lines begin (index + 1) ≡ slice_range lines begin index ++ get_or lines index [] ∷ []
+more_of_range lines begin index from inside =
+    let all = drop begin lines in
+    let long : length all ≡ length lines - begin = length-drop begin lines in
+    let one : index + 1 - begin ≡ index - begin + 1 = omega (arith, from) in
+    let at : begin + (index - begin) ≡ index = omega (arith, from) in
+    ap (λ n. take n all) one ∙ take_more all (index - begin) [] (omega (arith, from, inside, long))
+    ∙ ap (λ l. take (index - begin) all ++ l ∷ []) (get_or-drop begin lines (index - begin) [] ∙ ap (λ i. get_or lines i []) at)
+
+pub line_first : (lines : List (List ℕ)) (begin index : ℕ) (line start before after : List ℕ) → index ≡ begin → index < length lines → line ≡ get_or lines index []
+    → before ≡ start ++ drop 1 (said_lines (slice_range lines begin index)) → after ≡ before ++ line
+    → after ≡ start ++ drop 1 (said_lines (slice_range lines begin (index + 1)))
+line_first lines begin index line start before after same inside is said adds =
+    let none : index - begin ≡ 0 = omega (arith, same) in
+    let empty : slice_range lines begin index ≡ [] = ap (λ n. take n (drop begin lines)) none in
+    adds ∙ ap (λ l. l ++ line) (said ∙ ap (λ l. start ++ drop 1 (said_lines l)) empty ∙ append-nil start)
+    ∙ ap (λ l. start ++ l) (sym (first_line line) ∙ ap (λ l. drop 1 (said_lines (l ∷ []))) is
+    ∙ ap (λ l. drop 1 (said_lines l)) (sym (more_of_range lines begin index (omega (arith, same)) inside ∙ ap (λ l. l ++ get_or lines index [] ∷ []) empty)))
+
+pub line_next : (lines : List (List ℕ)) (begin index : ℕ) (line start before between after : List ℕ) → begin < index → index < length lines → line ≡ get_or lines index []
+    → before ≡ start ++ drop 1 (said_lines (slice_range lines begin index)) → between ≡ before ++ 10 ∷ [] → after ≡ between ++ line
+    → after ≡ start ++ drop 1 (said_lines (slice_range lines begin (index + 1)))
+line_next lines begin index line start before between after from inside is said feed adds =
+    let range = slice_range lines begin index in
+    let long : length range ≡ index - begin = range_long lines begin index (omega (arith, inside)) in
+    adds ∙ ap (λ l. l ++ line) (feed ∙ ap (λ l. l ++ 10 ∷ []) said)
+    ∙ append_assoc (start ++ drop 1 (said_lines range)) (10 ∷ []) line
+    ∙ append_assoc start (drop 1 (said_lines range)) (10 ∷ line)
+    ∙ ap (λ l. start ++ l) (sym (next_line range line (omega (arith, long, from))) ∙ ap (λ l. drop 1 (said_lines (range ++ l ∷ []))) is
+    ∙ ap (λ l. drop 1 (said_lines l)) (sym (more_of_range lines begin index (omega (arith, from)) inside)))
+
+pub range_of_map : {X : Type 0} (now : X → List ℕ) (items : List X) (begin index end : ℕ) → index - begin ≡ end - begin
+    → slice_range (map now items) begin index ≡ map now (take (end - begin) (drop begin items))
+range_of_map now items begin index end same =
+    ap (λ n. take n (drop begin (map now items))) same ∙ ap (take (end - begin)) (drop-map now begin items) ∙ take-map now (end - begin) (drop begin items)
+
+-- a fault with lines
+pub fault_said : {X : Type 0} (now : X → List ℕ) (items : List X) (begin end : ℕ) (before between after : List ℕ) → begin < end → end ≤ length items
+    → between ≡ before ++ 10 ∷ []
+    → (end ≤ length items → after ≡ between ++ drop 1 (said_lines (map now (take (end - begin) (drop begin items)))))
+    → after ≡ before ++ said_lines (map now (take (end - begin) (drop begin items)))
+fault_said now items begin end before between after some inside feed adds =
+    let lines = map now (take (end - begin) (drop begin items)) in
+    let long : length lines ≡ end - begin = length-map (take (end - begin) (drop begin items)) now ∙ range_long items begin end inside in
+    adds inside ∙ ap (λ l. l ++ drop 1 (said_lines lines)) feed ∙ append_assoc before (10 ∷ []) (drop 1 (said_lines lines))
+    ∙ ap (λ l. before ++ l) (sym (feed_before lines (omega (arith, long, some))))
+
+-- what is said of one naming more
+naming_more : {X : Type 0} (f : X → List ℕ) (xs : List X) (i : ℕ) (x d : X) → i < length xs → x ≡ get_or xs i d
+    → flat_map f (take i xs) ++ f x ≡ flat_map f (take (i + 1) xs)
+naming_more f xs i x d inside at =
+    sym (ap (flat_map f) (take_more xs i d inside) ∙ flat_map-append f (take i xs) (get_or xs i d ∷ [])
+    ∙ ap (λ l. flat_map f (take i xs) ++ l) (append-nil (f (get_or xs i d)) ∙ ap f (sym at)))
+
+-- what `get` gives
+pub fault_found : {A : Type 0} (faults : Faults A) (all : List Fault) (i : ℕ) (fault : Fault) → all ≡ faults.faults.items → true ≡ ltb i (length all) → fault ≡ get_or all i fault
+    → (slice_get faults.faults.items i ≡ Some fault) × ((fault.begin < fault.end) × (fault.end ≤ length faults.lines.items))
+fault_found faults all i fault same inside at =
+    let items = faults.faults.items in
+    let lt : i < length items = subst (λ l. i < length l) same (ltb-true i (length all) (sym inside)) in
+    let is : fault ≡ get_or items i fault = at ∙ ap (λ l. get_or l i fault) same in (
+      slice_get_read items (length items) i fault refl lt is,
+      subst (λ f. (f.begin < f.end) × (f.end ≤ length faults.lines.items)) (sym is) (faults.within i fault lt),
+    )
+
+pub fault_missing : (all items : List Fault) (i : ℕ) → all ≡ items → false ≡ ltb i (length all) → slice_get items i ≡ None
+fault_missing all items i same past = slice_get_past items i (subst (λ l. length l ≤ i) same (ltb-false i (length all) (sym past)))
+
+pub said_more : {A : Type 0} (faults : Faults A) (namings : List Naming) (index : ℕ) (naming d : Naming) (fault : Fault) (old before between after : List ℕ)
+    → index < length namings → naming ≡ get_or namings index d → AddsMore (flat_map (said_of_naming faults) (take index namings)) old before
+    → (slice_get faults.faults.items naming.fault ≡ Some fault) × ((fault.begin < fault.end) × (fault.end ≤ length faults.lines.items))
+    → between ≡ before ++ 10 ∷ []
+    → (fault.end ≤ length faults.lines.items → after ≡ between ++ drop 1 (said_lines (lines_of_fault faults (Some fault))))
+    → AddsMore (flat_map (said_of_naming faults) (take (index + 1) namings)) old after
+said_more faults namings index naming d fault old before between after inside at adds found feed put =
+    subst (λ e. AddsMore e old after) (naming_more (said_of_naming faults) namings index naming d inside at)
+    (longer_ending (flat_map (said_of_naming faults) (take index namings)) (said_of_naming faults naming) old before after adds
+    (fault_said (λ line. line.now) faults.lines.items fault.begin fault.end before between after (found.1.0) (found.1.1) feed put
+    ∙ ap (λ o. before ++ said_lines (lines_of_fault faults o)) (sym (found.0))))
+
+pub said_none : {A : Type 0} (faults : Faults A) (namings : List Naming) (index : ℕ) (naming d : Naming) (old before : List ℕ)
+    → index < length namings → naming ≡ get_or namings index d → AddsMore (flat_map (said_of_naming faults) (take index namings)) old before
+    → slice_get faults.faults.items naming.fault ≡ None → AddsMore (flat_map (said_of_naming faults) (take (index + 1) namings)) old before
+said_none faults namings index naming d old before inside at adds none =
+    subst (λ e. AddsMore e old before) (naming_more (said_of_naming faults) namings index naming d inside at)
+    (longer_ending (flat_map (said_of_naming faults) (take index namings)) (said_of_naming faults naming) old before before adds
+    (sym (ap (λ o. before ++ said_lines (lines_of_fault faults o)) none ∙ append-nil before)))
+
+-- ---- what is free
+
+true_false : true ≡ false → ⊥
+true_false is = cc
+
+abbrev is_free : Part → Bool
+is_free Bar = false
+is_free Prefetchable = false
+is_free Rom = false
+is_free Window = false
+is_free Told = false
+is_free Held = false
+is_free Free = true
+
+same_free : (part : Part) → sameb the_type part Free ≡ is_free part
+same_free Bar = refl
+same_free Prefetchable = refl
+same_free Rom = refl
+same_free Window = refl
+same_free Told = refl
+same_free Held = refl
+same_free Free = refl
+
+-- a part is free where its word is `free`, and so its third word
+free_by_word : (part : Part) → is_free part ≡ says (word_of_part part) (codes "free")
+free_by_word Bar = refl
+free_by_word Prefetchable = refl
+free_by_word Rom = refl
+free_by_word Window = refl
+free_by_word Told = refl
+free_by_word Held = refl
+free_by_word Free = refl
+
+free_by_look : (words : List (List ℕ)) → says (look_of_part words) (codes "free") ≡ says (nth_word words 2) (codes "free")
+unfolding look_of_part
+free_by_look words = go (says (nth_word words 2) (codes "bar")) (says (nth_word words 3) (codes "pref")) refl
+  where
+    go : (bar pref : Bool) → bar ≡ says (nth_word words 2) (codes "bar")
+        → says (if bar && pref then codes "pref" else nth_word words 2) (codes "free") ≡ says (nth_word words 2) (codes "free")
+    go true true is = sym (ap (λ w. says w (codes "free")) (same_text (nth_word words 2) (codes "bar") is))
+    go true false is = refl
+    go false pref is = refl
+
+part_free : (part : Part) (words : List (List ℕ)) → word_of_part part ≡ look_of_part words
+    → sameb the_type part Free ≡ says (nth_word words 2) (codes "free")
+part_free part words looks = same_free part ∙ free_by_word part ∙ ap (λ w. says w (codes "free")) looks ∙ free_by_look words
+
+-- ---- titles
+
+pub free_title : (said line title : List ℕ) (part : Part) → word_of_part part ≡ look_of_part (words_in_line line) → sameb the_type part Free ≡ true → title ≡ line
+    → IsTitleOf said line title
+free_title said line title part looks same is = record {
+  free = λ yes. is;
+  ends = λ no. absurd (true_false (sym same ∙ part_free part (words_in_line line) looks ∙ no));
+}
+
+pub other_title : (said name about line first feed named title : List ℕ) (part : Part) → word_of_part part ≡ look_of_part (words_in_line line) → sameb the_type part Free ≡ false
+    → AddsMore said [] about → first ≡ line → feed ≡ first ++ 10 ∷ [] → named ≡ feed ++ name → title ≡ named ++ about → IsTitleOf said line title
+other_title said name about line first feed named title part looks other adds begins is_feed is_named is = record {
+  free = λ free. absurd (true_false (sym free ∙ sym (part_free part (words_in_line line) looks) ∙ other));
+  ends = λ free. (
+    name ++ adds.0,
+    is ∙ ap (λ l. l ++ about) (is_named ∙ ap (λ l. l ++ name) (is_feed ∙ ap (λ l. l ++ 10 ∷ []) begins))
+        ∙ append_assoc (line ++ 10 ∷ []) name about ∙ append_assoc line (10 ∷ []) (name ++ about)
+        ∙ ap (λ l. line ++ 10 ∷ l) (ap (λ l. name ++ l) adds.1 ∙ sym (append_assoc name adds.0 said)),
+  );
+}
