@@ -1,9 +1,7 @@
 pub mod Aboves
 pub mod BusTables
 pub mod ClassOf
-pub mod ClassPlaces
 pub mod ItemValues
-pub mod ItemWalks
 pub mod Mapped
 pub mod NeedTables
 pub mod NoWindows
@@ -12,5 +10,6 @@ pub mod Parts
 pub mod Records
 pub mod RootNeeds
 pub mod SortedItems
+pub mod SortedPlaces
 pub mod StableSorts
 pub mod Walking

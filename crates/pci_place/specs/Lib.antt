@@ -8,4 +8,3 @@ pub mod Records
 pub mod Shortages
 pub mod Sizes
 pub mod Sorting
-pub mod Walks

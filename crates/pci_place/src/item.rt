@@ -9,7 +9,7 @@ ghost use Rattle.pci_place.specs.Pools.{pools_value};
 ghost use Rattle.pci_place.specs.Above.{AreAboves, system_in};
 ghost use Rattle.pci_place.specs.Needs.{AreNeeds};
 ghost use Rattle.pci_place.specs.Items.{IsBar, owned, bar_items, window_items, rom_items, record_items, AreItems, IsRooted};
-ghost use Rattle.pci_place.specs.Sorting.{IsLarger, IsPlacedBefore};
+ghost use Rattle.pci_place.specs.Sorting.{StandsEarlier, IsLarger, IsPlacedBefore};
 
 use super::need::{Needs, bar_size, rom_size, window_size_of};
 use super::pools::Pools;
@@ -211,9 +211,9 @@ pub fn items_of<A: Allocator, B: Allocator>(
 /// Sorts items by falling size; those of one size stay in their order.
 fn sort_by_size<A: Allocator + Copy>(items: &mut Vec<Item, A>) -> Result<(), OutOfMemory>
     ensures permutation { IsPermutation items.old.items items.new.items }
-    ensures sorted { OnOk result ((number : Item → ℕ)
-        → AllPairs (λ i j. number i < number j) items.old.items
-        → AllPairs (IsLarger number) items.new.items) }
+    ensures sorted { OnOk result ((slot register : Item → ℕ)
+        → AllPairs (StandsEarlier slot register) items.old.items
+        → AllPairs (IsLarger slot register) items.new.items) }
 {
     match items.sort_by_key(|item| Reverse(item.size)) {
         Ok(()) => Ok(()),
@@ -224,8 +224,9 @@ fn sort_by_size<A: Allocator + Copy>(items: &mut Vec<Item, A>) -> Result<(), Out
 /// Sorts items by their group; those of one group stay in their order.
 fn sort_by_group<A: Allocator + Copy>(items: &mut Vec<Item, A>) -> Result<(), OutOfMemory>
     ensures permutation { IsPermutation items.old.items items.new.items }
-    ensures sorted { OnOk result ((number : Item → ℕ) → AllPairs (IsLarger number) items.old.items
-        → AllPairs (IsPlacedBefore number) items.new.items) }
+    ensures sorted { OnOk result ((slot register : Item → ℕ)
+        → AllPairs (IsLarger slot register) items.old.items
+        → AllPairs (IsPlacedBefore slot register) items.new.items) }
 {
     match items.sort_by_key(|item| item.group) {
         Ok(()) => Ok(()),
@@ -237,10 +238,10 @@ fn sort_by_group<A: Allocator + Copy>(items: &mut Vec<Item, A>) -> Result<(), Ou
 pub fn sort_items<A: Allocator + Copy>(items: &mut Vec<Item, A>) -> Result<(), OutOfMemory>
     // nothing is lost or doubled, also where there was no memory to sort with
     ensures permutation { IsPermutation items.old.items items.new.items }
-    // by any number that rises along the items: those of one size stay in their order
-    ensures sorted { OnOk result ((number : Item → ℕ)
-        → AllPairs (λ i j. number i < number j) items.old.items
-        → AllPairs (IsPlacedBefore number) items.new.items) }
+    // by any two numbers that rise along the items: those of one size stay in their order
+    ensures sorted { OnOk result ((slot register : Item → ℕ)
+        → AllPairs (StandsEarlier slot register) items.old.items
+        → AllPairs (IsPlacedBefore slot register) items.new.items) }
 {
     sort_by_size(items)?;
     sort_by_group(items)

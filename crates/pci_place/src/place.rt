@@ -1,6 +1,5 @@
 //! The place of each item: largest first from the pool's or the window's first address on.
-ghost use Rattle.std.specs.Prelude.{◌≡◌, ℕ, OnOk, length, slice_index_or};
-ghost use Rattle.std.specs.List.{Contains};
+ghost use Rattle.std.specs.Prelude.{◌≡◌, OnOk, length};
 ghost use Rattle.pci_spec.specs.System.{Part as PartValue};
 ghost use Rattle.plan_spec.specs.PlanPromise.{CanBePlanned};
 ghost use Rattle.pci_base.specs.WindowKinds.{kind_value};
@@ -9,7 +8,7 @@ ghost use Rattle.pci_place.specs.Above.{AreAboves, system_in};
 ghost use Rattle.pci_place.specs.Needs.{AreNeeds};
 ghost use Rattle.pci_place.specs.Items.{part_value, IsPart};
 ghost use Rattle.pci_place.specs.Places.{first_in, HasPlaces, KeepsOthers};
-ghost use Rattle.pci_place.specs.Walks.{Walk};
+ghost use Rattle.pci_place.specs.Sorting.{SortedClass};
 
 use super::pools::Pools;
 use super::room::raised;
@@ -64,16 +63,11 @@ impl Places {
 /// Places sorted items one after another, a group from its start on. A bridge stands in a lower group than what is behind
 /// it, or on a root, so the first address of its window is known when that group begins.
 fn place_sorted(items: &[Item], class: WindowKind, start: u128, places: &mut [Places])
-    requires { Walk (kind_value class) (length places.old) start items.now }
-    ensures placed { (w : Walk (kind_value class) (length places.old) start items.now) (i : Item)
-        (d : Places) → Contains items.now i
-        → first_in (slice_index_or places.new i.function d) (part_value (kind_value class) i.part)
-        ≡ w.place i }
-    ensures others { (k : ℕ) (d : Places) (part : PartValue)
-        → ((i : Item) → Contains items.now i → i.function ≡ k
-        → part_value (kind_value class) i.part ≡ part → ⊥)
-        → first_in (slice_index_or places.new k d) part
-        ≡ first_in (slice_index_or places.old k d) part }
+    requires { SortedClass (kind_value class) (length places.old) start items.now }
+    ensures placed { (of : SortedClass (kind_value class) (length places.old) start items.now)
+        → HasPlaces of.roots of.system of.pools (kind_value class) places.new }
+    ensures others { (of : SortedClass (kind_value class) (length places.old) start items.now)
+        → KeepsOthers of.system of.pools (kind_value class) places.old places.new }
 {
     let mut starts = [0u128; BUSES];
     let mut group = 0;
@@ -121,9 +115,10 @@ pub fn place_class<A: Allocator + Copy, B: Allocator>(
     let mut items = items_of(alloc, admitted, pools, class, aboves, needs)?;
     sort_items(&mut items)?;
     let sorted = items.as_slice();
-    if !sorted.is_empty() {
-        let start = raised(needs.greatest, pool.first);
-        place_sorted(sorted, class, start, places);
+    if sorted.is_empty() {
+        return Ok(());
     }
+    let start = raised(needs.greatest, pool.first);
+    place_sorted(sorted, class, start, places);
     Ok(())
 }

@@ -1,59 +1,40 @@
-use Rattle.std.proofs.Common.{rules, ◌≡◌, ◌+◌, ◌<◌, ◌≤◌, ◌^◌, inl, inr, arith, sym, ◌∙◌, ap, length, get_or, refl}
-use Rattle.std.proofs.lemmas.List.Elements.{Contains-get_or}
-use Rattle.pci_place.specs.declared.item.Item.{Item}
-use Rattle.pci_place.specs.declared.item.Part.TheVariants.{Bar}
-use Rattle.pci_place.proofs.Walking.{walk_start, in_table, in_numbers, next_place, by_window, by_other, walk_step, all_placed, others_kept}
+use Rattle.std.proofs.Common.{◌≡◌, arith, sym, ◌∙◌, ap, length, get_or, refl}
+use Rattle.pci_base.specs.WindowKinds.{kind_value}
+use Rattle.pci_place.specs.Sorting.{SortedClass}
+use Rattle.pci_place.proofs.SortedPlaces.{item, place, in_numbers}
+use Rattle.pci_place.proofs.Walking.{walk_start, in_table, by_window, by_other, walk_step, all_placed, others_kept}
 use Rattle.pci_place.proofs.place.place_sorted.Goals as goal
-use Rattle.pci_place.proofs.place.place_sorted.Goals.{then-item-group, else-item-group, in-Window, in_default}
+use Rattle.pci_place.proofs.place.place_sorted.Goals.{Joined-item-group, then-item-group, else-item-group, in-Window, in_default}
 
-abbrev no_item : Item
-no_item = record { function = 0; group = 0; part = Bar 0; size = 0 }
+-- the item stands at `next`
+here : (c : Joined-item-group) (of : SortedClass (kind_value c.args.class) (length c.args.places.now) c.args.start c.args.items.now)
+    → c.if-item-group.next ≡ place of (item of c.loop-item.item-index)
+here c of =
+    let is = (c.loop-item.invariant of).next_at c.loop-item-test.true in
+    elim c.if-item-group.branch [
+      | then-item-group w ↦ w.next-is ∙ ap (λ n. get_or c.loop-item.starts n 0) w.from.ensures ∙ is.other (λ e. w.if-item-group.true (sym e))
+      | else-item-group w ↦ w.next-is ∙ is.same (sym w.if-item-group.false)
+    ]
 
 pub loop-item-init : goal.loop-item-init
-loop-item-init c = λ w. walk_start _ _ _ _ w _ _ refl
-
-pub bounds-places-item : goal.bounds-places-item
-bounds-places-item c = in_table _ _ _ _ c.requires _ _ c.loop-item-test.true _ c.loop-item.auto.places
-
-pub offset_bounds-places-item : goal.offset_bounds-places-item
-offset_bounds-places-item c =
-    let less : (get_or c.args.items.now c.loop-item.item-index no_item).function < length c.loop-item.places =
-    in_table _ _ _ _ c.requires _ _ c.loop-item-test.true _ c.loop-item.auto.places in
-    search rules
+loop-item-init c = λ of. walk_start of _ _ refl
 
 pub overflow_cast-next : goal.overflow_cast-next
 overflow_cast-next c =
-    let low : c.if-item-group.next < 2 ^ 64 = (in_numbers _ _ _ _ c.requires _ no_item c.loop-item-test.true _
-    (next_place _ _ _ _ c.requires _ _ _ _ _ _ _ c.loop-item-test.true (c.loop-item.invariant c.requires) c.if-item-group.next
-    (elim c.if-item-group.branch [
-      | then-item-group w ↦ inr (λ e. w.if-item-group.true (sym e), w.next-is ∙ ap (λ n. get_or c.loop-item.starts n 0) w.from.ensures)
-      | else-item-group w ↦ inl (sym w.if-item-group.false, w.next-is)
-    ]))).0 in
-    omega (arith, low)
-
-pub set-requires : goal.set-requires
-set-requires c = c.requires.part (get_or c.args.items.now c.loop-item.item-index no_item) (Contains-get_or _ _ _ c.loop-item-test.true)
+    let low = (in_numbers c.requires c.loop-item.item-index c.loop-item-test.true).0 in
+    let is = here (goal.at.overflow_cast-next c).Joined-item-group c.requires in
+    omega (arith, low, is)
 
 pub overflow_add-next : goal.overflow_add-next
 overflow_add-next c =
-    let low : c.if-item-group.next + (get_or c.args.items.now c.loop-item.item-index no_item).size ≤ 2 ^ 64 = (in_numbers _ _ _ _ c.requires _ no_item c.loop-item-test.true _
-    (next_place _ _ _ _ c.requires _ _ _ _ _ _ _ c.loop-item-test.true (c.loop-item.invariant c.requires) c.if-item-group.next
-    (elim c.if-item-group.branch [
-      | then-item-group w ↦ inr (λ e. w.if-item-group.true (sym e), w.next-is ∙ ap (λ n. get_or c.loop-item.starts n 0) w.from.ensures)
-      | else-item-group w ↦ inl (sym w.if-item-group.false, w.next-is)
-    ]))).1 in
-    omega (arith, low)
+    let low = (in_numbers c.requires c.loop-item.item-index c.loop-item-test.true).1 in
+    let is = here (goal.at.overflow_add-next c).Joined-item-group c.requires in
+    omega (arith, low, is)
 
 pub loop-item-preserved : goal.loop-item-preserved
-loop-item-preserved c = λ w.
-    let before = c.loop-item.invariant w in
-    let place : c.if-item-group.next ≡ w.place (get_or c.args.items.now c.loop-item.item-index no_item) =
-    next_place _ _ _ _ w _ _ _ _ _ _ _ c.loop-item-test.true before c.if-item-group.next
-    (elim c.if-item-group.branch [
-      | then-item-group w ↦ inr (λ e. w.if-item-group.true (sym e), w.next-is ∙ ap (λ n. get_or c.loop-item.starts n 0) w.from.ensures)
-      | else-item-group w ↦ inl (sym w.if-item-group.false, w.next-is)
-    ]) in
-    walk_step _ _ _ _ w _ _ _ _ _ _ _ c.loop-item-test.true before _ place _ _ (in_table _ _ _ _ w _ _ c.loop-item-test.true _ c.loop-item.auto.places)
+loop-item-preserved c = λ of.
+    let before = c.loop-item.invariant of in
+    walk_step of _ _ _ _ _ _ c.loop-item-test.true before _ (here (goal.at.loop-item-preserved c).Joined-item-group of) _ _ (in_table of _ _ c.loop-item-test.true c.loop-item.auto.places)
     c.set.ensures.set c.set.ensures.others _ _
     (elim c.match-item.branch [
       | in-Window w ↦ by_window _ _ _ _ _ _ before.room w.in-Window.is w.from-in-Window.ensures (omega arith) w.starts-is
@@ -65,7 +46,7 @@ loop-item-preserved c = λ w.
     ])
 
 pub returns-clause-placed : goal.returns-clause-placed
-returns-clause-placed c = λ w i d listed. all_placed _ _ _ _ w _ _ _ _ _ _ c.loop-item-test.false (c.loop-item.invariant w) i d listed
+returns-clause-placed c = λ of. all_placed of _ _ _ _ _ _ (c.loop-item.invariant of) c.loop-item-test.false
 
 pub returns-clause-others : goal.returns-clause-others
-returns-clause-others c = λ k d part none. others_kept _ _ _ _ c.requires _ _ _ _ _ _ c.loop-item-test.false (c.loop-item.invariant c.requires) c.loop-item.auto.item-index-end k d part none
+returns-clause-others c = λ of. others_kept of _ _ _ _ _ _ (c.loop-item.invariant of) c.loop-item.auto.item-index-end c.loop-item.auto.places
