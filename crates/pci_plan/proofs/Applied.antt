@@ -1,12 +1,9 @@
 -- What applying leaves, by what comparing and making leave.
-use Rattle.std.proofs.Common.{◌≡◌, ℕ, zero, suc, ◌+◌, ◌-◌, ◌^◌, ◌≤◌, ◌⊎◌, inl, inr, List, [], ◌∷◌, ◌++◌, refl, Bool, true, false, ◌&&◌, ◌||◌, Some, arith, sym, ◌∙◌, ap, subst, map, length, take, get_or}
-use Rattle.std.specs.List.{All, AllZip, Contains, slice_get}
-use Rattle.std.specs.Result.{OnOk, IfErr, IsOk}
-use Rattle.std.specs.declared.result.Result.{Result}
-use Rattle.std.specs.declared.result.Result.TheVariants.{Ok, Err}
+use Rattle.std.proofs.Common.{◌≡◌, ℕ, zero, suc, ◌+◌, ◌-◌, ◌^◌, ◌≤◌, ◌⊎◌, inl, inr, List, [], ◌∷◌, ◌++◌, refl, Bool, true, false, ◌&&◌, ◌||◌, Some, arith, sym, ◌∙◌, ap, subst, map, length, take}
+use Rattle.std.specs.List.{AllZip, Contains, slice_get}
 use Rattle.std.proofs.lemmas.Bool.{cases_Bool, both_ways, and_from, lt-ltb, cond-true, cond-false}
-use Rattle.std.proofs.lemmas.List.{take_more, take_all, length-map}
-use Rattle.std.proofs.lemmas.List.Elements.{All-contains, All-take, Contains-get_or}
+use Rattle.std.proofs.lemmas.List.{take_more, take_all}
+use Rattle.std.proofs.lemmas.List.Elements.{All-contains, All-take}
 use Rattle.std.proofs.lemmas.Option.{same_Some, slice_get_cases, slice_get_within, get_or_from_slice_get}
 use Rattle.pci_spec.specs.Number.{number_at, IsImage}
 use Rattle.pci_spec.specs.Slot.{Slot, same_slot, slot_number}
@@ -16,7 +13,7 @@ use Rattle.pci_spec.specs.Sound.{IsSound}
 use Rattle.pci_spec.specs.Machine.{Target, Write, target_of, after_writes, write_targets, write_function, write_system, system_after}
 use Rattle.plan_spec.specs.Plan.{IsMoved}
 use Rattle.plan_spec.specs.Planning.Fitting.{FitsAt, IsFitting}
-use Rattle.pci_spec.proofs.Members.{in_nil, in_cons_cases, in_head, in_tail, in_map_to, in_map_from, IsMade}
+use Rattle.pci_spec.proofs.Members.{in_nil, in_cons_cases, in_head, in_tail, in_map_to, IsMade}
 use Rattle.pci_spec.proofs.Nesting.{one_function}
 use Rattle.pci_spec.proofs.Rising.{pairs_of_rising}
 use Rattle.plan_spec.proofs.Planning.Kept.{images_of}
@@ -28,16 +25,15 @@ use Rattle.plan_spec.proofs.Planning.OwnMachine.{own_machine}
 use Rattle.pci_spec.specs.Port as port
 use Rattle.pci_spec.specs.Port.{target_at, has_function, is_access, ShowsNumber}
 use Rattle.pci_machine.proofs.Targets.{slot_of_test}
-use Rattle.pci_plan.specs.declared.write.Write.{Write as CodeWrite}
 use Rattle.pci_plan.specs.declared.apply_fault.ApplyFault.{ApplyFault}
 use Rattle.pci_plan.specs.declared.apply_fault.ApplyFault.TheVariants.{Changed, Port, Stuck}
-use Rattle.pci_plan.specs.Writes.{write_value}
 use Rattle.pci_place.specs.Above.{system_in}
 use Rattle.pci_plan.specs.Plans.{PlanValue, final_of}
 use Rattle.pci_plan.specs.Moves.{IsRegisterWrite, IsMove}
-use Rattle.pci_plan.specs.Comparing.{ShowsAll, IsChangedAt, StartsAs, IsStartFault, moment}
-use Rattle.pci_plan.specs.Making.{IsAccessible, AreReadBack, AreWritesMade, IsApplyStop}
-use Rattle.pci_plan.specs.Applying.{ShowsSystem, AreSoundTargets, writes_before, writes_applied, AreReadBackUntil, ReadBackBy, HasImages, AreSoundWhileReadBack, IsApplyFault}
+use Rattle.pci_plan.specs.Comparing.{ShowsAll, IsChangedAt, StartsAs, IsStartFault, Moment}
+use Rattle.pci_plan.specs.Making.{AreReadBack, AreWritesMade, IsApplyStop}
+use Rattle.pci_plan.specs.Going.{IsWritable}
+use Rattle.pci_plan.specs.Applying.{ShowsSystem, AreSoundTargets, writes_before, AreReadBackUntil, HasImages, AreSoundWhileReadBack, IsApplyFault}
 use Rattle.pci_plan.proofs.Compares.{register_access}
 use Rattle.plan_spec.proofs.Planning.Whole.{moved_system}
 use Rattle.pci_plan.proofs.Ended.{writes_end}
@@ -116,10 +112,8 @@ module _ (p : PlanValue) (is : IsMove p) where
   s = system_in p.start
 
   -- a port takes each write
-  pub accesses : (items : List CodeWrite) → map write_value items ≡ p.writes → All IsAccessible items
-  accesses items same k d less =
-      let x = get_or items k d in
-      access_of s (write_value x) (is.registers (write_value x) (subst (λ ws. Contains ws (write_value x)) same (in_map_from write_value items x (Contains-get_or items k d less))))
+  pub writable : (w : Write) → Contains p.writes w → IsWritable w
+  writable w has = access_of s w (is.registers w has)
 
   -- ---- comparing
 
@@ -129,83 +123,69 @@ module _ (p : PlanValue) (is : IsMove p) where
       let b = found.0 in
       subst (λ slot. ShowsAll targets slot f.image) found.2 (subst (λ image. ShowsAll targets b.slot image) found.3 (starts b found.1))
 
-  pub start_fault : (before : List Target) (failures : ℕ) (after : List Target) (failures_after : ℕ) (fault : ApplyFault)
-      → IsStartFault (moment before failures) p.start.dump failures_after fault → IsApplyFault (moment before failures) s p.writes (moment after failures_after) fault
-  start_fault before failures after failures_after (Changed at offset) (b, listed, (here, changed)) =
-      let found = function_of_block p.start.dump p.start.probe is.admitted.slots b listed in
-      let f = found.0 in
-      record {
-        f = f;
-        listed = found.1;
-        at = found.2 ∙ sym here;
-        changed = subst (λ slot. IsChangedAt before slot f.image offset) (sym found.2) (subst (λ image. IsChangedAt before b.slot image offset) (sym found.3) changed);
-      }
-  start_fault before failures after failures_after (Port done) (b, listed, (none_made, refused)) =
-      let found = function_of_block p.start.dump p.start.probe is.admitted.slots b listed in
-      let f = found.0 in
-      record {
-        within = omega (arith, none_made);
-        started = λ some. absurd (let impossible : ⊥ = omega (arith, none_made, some) in impossible);
-        cause = elim refused [ inl rose ↦ inl rose | inr none ↦ inr (f, found.1, ap (has_function before) found.2 ∙ none) ];
-      }
-  start_fault before failures after failures_after (Stuck done) (b, listed, fault) = absurd fault
+  -- ---- faults
 
-  pub start_made : (before after : List Target) (failures failures_after : ℕ) (fault : ApplyFault)
-      → IsStartFault (moment before failures) p.start.dump failures_after fault → after ≡ before → after ≡ after_writes before (take (writes_before fault) p.writes)
-  start_made before after failures failures_after (Changed at offset) reason same = same
-  start_made before after failures failures_after (Port done) (b, listed, (none_made, refused)) same =
-      same ∙ ap (λ n. after_writes before (take n p.writes)) (sym none_made)
-  start_made before after failures failures_after (Stuck done) (b, listed, reason) same = absurd reason
+  -- what is left where a fault ended it
+  abbrev pub Ends : Moment → Moment → ApplyFault → Type 0
+  Ends before after fault =
+      (after.targets ≡ after_writes before.targets (take (writes_before fault) p.writes)) × AreReadBackUntil before p.writes after.failures fault × IsApplyFault before s p.writes after fault
 
-  pub start_read_back : (before : List Target) (failures failures_after : ℕ) (fault : ApplyFault)
-      → IsStartFault (moment before failures) p.start.dump failures_after fault → AreReadBackUntil (moment before failures) p.writes failures_after fault
-  start_read_back before failures failures_after (Changed at offset) reason = tt
-  start_read_back before failures failures_after (Port done) (b, listed, (none_made, refused)) = inl none_made
-  start_read_back before failures failures_after (Stuck done) (b, listed, reason) = absurd reason
+  pub compare_ends : (before after : Moment) (fault : ApplyFault) → after.targets ≡ before.targets → IsStartFault before p.start.dump after.failures fault → Ends before after fault
+  compare_ends before after (Changed at offset) same (b, listed, (here, changed)) =
+      let found = function_of_block p.start.dump p.start.probe is.admitted.slots b listed in (
+        same,
+        tt,
+        record {
+          f = found.0;
+          listed = found.1;
+          at = found.2 ∙ sym here;
+          changed = subst (λ slot. IsChangedAt before.targets slot found.0.image offset) (sym found.2) (subst (λ image. IsChangedAt before.targets b.slot image offset) (sym found.3) changed);
+        },
+      )
+  compare_ends before after (Port done) same (b, listed, (none_made, refused)) =
+      let found = function_of_block p.start.dump p.start.probe is.admitted.slots b listed in (
+        same ∙ ap (λ n. after_writes before.targets (take n p.writes)) (sym none_made),
+        inl none_made,
+        record {
+          within = omega (arith, none_made);
+          started = λ some. absurd (let impossible : ⊥ = omega (arith, none_made, some) in impossible);
+          cause = elim refused [ inl rose ↦ inl rose | inr none ↦ inr (found.0, found.1, ap (has_function before.targets) found.2 ∙ none) ];
+        },
+      )
+  compare_ends before after (Stuck done) same (b, listed, fault) = absurd fault
 
-  -- ---- making
+  pub make_ends : (before after : Moment) (fault : ApplyFault) → ShowsSystem before.targets s → IsApplyStop before p.writes after fault → Ends before after fault
+  make_ends before after (Changed at offset) shows stop = absurd stop
+  make_ends before after (Port done) shows stop = (
+    stop.made,
+    inr stop.read_back,
+    record {
+      within = stop.within;
+      started = λ some. shows;
+      cause = elim stop.cause [
+        | inl rose ↦ inl rose
+        | inr (w, has, none) ↦
+            let of : IsRegisterWrite s w = is.registers w has in
+            inr (of.f, of.listed, ap (has_function before.targets) of.slot ∙ none)
+      ];
+    },
+  )
+  make_ends before after (Stuck done) shows stop =
+      let last = stop.is_last in
+      let others : stop.last ≡ done - 1 = omega (arith, last) in (
+        stop.made,
+        subst (AreReadBack before.targets p.writes) others stop.read_back,
+        record {
+          started = shows;
+          last = stop.last;
+          is_last = last;
+          write = stop.write;
+          listed = stop.listed;
+          otherwise = stop.otherwise;
+        },
+      )
 
-  pub stop_fault : (before : List Target) (failures : ℕ) (after : List Target) (failures_after : ℕ) (fault : ApplyFault) → ShowsSystem before s
-      → IsApplyStop (moment before failures) p.writes (moment after failures_after) fault → IsApplyFault (moment before failures) s p.writes (moment after failures_after) fault
-  stop_fault before failures after failures_after (Changed at offset) shows stop = absurd stop
-  stop_fault before failures after failures_after (Port done) shows stop = record {
-    within = stop.within;
-    started = λ some. shows;
-    cause = elim stop.cause [
-      | inl rose ↦ inl rose
-      | inr (w, has, none) ↦
-          let of : IsRegisterWrite s w = is.registers w has in
-          inr (of.f, of.listed, ap (has_function before) of.slot ∙ none)
-    ];
-  }
-  stop_fault before failures after failures_after (Stuck done) shows stop = record {
-    started = shows;
-    last = stop.last;
-    is_last = stop.is_last;
-    write = stop.write;
-    listed = stop.listed;
-    otherwise = stop.otherwise;
-  }
-
-  pub stop_made : (before : List Target) (failures : ℕ) (after : List Target) (failures_after : ℕ) (fault : ApplyFault)
-      → IsApplyStop (moment before failures) p.writes (moment after failures_after) fault → after ≡ after_writes before (take (writes_before fault) p.writes)
-  stop_made before failures after failures_after (Changed at offset) stop = absurd stop
-  stop_made before failures after failures_after (Port done) stop = stop.made
-  stop_made before failures after failures_after (Stuck done) stop = stop.made
-
-  pub stop_read_back : (before : List Target) (failures : ℕ) (after : List Target) (failures_after : ℕ) (fault : ApplyFault)
-      → IsApplyStop (moment before failures) p.writes (moment after failures_after) fault → AreReadBackUntil (moment before failures) p.writes failures_after fault
-  stop_read_back before failures after failures_after (Changed at offset) stop = absurd stop
-  stop_read_back before failures after failures_after (Port done) stop = inr stop.read_back
-  stop_read_back before failures after failures_after (Stuck done) stop =
-      let is = stop.is_last in
-      let others : stop.last ≡ done - 1 = omega (arith, is) in
-      subst (AreReadBack before p.writes) others stop.read_back
-
-  pub all_made : (items : List CodeWrite) (before after : List Target) → map write_value items ≡ p.writes → AreWritesMade before (map write_value items) (length items) after → AreWritesMade before p.writes (length p.writes) after
-  all_made items before after same made =
-      subst (λ ws. AreWritesMade before ws (length ws) after) same
-      (subst (λ n. AreWritesMade before (map write_value items) n after) (sym (length-map items write_value)) made)
+  -- ---- all writes
 
   pub shows_final : (before after : List Target) → ShowsSystem before s → AreWritesMade before p.writes (length p.writes) after → ShowsSystem after (final_of p)
   shows_final before after shows made =
@@ -252,25 +232,23 @@ module _ (p : PlanValue) (is : IsMove p) where
       ∙ sets last w at of.from of.has (ap (λ x. same_slot x w.slot) slot ∙ slot_itself w.slot)
 
   -- so it is never refused there
-  pub none_on_machine : (before : List Target) (failures : ℕ) (after : List Target) (failures_after : ℕ) (fault : ApplyFault)
-      → before ≡ map target_of s → failures_after ≡ failures → after ≡ after_writes before (take (writes_before fault) p.writes)
-      → IsApplyFault (moment before failures) s p.writes (moment after failures_after) fault → ⊥
-  none_on_machine before failures after failures_after (Changed at offset) start quiet made reason =
+  pub none_on_machine : (before after : Moment) (fault : ApplyFault) → before.targets ≡ map target_of s → after.failures ≡ before.failures → Ends before after fault → ⊥
+  none_on_machine before after (Changed at offset) start quiet (made, back, reason) =
       let f = reason.f in
       let other = reason.changed.other in
       let width = reason.changed.width in
       let found = shown_in s f.slot offset width other.shows (subst (λ ts. ShowsNumber ts f.slot offset width other.shows) start other.shown) in
       let same : found.0 ≡ f = one_function s is.admitted.system found.0 f found.1 reason.listed (ap slot_number found.2) in
       other.differs (found.3 ∙ ap (λ (g : Function). number_at g.image offset width) same)
-  none_on_machine before failures after failures_after (Port done) start quiet made reason = elim reason.cause [
+  none_on_machine before after (Port done) start quiet (made, back, reason) = elim reason.cause [
     | inl rose ↦ omega (arith, rose, quiet)
-    | inr (f, listed, none) ↦ both_ways (has_function before f.slot) none (ap (λ ts. has_function ts f.slot) start ∙ there s f listed)
+    | inr (f, listed, none) ↦ both_ways (has_function before.targets f.slot) none (ap (λ ts. has_function ts f.slot) start ∙ there s f listed)
   ]
-  none_on_machine before failures after failures_after (Stuck done) start quiet made reason =
+  none_on_machine before after (Stuck done) start quiet (made, back, reason) =
       let w = reason.write in
-      let from : after ≡ after_writes (map target_of s) (take (reason.last + 1) p.writes) =
+      let from : after.targets ≡ after_writes (map target_of s) (take (reason.last + 1) p.writes) =
       made ∙ ap (λ ts. after_writes ts (take done p.writes)) start ∙ ap (λ n. after_writes (map target_of s) (take n p.writes)) reason.is_last in
-      reason.otherwise.differs (reads_back reason.last w after reason.otherwise.shows reason.listed from reason.otherwise.shown)
+      reason.otherwise.differs (reads_back reason.last w after.targets reason.otherwise.shows reason.listed from reason.otherwise.shown)
 
   -- and a stop leaves a sound system
   pub left_sound : (k : ℕ) (before after : List Target) → before ≡ map target_of s → after ≡ after_writes before (take k p.writes)
@@ -304,25 +282,3 @@ module _ (p : PlanValue) (is : IsMove p) where
 
   pub sound_while_read_back : (before : List Target) → HasImages before s → AreSoundWhileReadBack p.start.roots s p.writes p.safe_from before
   sound_while_read_back before same k back from = record { images = images_stay before same k back; sound = is.stops k from }
-
-  -- ---- by the answer
-
-  pub made_by : {T : Type 0} (r : Result T ApplyFault) (items : List CodeWrite) (before : List Target) (failures : ℕ) (after : List Target) (failures_after : ℕ) → map write_value items ≡ p.writes
-      → OnOk r (AreWritesMade before (map write_value items) (length items) after) → IfErr r (IsApplyStop (moment before failures) (map write_value items) (moment after failures_after))
-      → after ≡ after_writes before (take (writes_applied p.writes r) p.writes)
-  made_by (Ok x) items before failures after failures_after same made stop = (all_made items before after same made).made
-  made_by (Err fault) items before failures after failures_after same made stop =
-      stop_made before failures after failures_after fault (subst (λ ws. IsApplyStop (moment before failures) ws (moment after failures_after) fault) same stop)
-
-  pub read_back_by : {T : Type 0} (r : Result T ApplyFault) (items : List CodeWrite) (before : List Target) (failures : ℕ) (after : List Target) (failures_after : ℕ) → map write_value items ≡ p.writes
-      → OnOk r (AreWritesMade before (map write_value items) (length items) after) → IfErr r (IsApplyStop (moment before failures) (map write_value items) (moment after failures_after))
-      → ReadBackBy (moment before failures) p.writes failures_after r
-  read_back_by (Ok x) items before failures after failures_after same made stop = (all_made items before after same made).read_back
-  read_back_by (Err fault) items before failures after failures_after same made stop =
-      stop_read_back before failures after failures_after fault (subst (λ ws. IsApplyStop (moment before failures) ws (moment after failures_after) fault) same stop)
-
-  pub ok_on_machine : {T : Type 0} (r : Result T ApplyFault) (before : List Target) (failures : ℕ) (after : List Target) (failures_after : ℕ)
-      → after ≡ after_writes before (take (writes_applied p.writes r) p.writes) → IfErr r (IsApplyFault (moment before failures) s p.writes (moment after failures_after))
-      → before ≡ map target_of s → failures_after ≡ failures → IsOk r
-  ok_on_machine (Ok x) before failures after failures_after made reason start quiet = refl
-  ok_on_machine (Err fault) before failures after failures_after made reason start quiet = absurd (none_on_machine before failures after failures_after fault start quiet made reason)

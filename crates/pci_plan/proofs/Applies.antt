@@ -1,85 +1,60 @@
--- What steps leave, by the words of a move.
-use Rattle.std.proofs.Common.{◌≡◌, ℕ, ◌≤◌, ◌⊎◌, inl, inr, List, length, map, take, subst, OnOk, IfErr, IsOk}
+-- What comparing and making leave, by the words of a move.
+use Rattle.std.proofs.Common.{◌≡◌, inl, inr, refl, ◌⊎◌, List, length}
+use Rattle.std.specs.Result.{IsErrAnd}
 use Rattle.std.specs.declared.result.Result.{Result}
 use Rattle.std.specs.declared.result.Result.TheVariants.{Ok, Err}
-use Rattle.std.specs.List.{Contains}
-use Rattle.std.proofs.lemmas.List.Elements.{All-contains}
-use Rattle.pci_spec.specs.Sound.{IsSound}
-use Rattle.pci_spec.specs.Machine.{Target, Write, target_of, after_writes}
-use Rattle.pci_spec.proofs.Members.{IsMade, in_map_to}
-use Rattle.pci_place.specs.Above.{system_in}
-use Rattle.pci_plan.specs.declared.write.Write.{Write as CodeWrite}
+use Rattle.pci_spec.specs.Text.{Block}
+use Rattle.pci_spec.specs.Machine.{Write}
 use Rattle.pci_plan.specs.declared.apply_fault.ApplyFault.{ApplyFault}
-use Rattle.pci_plan.specs.Writes.{write_value}
-use Rattle.pci_plan.specs.Plans.{PlanValue, final_of}
+use Rattle.pci_plan.specs.Plans.{PlanValue}
 use Rattle.pci_plan.specs.Moves.{IsMove}
-use Rattle.pci_plan.specs.Comparing.{IsStartFault, moment}
-use Rattle.pci_plan.specs.Making.{IsAccessible, AreWritesMade, IsApplyStop}
-use Rattle.pci_plan.specs.Applying.{ShowsSystem, AreSoundTargets, writes_applied, ReadBackBy, IsApplyFault}
-use Rattle.pci_plan.proofs.Applied.{accesses, shows_start, start_fault, start_made, start_read_back, stop_fault, stop_made, stop_read_back, all_made, shows_final, ok_on_machine, left_sound}
+use Rattle.pci_plan.specs.Comparing.{Moment, StartsAs, IsStartFault}
+use Rattle.pci_plan.specs.Making.{AreMadeBy}
+use Rattle.pci_plan.specs.Applying.{IsApplied, writes_before}
 use Rattle.pci_plan.specs.Steps.{all_shown}
-use Rattle.pci_plan.specs.Going.{IsWritable, AreAllShown, IsCompareStop, AreStopped}
+use Rattle.pci_plan.specs.Going.{AreRun}
+use Rattle.pci_plan.proofs.Applied.{Ends, shows_start, compare_ends, make_ends, shows_final, none_on_machine, left_sound, sound_while_read_back}
 use Rattle.pci_plan.proofs.Starts.{starts_as, start_fault_of}
 
--- the writes are of registers that a port takes
-pub all_writable : (p : PlanValue) → IsMove p → (items : List CodeWrite) → map write_value items ≡ p.writes → (w : Write) → Contains (map write_value items) w → IsWritable w
-all_writable p is items same w has =
-    let made : IsMade write_value items w = in_map_to write_value items w has in
-    subst IsWritable made.is (All-contains IsAccessible items made.from (accesses p is items same) made.has)
+-- comparing blocks ended it, or all compared and the writes were made by the answer
+abbrev pub AreApplied : Moment → List Block → List Write → Moment → Result (Unit {0}) ApplyFault → Type 0
+AreApplied before blocks writes after r =
+    IsErrAnd r (λ fault. (after.targets ≡ before.targets) × IsStartFault before blocks after.failures fault) ⊎ (StartsAs before.targets blocks × AreMadeBy before writes after r)
 
--- what is known of all steps
-pub record IsRun (compares : List Write) (items : List CodeWrite) (before : List Target) (failures : ℕ) (after : List Target) (failures_after : ℕ)
-    (r : Result (Unit {0}) ApplyFault) : Type 0 where
-  pub compared : OnOk r (AreAllShown before compares)
-  pub made : OnOk r (AreWritesMade before (map write_value items) (length items) after)
-  pub stopped : IfErr r (AreStopped (moment before failures) compares (map write_value items) (moment after failures_after))
+-- steps are made so
+pub by_steps : (before : Moment) (blocks : List Block) (writes : List Write) (after : Moment) (r : Result (Unit {0}) ApplyFault) → AreRun before (all_shown blocks) writes after r → AreApplied before blocks writes after r
+by_steps before blocks writes after (Ok x) (inl none) = absurd none
+by_steps before blocks writes after (Err fault) (inl stop) = inl (stop.same, start_fault_of blocks before after fault stop)
+by_steps before blocks writes after r (inr (shown, made)) = inr (starts_as blocks before.targets shown, made)
 
-module _ (p : PlanValue) (is : IsMove p) (compares : List Write) (start : compares ≡ all_shown p.start.dump) (items : List CodeWrite) (same : map write_value items ≡ p.writes)
-    (before : List Target) (failures : ℕ) (after : List Target) (failures_after : ℕ) where
-  abbrev Ran : Result (Unit {0}) ApplyFault → Type 0
-  Ran r = IsRun compares items before failures after failures_after r
+module _ (p : PlanValue) (is : IsMove p) (before after : Moment) where
+  fails : (fault : ApplyFault) → Ends p is before after fault → IsApplied {T = Unit {0}} p before after (Err fault)
+  fails fault ends = record {
+    made = ends.0;
+    started = tt;
+    ended = tt;
+    read_back = ends.1;
+    counted = tt;
+    fault = ends.2;
+    own_machine = λ start quiet. absurd (none_on_machine p is before after fault start quiet ends);
+    sound = λ start from. left_sound p is (writes_before fault) before.targets after.targets start ends.0 from;
+    sound_images = sound_while_read_back p is before.targets;
+  }
 
-  reason_of : (fault : ApplyFault) → IsCompareStop (moment before failures) compares (moment after failures_after) fault → IsStartFault (moment before failures) p.start.dump failures_after fault
-  reason_of fault stop = start_fault_of p.start.dump before failures after failures_after fault (subst (λ cs. IsCompareStop (moment before failures) cs (moment after failures_after) fault) start stop)
-
-  stop_of : (fault : ApplyFault) → IsApplyStop (moment before failures) (map write_value items) (moment after failures_after) fault → IsApplyStop (moment before failures) p.writes (moment after failures_after) fault
-  stop_of fault stop = subst (λ ws. IsApplyStop (moment before failures) ws (moment after failures_after) fault) same stop
-
-  shows : AreAllShown before compares → ShowsSystem before (system_in p.start)
-  shows shown = shows_start p is before (starts_as p.start.dump before (subst (AreAllShown before) start shown))
-
-  pub ran_started : (r : Result (Unit {0}) ApplyFault) → Ran r → OnOk r (ShowsSystem before (system_in p.start))
-  ran_started (Ok x) run = shows run.compared
-  ran_started (Err fault) run = tt
-
-  pub ran_ended : (r : Result (Unit {0}) ApplyFault) → Ran r → OnOk r (ShowsSystem after (final_of p))
-  ran_ended (Ok x) run = shows_final p is before after (shows run.compared) (all_made p is items before after same run.made)
-  ran_ended (Err fault) run = tt
-
-  pub ran_made : (r : Result (Unit {0}) ApplyFault) → Ran r → after ≡ after_writes before (take (writes_applied p.writes r) p.writes)
-  ran_made (Ok x) run = (all_made p is items before after same run.made).made
-  ran_made (Err fault) run = elim run.stopped [
-    | inl stop ↦ start_made p is before after failures failures_after fault (reason_of fault stop) stop.same
-    | inr stop ↦ stop_made p is before failures after failures_after fault (stop_of fault stop.stop)
-  ]
-
-  pub ran_read_back : (r : Result (Unit {0}) ApplyFault) → Ran r → ReadBackBy (moment before failures) p.writes failures_after r
-  ran_read_back (Ok x) run = (all_made p is items before after same run.made).read_back
-  ran_read_back (Err fault) run = elim run.stopped [
-    | inl stop ↦ start_read_back p is before failures failures_after fault (reason_of fault stop)
-    | inr stop ↦ stop_read_back p is before failures after failures_after fault (stop_of fault stop.stop)
-  ]
-
-  pub ran_fault : (r : Result (Unit {0}) ApplyFault) → Ran r → IfErr r (IsApplyFault (moment before failures) (system_in p.start) p.writes (moment after failures_after))
-  ran_fault (Ok x) run = tt
-  ran_fault (Err fault) run = elim run.stopped [
-    | inl stop ↦ start_fault p is before failures after failures_after fault (reason_of fault stop)
-    | inr stop ↦ stop_fault p is before failures after failures_after fault (shows stop.compared) (stop_of fault stop.stop)
-  ]
-
-  pub ran_own_machine : (r : Result (Unit {0}) ApplyFault) → Ran r → before ≡ map target_of (system_in p.start) → failures_after ≡ failures → IsOk r
-  ran_own_machine r run = ok_on_machine p is r before failures after failures_after (ran_made r run) (ran_fault r run)
-
-  pub ran_sound : (r : Result (Unit {0}) ApplyFault) → Ran r → before ≡ map target_of (system_in p.start) → IsSound p.start.roots (system_in p.start) ⊎ (p.safe_from ≤ writes_applied p.writes r)
-      → AreSoundTargets p.start.roots after
-  ran_sound r run machine from = left_sound p is (writes_applied p.writes r) before after machine (ran_made r run) from
+  pub applied : (r : Result (Unit {0}) ApplyFault) → AreApplied before p.start.dump p.writes after r → IsApplied p before after r
+  applied (Ok x) (inl none) = absurd none
+  applied (Ok x) (inr (starts, (made, quiet))) =
+      let shows = shows_start p is before.targets starts in
+      record {
+        made = made.made;
+        started = shows;
+        ended = shows_final p is before.targets after.targets shows made;
+        read_back = made.read_back;
+        counted = quiet;
+        fault = tt;
+        own_machine = λ start still. refl;
+        sound = λ start from. left_sound p is (length p.writes) before.targets after.targets start made.made from;
+        sound_images = sound_while_read_back p is before.targets;
+      }
+  applied (Err fault) (inl (same, reason)) = fails fault (compare_ends p is before after fault same reason)
+  applied (Err fault) (inr (starts, stop)) = fails fault (make_ends p is before after fault (shows_start p is before.targets starts) stop)

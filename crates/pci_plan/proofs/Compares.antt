@@ -15,7 +15,7 @@ use Rattle.pci_image.specs.declared.register.Role.TheVariants as roles
 use Rattle.pci_plan.specs.declared.apply_fault.ApplyFault.{ApplyFault}
 use Rattle.pci_plan.specs.declared.apply_fault.ApplyFault.TheVariants.{Changed, Port, Stuck}
 use Rattle.pci_plan.proofs.WriteLists.{pair_of}
-use Rattle.pci_plan.specs.Comparing.{compared, ShowsAll, IsChangedAt, IsCompareFault, IsFunctionFault, moment}
+use Rattle.pci_plan.specs.Comparing.{compared, ShowsAll, IsChangedAt, IsCompareFault, IsFunctionFault, Moment, moment}
 
 module _ (items : List Register) (image : List ℕ) (table : map pair_of items ≡ address_registers (layout image)) where
   -- each listed register is compared
@@ -55,9 +55,12 @@ pub command_compared : (image : List ℕ) → Contains (compared image) (0x04, 2
 command_compared image = in_head (0x04, 2) (address_registers (layout image))
 
 -- why a register doesn't compare is why its function doesn't
-pub register_fault : (targets : List Target) (failures : ℕ) (slot : Slot) (image : List ℕ) (offset width failures_after : ℕ) (fault : ApplyFault)
-    → Contains (compared image) (offset, width) → IsCompareFault (moment targets failures) slot image (offset, width) failures_after fault → IsFunctionFault (moment targets failures) slot image failures_after fault
-register_fault targets failures slot image offset width failures_after (Changed at place) listed (here, is, other) =
-    (here, subst (λ o. IsChangedAt targets slot image o) (sym is) record { width = width; listed = listed; other = other })
-register_fault targets failures slot image offset width failures_after (Port done) listed fault = fault
-register_fault targets failures slot image offset width failures_after (Stuck done) listed fault = fault
+pub register_fault : (before : Moment) (slot : Slot) (image : List ℕ) (offset width failures_after : ℕ) (fault : ApplyFault) → Contains (compared image) (offset, width)
+    → IsCompareFault before slot image (offset, width) failures_after fault → IsFunctionFault before slot image failures_after fault
+register_fault before slot image offset width failures_after (Changed at place) listed (here, is, other) =
+    (here, subst (IsChangedAt before.targets slot image) (sym is) record { width = width; listed = listed; other = other })
+register_fault before slot image offset width failures_after (Port done) listed fault = fault
+register_fault before slot image offset width failures_after (Stuck done) listed fault = fault
+
+pub same_moment : (a b : Moment) → a.targets ≡ b.targets → a.failures ≡ b.failures → a ≡ b
+same_moment a b targets failures = ap (λ ts. moment ts a.failures) targets ∙ ap (moment b.targets) failures

@@ -20,6 +20,5 @@ pub mod PlanMoves
 pub mod Examples
 pub mod Places
 pub mod Starts
-pub mod Goes
 pub mod Runs
 pub mod Applies

@@ -1,11 +1,12 @@
 -- Writes over a port, one more at a time.
 use Rattle.std.proofs.Common.{◌≡◌, ℕ, suc, ◌+◌, ◌<◌, inl, inr, List, [], ◌∷◌, ◌++◌, refl, Bool, true, cond, ◌||◌, ◌↔◌, IsTrue, IsFalse, arith, sym, ◌∙◌, ap, subst, map, length, take, get_or, Some}
-use Rattle.std.specs.List.{Contains, slice_get}
+use Rattle.std.specs.List.{slice_get}
+use Rattle.std.specs.Option.{option_map}
 use Rattle.std.specs.declared.result.Result.{Result}
 use Rattle.std.specs.declared.result.Result.TheVariants.{Ok, Err}
 use Rattle.std.proofs.lemmas.Bool.{cases_Bool, cases_lt, both_ways}
-use Rattle.std.proofs.lemmas.List.{take_more, get_or-map, length-map}
-use Rattle.std.proofs.lemmas.Option.{slice_get-get_or, same_Some}
+use Rattle.std.proofs.lemmas.List.{take_more}
+use Rattle.std.proofs.lemmas.Option.{slice_get-map, slice_get_read, slice_get_within, get_or_from_slice_get, same_Some}
 use Rattle.pci_spec.specs.Slot.{Slot, same_slot}
 use Rattle.pci_spec.specs.Machine.{Target, Write, write_target, write_targets, after_writes, written}
 use Rattle.pci_spec.specs.Port.{has_function, ShowsNumber}
@@ -16,7 +17,7 @@ use Rattle.pci_plan.specs.declared.write.Write.{Write as CodeWrite}
 use Rattle.pci_plan.specs.Writes.{write_value}
 use Rattle.pci_plan.specs.declared.apply_fault.ApplyFault.{ApplyFault}
 use Rattle.pci_plan.specs.declared.apply_fault.ApplyFault.TheVariants.{Changed, Port, Stuck}
-use Rattle.pci_plan.specs.Comparing.{IsRefusedAt, moment}
+use Rattle.pci_plan.specs.Comparing.{Moment, IsRefusedAt}
 use Rattle.pci_plan.specs.Making.{IsLastWrite, AreReadBack, AreWritesMade, IsApplyStop}
 
 pub fold_more : (targets : List Target) (ws : List Write) (w : Write) → after_writes targets (ws ++ w ∷ []) ≡ write_targets (after_writes targets ws) w
@@ -61,80 +62,64 @@ failed r Failed has lawful failures failures_after is there fine none bad counte
 
 -- ---- the next write
 
-module _ (before : List Target) (items : List CodeWrite) (i : ℕ) (within : i < length items) (w : CodeWrite) (here : w ≡ get_or items i w) (now : List Target) (made : AreWritesMade before (map write_value items) i now) where
-  abbrev ws : List Write
-  ws = map write_value items
+-- what a list has at an index, by its values
+pub at_index : (items : List CodeWrite) (i : ℕ) (w : CodeWrite) → i < length items → w ≡ get_or items i w → slice_get (map write_value items) i ≡ Some (write_value w)
+at_index items i w within is = slice_get-map write_value items i ∙ ap (λ o. option_map write_value o) (slice_get_read items (length items) i w refl within is)
 
-  within_ws : i < length ws
-  within_ws = let l = length-map items write_value in omega (arith, l, within)
+module _ (before : Moment) (ws : List Write) (i : ℕ) (w : Write) (at : slice_get ws i ≡ Some w) (now : Moment) (made : AreWritesMade before.targets ws i now.targets) (quiet : now.failures ≡ before.failures) where
+  within : i < length ws
+  within = slice_get_within ws i w at
 
-  is : (d : Write) → get_or ws i d ≡ write_value w
-  is d = get_or-map write_value items i w d within ∙ ap write_value (sym here)
-
-  at : slice_get ws i ≡ Some (write_value w)
-  at = slice_get-get_or ws i (write_value w) within_ws ∙ ap Some (is (write_value w))
-
-  listed : Contains ws (write_value w)
-  listed = (i, within_ws, is (write_value w))
-
-  made_more : (after : List Target) → after ≡ write_targets now (write_value w) → after ≡ after_writes before (take (i + 1) ws)
+  made_more : (after : List Target) → after ≡ write_targets now.targets w → after ≡ after_writes before.targets (take (i + 1) ws)
   made_more after e =
-      e ∙ ap (λ ts. write_targets ts (write_value w)) made.made ∙ sym (fold_more before (take i ws) (write_value w))
-      ∙ ap (λ xs. after_writes before xs) (ap (λ x. take i ws ++ x ∷ []) (sym (is (write_value w))) ∙ sym (take_more ws i (write_value w) within_ws))
+      e ∙ ap (λ ts. write_targets ts w) made.made ∙ sym (fold_more before.targets (take i ws) w)
+      ∙ ap (after_writes before.targets) (sym (take_more ws i w within ∙ ap (λ x. take i ws ++ x ∷ []) (get_or_from_slice_get ws i w w at)))
 
   -- a function that isn't there now was not there before
-  gone_before : IsFalse (has_function now w.slot) → IsFalse (has_function before w.slot)
-  gone_before none = sym (has_after before (take i ws) w.slot) ∙ ap (λ ts. has_function ts w.slot) (sym made.made) ∙ none
-
-  first_refused : (failures failures_after : ℕ) → IsRefusedAt (moment now failures) w.slot failures_after → IsRefusedAt (moment before failures) w.slot failures_after
-  first_refused failures failures_after (inl rose) = inl rose
-  first_refused failures failures_after (inr none) = inr (gone_before none)
+  first_refused : (failures_after : ℕ) → IsRefusedAt now w.slot failures_after → IsRefusedAt before w.slot failures_after
+  first_refused failures_after (inl rose) = inl (omega (arith, rose, quiet))
+  first_refused failures_after (inr none) = inr (sym (has_after before.targets (take i ws) w.slot) ∙ ap (λ ts. has_function ts w.slot) (sym made.made) ∙ none)
 
   -- why this write is the last is why all stop
-  pub stop_at : (after : List Target) (failures failures_after : ℕ) (fault : ApplyFault) → IsLastWrite (moment now failures) (write_value w) i (moment after failures_after) fault → IsApplyStop (moment before failures) ws (moment after failures_after) fault
-  stop_at after failures failures_after (Changed slot offset) stop = absurd stop
-  stop_at after failures failures_after (Port n) (inl (is, same, refused)) = record {
-    within = omega (arith, is, within_ws);
-    made = same ∙ made.made ∙ ap (λ k. after_writes before (take k ws)) (sym is);
-    read_back = inl record {
-      next = write_value w;
-      listed = ap (slice_get ws) is ∙ at;
-      read_back = subst (AreReadBack before ws) (sym is) made.read_back;
-      refused = first_refused failures failures_after refused;
-    };
-    cause = elim refused [
-      | inl rose ↦ inl rose
-      | inr none ↦ inr (write_value w, listed, gone_before none)
-    ];
-  }
-  stop_at after failures failures_after (Port n) (inr (is, e, rose)) =
+  pub stop_at : (after : Moment) (fault : ApplyFault) → IsLastWrite now w i after fault → IsApplyStop before ws after fault
+  stop_at after (Changed slot offset) stop = absurd stop
+  stop_at after (Port n) (inl (is, same, refused)) =
+      let refused_before = first_refused after.failures refused in
       record {
-        within = omega (arith, is, within_ws);
-        made = made_more after e ∙ ap (λ k. after_writes before (take k ws)) (sym is);
-        read_back = inr record { last = i; is_last = is; read_back = made.read_back; failed = rose };
-        cause = inl rose;
+        within = omega (arith, is, within);
+        made = same ∙ made.made ∙ ap (λ k. after_writes before.targets (take k ws)) (sym is);
+        read_back = inl record { next = w; listed = ap (slice_get ws) is ∙ at; read_back = subst (AreReadBack before.targets ws) (sym is) made.read_back; refused = refused_before };
+        cause = elim refused_before [ inl rose ↦ inl rose | inr none ↦ inr (w, (i, within, get_or_from_slice_get ws i w w at), none) ];
       }
-  stop_at after failures failures_after (Stuck n) (is, e, otherwise) = record {
+  stop_at after (Port n) (inr (is, e, rose)) =
+      let rose_before : before.failures < after.failures = omega (arith, rose, quiet) in
+      record {
+        within = omega (arith, is, within);
+        made = made_more after.targets e ∙ ap (λ k. after_writes before.targets (take k ws)) (sym is);
+        read_back = inr record { last = i; is_last = is; read_back = made.read_back; failed = rose_before };
+        cause = inl rose_before;
+      }
+  stop_at after (Stuck n) (is, e, otherwise) = record {
     last = i;
     is_last = is;
-    write = write_value w;
+    write = w;
     listed = at;
-    made = made_more after e ∙ ap (λ k. after_writes before (take k ws)) (sym is);
+    made = made_more after.targets e ∙ ap (λ k. after_writes before.targets (take k ws)) (sym is);
     read_back = made.read_back;
     otherwise = otherwise;
   }
 
-  pub one_more : (after : List Target) → after ≡ write_targets now (write_value w) → ShowsNumber after w.slot w.off w.width w.value → AreWritesMade before ws (i + 1) after
+  pub one_more : (after : List Target) → after ≡ write_targets now.targets w → ShowsNumber after w.slot w.offset w.width w.value → AreWritesMade before.targets ws (i + 1) after
   one_more after e shown = record {
-    within = omega (arith, within_ws);
+    within = omega (arith, within);
     made = made_more after e;
     read_back = λ k x less listed. elim (cases_lt k i) [
       | inl earlier ↦ made.read_back k x earlier listed
       | inr last ↦
           let same : k ≡ i = omega (arith, less, last) in
           let next : i + 1 ≡ suc k = omega (arith, same) in
-          let one : write_value w ≡ x = same_Some (write_value w) x (sym at ∙ ap (slice_get ws) (sym same) ∙ listed) in
-          subst (λ (y : Write). ShowsNumber (after_writes before (take (suc k) ws)) y.slot y.offset y.width y.value) one
-          (subst (λ ts. ShowsNumber ts w.slot w.off w.width w.value) (made_more after e ∙ ap (λ n. after_writes before (take n ws)) next) shown)
+          let one : w ≡ x = same_Some w x (sym at ∙ ap (slice_get ws) (sym same) ∙ listed) in
+          subst (λ (y : Write). ShowsNumber (after_writes before.targets (take (suc k) ws)) y.slot y.offset y.width y.value) one
+          (subst (λ ts. ShowsNumber ts w.slot w.offset w.width w.value) (made_more after e ∙ ap (λ n. after_writes before.targets (take n ws)) next) shown)
     ];
   }

@@ -1,10 +1,10 @@
 -- The n-th step by arithmetic.
-use Rattle.std.proofs.Common.{◌≡◌, ℕ, zero, suc, ◌+◌, ◌-◌, ◌<◌, ◌≤◌, ◌⊎◌, inl, inr, List, [], ◌∷◌, refl, arith, sym, ◌∙◌, ap, length, Some, None}
+use Rattle.std.proofs.Common.{◌≡◌, ℕ, zero, suc, ◌+◌, ◌-◌, ◌≤◌, List, [], ◌∷◌, refl, arith, ◌∙◌, ap, length, Some, None}
 use Rattle.std.specs.List.{slice_get}
 use Rattle.std.specs.Option.{option_map}
-use Rattle.std.proofs.lemmas.Option.{same_Some, slice_get_cases, slice_get_past}
+use Rattle.std.proofs.lemmas.Option.{slice_get_past}
 use Rattle.pci_spec.specs.Machine.{Write}
-use Rattle.pci_plan.specs.Steps.{AccessStep, compare_step, make_step, read_back_step, write_steps, steps_of}
+use Rattle.pci_plan.specs.Steps.{compare_step, make_step, read_back_step, write_steps, steps_of}
 
 -- ---- steps by the lists that they are for
 
@@ -58,62 +58,3 @@ step_read_back cs ws n i w at place = ap (λ k. slice_get (steps_of cs ws) k) pl
 
 pub step_none : (cs ws : List Write) (n : ℕ) → length cs + (length ws + length ws) ≤ n → slice_get (steps_of cs ws) n ≡ None
 step_none cs ws n past = slice_get_past (steps_of cs ws) n (let l = length_steps cs ws in omega (arith, l, past))
-
--- ---- what a step is for
-
-pub record IsCompareAt (cs : List Write) (n : ℕ) (step : AccessStep) : Type 0 where
-  pub register : Write
-  pub within : n < length cs
-  pub listed : slice_get cs n ≡ Some register
-  pub is : step ≡ compare_step register
-
-pub record IsMakeAt (cs ws : List Write) (n : ℕ) (step : AccessStep) : Type 0 where
-  pub register : Write
-  pub index : ℕ
-  pub listed : slice_get ws index ≡ Some register
-  pub place : n ≡ length cs + (index + index)
-  pub is : step ≡ make_step index register
-
-pub record IsReadBackAt (cs ws : List Write) (n : ℕ) (step : AccessStep) : Type 0 where
-  pub register : Write
-  pub index : ℕ
-  pub listed : slice_get ws index ≡ Some register
-  pub place : n ≡ length cs + (index + index + 1)
-  pub is : step ≡ read_back_step index register
-
-abbrev pub IsStepAt : List Write → List Write → ℕ → AccessStep → Type 0
-IsStepAt cs ws n step = IsCompareAt cs n step ⊎ (IsMakeAt cs ws n step ⊎ IsReadBackAt cs ws n step)
-
--- an even or an odd number
-pub half : (m : ℕ) → (i : ℕ) × ((m ≡ i + i) ⊎ (m ≡ i + i + 1))
-half zero = (0, inl refl)
-half (suc m) =
-    let rest = half m in
-    let i = rest.0 in
-    elim rest.1 [
-      | inl even ↦ (i, inr (omega (arith, even)))
-      | inr odd ↦ (suc i, inl (omega (arith, odd)))
-    ]
-
-pub step_at_cases : (cs ws : List Write) (n : ℕ) (step : AccessStep) → slice_get (steps_of cs ws) n ≡ Some step → IsStepAt cs ws n step
-step_at_cases cs ws n step at = elim (slice_get_cases cs n).1 [
-  | inl (w, within, here, is) ↦
-      inl record { register = w; within = within; listed = here; is = same_Some step (compare_step w) (sym at ∙ step_compare cs ws n w here) }
-  | inr (past, none) ↦
-      let h = half (n - length cs) in
-      let i = h.0 in
-      elim (slice_get_cases ws i).1 [
-        | inl (w, within, here, is) ↦ elim h.1 [
-          | inl even ↦
-              let place : n ≡ length cs + (i + i) = omega (arith, past, even) in
-              inr (inl record { register = w; index = i; listed = here; place = place; is = same_Some step (make_step i w) (sym at ∙ step_make cs ws n i w here place) })
-          | inr odd ↦
-              let place : n ≡ length cs + (i + i + 1) = omega (arith, past, odd) in
-              inr (inr record { register = w; index = i; listed = here; place = place; is = same_Some step (read_back_step i w) (sym at ∙ step_read_back cs ws n i w here place) })
-        ]
-        | inr (beyond, none_there) ↦
-            let over : length cs + (length ws + length ws) ≤ n = elim h.1 [ inl even ↦ omega (arith, past, beyond, even) | inr odd ↦ omega (arith, past, beyond, odd) ] in
-            let none : slice_get (steps_of cs ws) n ≡ None = step_none cs ws n over in
-            absurd (let impossible : Some step ≡ None = sym at ∙ none in let no : ⊥ = cc in no)
-      ]
-]

@@ -8,7 +8,7 @@ use Rattle.pci_spec.specs.Machine.{Target, Write}
 use Rattle.pci_spec.proofs.Members.{IsMade, in_map_to, in_map_from, IsInPiece, in_flat_map_to, in_flat_map_from}
 use Rattle.pci_plan.specs.declared.apply_fault.ApplyFault.{ApplyFault}
 use Rattle.pci_plan.specs.declared.apply_fault.ApplyFault.TheVariants.{Changed, Port, Stuck}
-use Rattle.pci_plan.specs.Comparing.{compared, IsChangedAt, IsFunctionFault, StartsAs, IsStartFault, moment}
+use Rattle.pci_plan.specs.Comparing.{compared, IsChangedAt, IsFunctionFault, StartsAs, IsStartFault, Moment}
 use Rattle.pci_plan.proofs.Compares.{register_access}
 use Rattle.pci_plan.specs.Steps.{shown_writes, all_shown}
 use Rattle.pci_plan.specs.Going.{TakesRead, IsNumberFault, AreAllShown, IsCompareStop}
@@ -42,24 +42,22 @@ starts_as blocks targets shown = λ b listed r compares.
     let has : Contains (all_shown blocks) (shown_at b r) = in_flat_map_from shown_writes blocks b (shown_at b r) listed (in_map_from (shown_at b) (compared b.image) r compares) in
     shown has.0 (shown_at b r) has.1 (slice_get-get_or (all_shown blocks) has.0 (shown_at b r) has.1 ∙ ap Some has.2)
 
-number_fault : (targets : List Target) (failures : ℕ) (b : Block) (r : ℕ × ℕ) (failures_after : ℕ) (fault : ApplyFault) → Contains (compared b.image) r
-    → IsNumberFault (moment targets failures) (shown_at b r) 0 failures_after fault → IsFunctionFault (moment targets failures) b.slot b.image failures_after fault
-number_fault targets failures b r failures_after (Changed slot offset) listed (here, place, other) = (
+number_fault : (before : Moment) (b : Block) (r : ℕ × ℕ) (failures_after : ℕ) (fault : ApplyFault) → Contains (compared b.image) r
+    → IsNumberFault before (shown_at b r) failures_after fault → IsFunctionFault before b.slot b.image failures_after fault
+number_fault before b r failures_after (Changed slot offset) listed (here, place, other) = (
   here,
-  subst (IsChangedAt targets b.slot b.image) (sym place) record {
+  subst (IsChangedAt before.targets b.slot b.image) (sym place) record {
     width = r.1;
     listed = listed;
     other = record { shows = other.shows; shown = other.shown; differs = other.differs };
   },
 )
-number_fault targets failures b r failures_after (Port done) listed reason = reason
-number_fault targets failures b r failures_after (Stuck done) listed reason = absurd reason
+number_fault before b r failures_after (Port done) listed reason = reason
+number_fault before b r failures_after (Stuck done) listed reason = absurd reason
 
 -- why comparing ended
-pub start_fault_of : (blocks : List Block) (before : List Target) (failures : ℕ) (after : List Target) (failures_after : ℕ) (fault : ApplyFault)
-    → IsCompareStop (moment before failures) (all_shown blocks) (moment after failures_after) fault → IsStartFault (moment before failures) blocks failures_after fault
-start_fault_of blocks before failures after failures_after fault stop =
-    let has : Contains (all_shown blocks) stop.register =
-    (stop.place, slice_get_within (all_shown blocks) stop.place stop.register stop.listed, get_or_from_slice_get (all_shown blocks) stop.place stop.register stop.register stop.listed) in
-    let o = of_block blocks stop.register has in
-    (o.b, o.listed, number_fault before failures o.b o.r failures_after fault o.compares (subst (λ w. IsNumberFault (moment before failures) w 0 failures_after fault) (sym o.is) stop.reason))
+pub start_fault_of : (blocks : List Block) (before after : Moment) (fault : ApplyFault) → IsCompareStop before (all_shown blocks) after fault → IsStartFault before blocks after.failures fault
+start_fault_of blocks before after fault stop =
+    let all = all_shown blocks in
+    let o = of_block blocks stop.register (stop.place, slice_get_within all stop.place stop.register stop.listed, get_or_from_slice_get all stop.place stop.register stop.register stop.listed) in
+    (o.b, o.listed, number_fault before o.b o.r after.failures fault o.compares (subst (λ w. IsNumberFault before w after.failures fault) (sym o.is) stop.reason))

@@ -1,11 +1,13 @@
 -- What stands behind a port after a plan was put onto it, or part of it.
-use Rattle.std.specs.Prelude.{◌≡◌, ℕ, ◌+◌, ◌-◌, ◌<◌, ◌≤◌, ◌⊎◌, IsFalse, List, length, map, take, Some, Result, Ok, Err, slice_get}
+use Rattle.std.specs.Prelude.{◌≡◌, ℕ, ◌+◌, ◌-◌, ◌<◌, ◌≤◌, ◌⊎◌, IsFalse, List, length, map, take, Some, Result, Ok, Err, OnOk, IfErr, IsOk, slice_get}
 use Rattle.std.specs.List.{AllZip, Contains}
 use Rattle.pci_spec.specs.Slot.{Slot}
 use Rattle.pci_spec.specs.System.{System, Function}
 use Rattle.pci_spec.specs.Sound.{IsSound}
 use Rattle.pci_spec.specs.Machine.{Target, Write, target_of, after_writes, system_after}
 use Rattle.pci_spec.specs.Port.{has_function}
+use Rattle.pci_place.specs.Above.{system_in}
+use Rattle.pci_plan.specs.Plans.{PlanValue, final_of}
 use Rattle.pci_plan.specs.Comparing.{ShowsAll, IsChangedAt, Moment}
 use Rattle.pci_plan.specs.Making.{AreReadBack, AreReadBackOrFailed, IsShownOtherwise}
 use Rattle.pci_plan.specs.declared.apply_fault.ApplyFault.{ApplyFault}
@@ -105,3 +107,27 @@ IsApplyFault before start writes after (Port done) =
     IsCutShort before start writes after.failures done
 IsApplyFault before start writes after (Stuck done) =
     IsReadOtherwise before.targets start writes after.targets done
+
+-- ---- all that applying a move leaves, by its answer
+
+pub record IsApplied {T : Type 0} (p : PlanValue) (before after : Moment)
+    (r : Result T ApplyFault) : Type 0 where
+  -- on any machine, also one that writes other bits than the probe tells: the fault's count is exact
+  pub made : after.targets ≡ after_writes before.targets (take (writes_applied p.writes r) p.writes)
+  -- no promise is asked of a machine beforehand: an Ok says that it was the right one
+  pub started : OnOk r (ShowsSystem before.targets (system_in p.start))
+  pub ended : OnOk r (ShowsSystem after.targets (final_of p))
+  -- so nothing is moved beside a function that stays on, though its Command is written again later
+  pub read_back : ReadBackBy before p.writes after.failures r
+  pub counted : OnOk r (after.failures ≡ before.failures)
+  pub fault : IfErr r (IsApplyFault before (system_in p.start) p.writes after)
+  -- where the machine is as it was read, only its port can stop the writes
+  pub own_machine : before.targets ≡ map target_of (system_in p.start)
+      → after.failures ≡ before.failures → IsOk r
+  -- what a write leaves hangs on the bits that can be written, so these have to be the probe's
+  pub sound : before.targets ≡ map target_of (system_in p.start)
+      → IsSound p.start.roots (system_in p.start) ⊎ (p.safe_from ≤ writes_applied p.writes r)
+      → AreSoundTargets p.start.roots after.targets
+  -- but for writes that read back it makes no difference which bits can be written
+  pub sound_images : HasImages before.targets (system_in p.start)
+      → AreSoundWhileReadBack p.start.roots (system_in p.start) p.writes p.safe_from before.targets

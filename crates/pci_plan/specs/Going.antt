@@ -1,9 +1,9 @@
 -- What steps leave behind a port, where they go on and where they stop.
-use Rattle.std.specs.Prelude.{◌≡◌, ℕ, ◌<◌, ◌⊎◌, ◌&&◌, IsTrue, Option, Some, MatchOption, List, length, slice_get}
+use Rattle.std.specs.Prelude.{◌≡◌, ℕ, ◌<◌, ◌⊎◌, ◌&&◌, IsTrue, Option, Some, MatchOption, Result, IsErrAnd, List, length, slice_get}
 use Rattle.pci_spec.specs.Machine.{Target, Write, write_targets}
 use Rattle.pci_spec.specs.Port.{is_access, fits, has_function, ShowsNumber}
 use Rattle.pci_plan.specs.Comparing.{Moment, IsRefusedAt}
-use Rattle.pci_plan.specs.Making.{IsShownOtherwise, IsApplyStop}
+use Rattle.pci_plan.specs.Making.{IsShownOtherwise, AreMadeBy}
 use Rattle.pci_plan.specs.declared.apply_fault.ApplyFault.{ApplyFault}
 use Rattle.pci_plan.specs.declared.apply_fault.ApplyFault.TheVariants.{Changed, Port, Stuck}
 use Rattle.pci_plan.specs.Writes.{write_value}
@@ -56,49 +56,13 @@ StepAnswers Compare before w shown after = ReadsRegister before w shown after
 StepAnswers Make before w shown after = Writes before w shown after
 StepAnswers ReadBack before w shown after = ReadsRegister before w shown after
 
--- a register that is read shows its number, and nothing has changed
-abbrev pub ReadShows : List Target → Write → List Target → Type 0
-ReadShows before w after =
-    (after ≡ before) × ShowsNumber before w.slot w.offset w.width w.value
-
--- the step was done, and the next one follows
-abbrev pub StepIsDone : List Target → Kind → Write → List Target → Type 0
-StepIsDone before Compare w after = ReadShows before w after
-StepIsDone before Make w after =
-    (after ≡ write_targets before w) × IsTrue (has_function before w.slot)
-StepIsDone before ReadBack w after = ReadShows before w after
-
 -- why a register that is compared is the last one
-abbrev pub IsNumberFault : Moment → Write → ℕ → ℕ → ApplyFault → Type 0
-IsNumberFault before w done failures_after (Changed slot offset) =
+abbrev pub IsNumberFault : Moment → Write → ℕ → ApplyFault → Type 0
+IsNumberFault before w failures_after (Changed slot offset) =
     (slot ≡ w.slot) × (offset ≡ w.offset) × IsShownOtherwise before.targets w
-IsNumberFault before w done failures_after (Port count) =
-    (count ≡ done) × IsRefusedAt before w.slot failures_after
-IsNumberFault before w done failures_after (Stuck count) = ⊥
-
--- why a write is, where `done` stand
-abbrev pub IsWriteFault : Moment → Write → ℕ → ℕ → ApplyFault → Type 0
-IsWriteFault before w done failures_after (Changed slot offset) = ⊥
-IsWriteFault before w done failures_after (Port count) =
-    (count ≡ done) × IsRefusedAt before w.slot failures_after
-IsWriteFault before w done failures_after (Stuck count) = ⊥
-
--- why its read back is
-abbrev pub IsReadBackFault : Moment → Write → ℕ → ℕ → ApplyFault → Type 0
-IsReadBackFault before w done failures_after (Changed slot offset) = ⊥
-IsReadBackFault before w done failures_after (Port count) =
-    (count ≡ done) × IsRefusedAt before w.slot failures_after
-IsReadBackFault before w done failures_after (Stuck count) =
-    (count ≡ done) × IsShownOtherwise before.targets w
-
--- why a step is the last one
-abbrev pub IsStepFault : Kind → Moment → Write → ℕ → ℕ → ApplyFault → Type 0
-IsStepFault Compare before w done failures_after fault =
-    IsNumberFault before w done failures_after fault
-IsStepFault Make before w done failures_after fault =
-    IsWriteFault before w done failures_after fault
-IsStepFault ReadBack before w done failures_after fault =
-    IsReadBackFault before w done failures_after fault
+IsNumberFault before w failures_after (Port done) =
+    (done ≡ 0) × IsRefusedAt before w.slot failures_after
+IsNumberFault before w failures_after (Stuck done) = ⊥
 
 -- ---- all steps
 
@@ -119,14 +83,11 @@ pub record IsCompareStop (before : Moment) (compares : List Write) (after : Mome
   pub register : Write
   pub listed : slice_get compares place ≡ Some register
   pub earlier : AreFirstShown before.targets compares place
-  pub reason : IsNumberFault before register 0 after.failures fault
+  pub reason : IsNumberFault before register after.failures fault
 
--- all registers compared, and a write or its read back ended them
-pub record IsWriteStop (before : Moment) (compares writes : List Write) (after : Moment)
-    (fault : ApplyFault) : Type 0 where
-  pub compared : AreAllShown before.targets compares
-  pub stop : IsApplyStop before writes after fault
-
-abbrev pub AreStopped : Moment → List Write → List Write → Moment → ApplyFault → Type 0
-AreStopped before compares writes after fault =
-    IsCompareStop before compares after fault ⊎ IsWriteStop before compares writes after fault
+-- what all steps leave: comparing ended them, or all registers compared and the writes were made by the answer
+abbrev pub AreRun : {T : Type 0} → Moment → List Write → List Write → Moment
+    → Result T ApplyFault → Type 0
+AreRun before compares writes after r =
+    IsErrAnd r (IsCompareStop before compares after)
+    ⊎ (AreAllShown before.targets compares × AreMadeBy before writes after r)

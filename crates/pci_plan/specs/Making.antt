@@ -1,5 +1,5 @@
 -- What writes over a port leave, where all are made and where they stop.
-use Rattle.std.specs.Prelude.{◌≡◌, ◌≢◌, ℕ, suc, ◌+◌, ◌<◌, ◌≤◌, ◌⊎◌, ◌&&◌, IsTrue, IsFalse, Some, List, length, take, slice_get}
+use Rattle.std.specs.Prelude.{◌≡◌, ◌≢◌, ℕ, suc, ◌+◌, ◌<◌, ◌≤◌, ◌⊎◌, ◌&&◌, IsTrue, IsFalse, Some, Result, Ok, Err, List, length, take, slice_get}
 use Rattle.std.specs.List.{Contains}
 use Rattle.pci_spec.specs.Machine.{Target, Write, write_targets, after_writes}
 use Rattle.pci_spec.specs.Port.{is_access, fits, has_function, ShowsNumber}
@@ -106,3 +106,10 @@ IsApplyStop before writes after (Changed slot offset) = ⊥
 IsApplyStop before writes after (Port done) = IsPortStop before writes after done
 IsApplyStop before writes after (Stuck done) =
     IsStuckStop before.targets writes after.targets done
+
+-- what making leaves, by its answer
+abbrev pub AreMadeBy : {T : Type 0} → Moment → List Write → Moment → Result T ApplyFault → Type 0
+AreMadeBy before writes after (Ok x) =
+    AreWritesMade before.targets writes (length writes) after.targets
+    × (after.failures ≡ before.failures)
+AreMadeBy before writes after (Err fault) = IsApplyStop before writes after fault

@@ -1,11 +1,11 @@
 //! Making writes, each of which is read back.
-ghost use Rattle.std.specs.Prelude.{◌≡◌, ◌<◌, ◌^◌, map, length, OnOk, IfErr};
+ghost use Rattle.std.specs.Prelude.{◌≡◌, ◌<◌, ◌^◌, map, OnOk, IfErr};
 ghost use Rattle.std.specs.List.{All};
 ghost use Rattle.pci_spec.specs.Machine.{write_targets};
 ghost use Rattle.pci_spec.specs.Port.{ShowsNumber};
 ghost use Rattle.pci_plan.specs.Comparing.{moment};
 ghost use Rattle.pci_plan.specs.Writes.{write_value};
-ghost use Rattle.pci_plan.specs.Making.{IsAccessible, IsLastWrite, AreWritesMade, IsApplyStop};
+ghost use Rattle.pci_plan.specs.Making.{IsAccessible, IsLastWrite, AreMadeBy};
 
 use super::apply_fault::ApplyFault;
 use super::write::Write;
@@ -44,11 +44,8 @@ pub fn make<P: ConfigPort>(port: &mut P, writes: &[Write]) -> Result<(), ApplyFa
     // a port would refuse others by 41, a cause of a stop that 81 doesn't know
     requires { All IsAccessible writes.now }
     // each was read back, so what the port says it holds is what was written
-    ensures made { OnOk result (AreWritesMade (P.targets port.old) (map write_value writes.now)
-        (length writes.now) (P.targets port.new)) }
-    ensures counted { OnOk result (P.failures port.new ≡ P.failures port.old) }
-    ensures stop { IfErr result (IsApplyStop (moment (P.targets port.old) (P.failures port.old))
-        (map write_value writes.now) (moment (P.targets port.new) (P.failures port.new))) }
+    ensures { AreMadeBy (moment (P.targets port.old) (P.failures port.old))
+        (map write_value writes.now) (moment (P.targets port.new) (P.failures port.new)) result }
 {
     for (done, write) in writes.iter().enumerate() {
         make_one(port, *write, done)?;

@@ -1,11 +1,10 @@
 //! The accesses made over a port, one after another.
-ghost use Rattle.std.specs.Prelude.{◌≡◌, map, length, OnOk, OnErr, IfErr};
+ghost use Rattle.std.specs.Prelude.{map};
 ghost use Rattle.std.specs.List.{Contains};
 ghost use Rattle.pci_spec.specs.Machine.{Write as WriteValue};
 ghost use Rattle.pci_plan.specs.Comparing.{moment};
 ghost use Rattle.pci_plan.specs.Writes.{write_value};
-ghost use Rattle.pci_plan.specs.Making.{AreWritesMade};
-ghost use Rattle.pci_plan.specs.Going.{TakesRead, IsWritable, TakesStep, ReadsRegister, Writes, StepAnswers, StepIsDone, IsStepFault, AreAllShown, AreStopped};
+ghost use Rattle.pci_plan.specs.Going.{TakesRead, IsWritable, TakesStep, ReadsRegister, Writes, StepAnswers, AreRun};
 
 use super::apply_fault::ApplyFault;
 use super::write::Write;
@@ -50,21 +49,6 @@ fn access<P: ConfigPort>(port: &mut P, step: &Step) -> Option<u32>
     }
 }
 
-/// Makes a step, and judges it.
-fn advance<P: ConfigPort>(port: &mut P, step: &Step) -> Result<(), ApplyFault>
-    requires { TakesStep step.now.kind (write_value step.now.register) }
-    ensures went { OnOk result (StepIsDone (P.targets port.old) step.now.kind
-        (write_value step.now.register) (P.targets port.new)) }
-    ensures counted { OnOk result (P.failures port.new ≡ P.failures port.old) }
-    ensures kept { OnErr result (P.targets port.new ≡ P.targets port.old) }
-    ensures fault { IfErr result (IsStepFault step.now.kind
-        (moment (P.targets port.old) (P.failures port.old)) (write_value step.now.register)
-        step.now.done (P.failures port.new)) }
-{
-    let shown = access(port, step);
-    judge(step, shown)
-}
-
 /// Compares each register with its number, then makes each write and reads it back, until one of them ends it.
 ///
 /// # Errors
@@ -80,20 +64,16 @@ pub fn run<P: ConfigPort>(
     requires compares { (w : WriteValue) → Contains (map write_value compares.now) w
         → TakesRead w }
     requires writes { (w : WriteValue) → Contains (map write_value writes.now) w → IsWritable w }
-    ensures compared { OnOk result
-        (AreAllShown (P.targets port.old) (map write_value compares.now)) }
-    ensures made { OnOk result (AreWritesMade (P.targets port.old) (map write_value writes.now)
-        (length writes.now) (P.targets port.new)) }
-    ensures counted { OnOk result (P.failures port.new ≡ P.failures port.old) }
-    ensures stopped { IfErr result (AreStopped (moment (P.targets port.old) (P.failures port.old))
+    ensures { AreRun (moment (P.targets port.old) (P.failures port.old))
         (map write_value compares.now) (map write_value writes.now)
-        (moment (P.targets port.new) (P.failures port.new))) }
+        (moment (P.targets port.new) (P.failures port.new)) result }
 {
     for n in 0..count(compares, writes) {
         let Some(step) = step_at(compares, writes, n) else {
             unreachable!();
         };
-        advance(port, &step)?;
+        let shown = access(port, &step);
+        judge(&step, shown)?;
     }
     Ok(())
 }

@@ -8,7 +8,7 @@ use Rattle.pci_spec.specs.Port.{ShowsNumber}
 use Rattle.pci_image.specs.declared.register.Register.{Register}
 use Rattle.pci_image.specs.declared.register.Role.TheVariants as roles
 use Rattle.pci_plan.specs.Comparing.{IsFunctionFault, moment}
-use Rattle.pci_plan.proofs.Compares.{in_table, all_shown, register_access, register_fault}
+use Rattle.pci_plan.proofs.Compares.{in_table, all_shown, register_access, register_fault, same_moment}
 use Rattle.pci_plan.proofs.WriteLists.{pair_of}
 use Rattle.pci_plan.proofs.compare.compare_function.Goals as goal
 
@@ -30,15 +30,15 @@ returns-in_err-compare_register-2-clause-fault g c =
     let k = c.loop-register.register-index in
     let r = get_or items k none in
     let table = c.address_registers-register-items.ensures.places ∙ ap registers_by c.or_device.ensures in
-    let e = c.in_err-compare_register-2.ensures in
-    let targets : g.P.ConfigPort.targets c.loop-register.port ≡ g.P.ConfigPort.targets c.args.port.now = c.loop-register.invariant.same ∙ c.in_ok-compare_register.ensures.same in
-    let failures : g.P.ConfigPort.failures c.loop-register.port ≡ g.P.ConfigPort.failures c.args.port.now = c.loop-register.invariant.counted ∙ c.in_ok-compare_register.ensures.counted in
+    let before = moment (g.P.ConfigPort.targets c.args.port.now) (g.P.ConfigPort.failures c.args.port.now) in
+    let now = moment (g.P.ConfigPort.targets c.loop-register.port) (g.P.ConfigPort.failures c.loop-register.port) in
+    let failures_after = g.P.ConfigPort.failures c.compare_register-in-loop-register.new.port in
+    let fault = c.in_err-compare_register-2.field-0.0 in
     let p = err_from_is_err_and c.from_residual-in_err-compare_register-2.result c.from_residual-in_err-compare_register-2.ensures.1 in
     rw (p.1, p.2)
-    (subst (λ ts. IsFunctionFault (moment ts (g.P.ConfigPort.failures c.args.port.now)) c.args.slot image (g.P.ConfigPort.failures c.compare_register-in-loop-register.new.port) c.in_err-compare_register-2.field-0.0) targets
-    (subst (λ n. IsFunctionFault (moment (g.P.ConfigPort.targets c.loop-register.port) n) c.args.slot image (g.P.ConfigPort.failures c.compare_register-in-loop-register.new.port) c.in_err-compare_register-2.field-0.0) failures
-    (register_fault (g.P.ConfigPort.targets c.loop-register.port) (g.P.ConfigPort.failures c.loop-register.port) c.args.slot image r.offset r.width
-    (g.P.ConfigPort.failures c.compare_register-in-loop-register.new.port) c.in_err-compare_register-2.field-0.0 (in_table items image table k none c.loop-register-test.true) e.fault)))
+    (subst (λ m. IsFunctionFault m c.args.slot image failures_after fault)
+    (same_moment now before (c.loop-register.invariant.same ∙ c.in_ok-compare_register.ensures.same) (c.loop-register.invariant.counted ∙ c.in_ok-compare_register.ensures.counted))
+    (register_fault now c.args.slot image r.offset r.width failures_after fault (in_table items image table k none c.loop-register-test.true) c.in_err-compare_register-2.ensures.fault))
 
 pub loop-register-preserved : goal.loop-register-preserved
 loop-register-preserved g c =

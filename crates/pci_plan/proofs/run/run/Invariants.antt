@@ -1,10 +1,13 @@
-use Rattle.std.proofs.Common.{map, ◌≡◌}
+use Rattle.std.proofs.Common.{map, drop}
+use Rattle.pci_plan.specs.Comparing.{moment}
 use Rattle.pci_plan.specs.Writes.{write_value}
-use Rattle.pci_plan.proofs.Runs.{IsGoing}
+use Rattle.pci_plan.specs.Steps.{steps_of}
+use Rattle.pci_plan.specs.Going.{AreRun}
+use Rattle.pci_plan.proofs.Runs.{LeadTo}
 use Rattle.pci_plan.proofs.run.run.Given as goal
 
 abbrev pub invariant-loop-n : goal.invariant-loop-n
-invariant-loop-n g l = record {
-  going : IsGoing (g.P.ConfigPort.targets l.initial.port) (map write_value l.compares) (map write_value l.writes) l.n (g.P.ConfigPort.targets l.port);
-  failures : g.P.ConfigPort.failures l.port ≡ g.P.ConfigPort.failures l.initial.port;
-}
+invariant-loop-n g l =
+    let cs = map write_value l.compares in
+    let ws = map write_value l.writes in
+    LeadTo (AreRun (moment (g.P.ConfigPort.targets l.initial.port) (g.P.ConfigPort.failures l.initial.port)) cs ws) (drop l.n (steps_of cs ws)) (moment (g.P.ConfigPort.targets l.port) (g.P.ConfigPort.failures l.port))

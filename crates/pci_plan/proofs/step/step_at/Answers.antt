@@ -1,18 +1,12 @@
-use Rattle.std.proofs.Common.{◌≡◌, ◌+◌, ◌<◌, suc, refl, get_or, arith, sym, ◌∙◌, ap, subst, map, length, List, ℕ, Some}
+use Rattle.std.proofs.Common.{◌≡◌, ◌+◌, suc, arith, sym, ◌∙◌, ap, subst, map, length, Some}
 use Rattle.std.specs.List.{slice_get}
-use Rattle.std.specs.Option.{option_map}
 use Rattle.std.proofs.lemmas.List.{length-map}
-use Rattle.std.proofs.lemmas.Option.{slice_get-map, slice_get_read}
-use Rattle.pci_plan.specs.declared.write.Write.{Write as CodeWrite}
 use Rattle.pci_plan.specs.Writes.{write_value}
 use Rattle.pci_plan.specs.Places.{IsPlaceOfStep}
 use Rattle.pci_plan.specs.declared.step.Kind.TheVariants.{ReadBack}
+use Rattle.pci_plan.proofs.Makes.{at_index}
 use Rattle.pci_plan.proofs.Places.{step_compare, step_make, step_read_back, step_none}
 use Rattle.pci_plan.proofs.step.step_at.Goals as goal
-
--- what a list has at an index, by its values
-at_index : (items : List CodeWrite) (i : ℕ) (w : CodeWrite) → i < length items → w ≡ get_or items i w → slice_get (map write_value items) i ≡ Some (write_value w)
-at_index items i w within is = slice_get-map write_value items i ∙ ap (λ o. option_map write_value o) (slice_get_read items (length items) i w refl within is)
 
 pub returns-in-None : goal.returns-in-None
 returns-in-None c =
