@@ -6,7 +6,7 @@ use Rattle.std.specs.List.Sorted.{IsPermutation, IsNonDecreasingBy}
 use Rattle.std.proofs.lemmas.Bool.{cases_eq}
 use Rattle.std.proofs.lemmas.Option.{slice_get_within, get_or_from_slice_get}
 use Rattle.pci_spec.specs.Slot.{Slot, IsSlot}
-use Rattle.pci_spec.specs.System.{System, Space, Io, Memory, IsSystem, IsAddress}
+use Rattle.pci_spec.specs.System.{System, Space, Io, Memory, IsSystem}
 use Rattle.pci_spec.specs.Fault.{Clash, address_in, named_region}
 use Rattle.pci_spec.specs.Fault as plain
 use Rattle.pci_spec.proofs.Firsts.{slot_of, space_key-same}
@@ -27,7 +27,8 @@ use Rattle.pci_faults.specs.RegionOrder.{clash_place}
 use Rattle.pci_faults.specs.Clashes.{clash_value, IsClashLine, IsOnBusIn, AreClashesAdded}
 use Rattle.pci_faults.specs.Named.{AreAllClashes}
 use Rattle.pci_faults.proofs.Addings.{AreApart, added_none, added_both, added_same}
-use Rattle.pci_faults.proofs.Orders.{IsRegion, IsSpelled, clash_precedes, clash_keys}
+use Rattle.pci_faults.proofs.Orders.{IsClashBelow, clash_order}
+use Rattle.pci_faults.proofs.Places.{address_small, space_small}
 use Rattle.pci_faults.proofs.Numbering.{AreLinesOf, all_numbered}
 
 abbrev pub Where : Type 1
@@ -62,9 +63,12 @@ below_or_on bus n sp = (
 
 -- ---- what claims an address
 
-address_small : (space : Space) (a : ℕ) → IsAddress space a → a < 2 ^ 64
-address_small Io a h = omega (arith, h)
-address_small Memory a h = h
+-- its numbers are in their ranges
+pub record IsSpelled (bus a : ℕ) (slot : Slot) (register : ℕ) : Type 0 where
+  pub on_bus : slot.bus ≡ bus
+  pub address : a < 2 ^ 64
+  pub numbers : IsSlot slot
+  pub register_small : register < 8192
 
 module _ (told : Told) (is_told : IsTold told.ranges) (given : Given) (s : System) (system : IsSystem s) where
   range_of : (k : ℕ) (r : ToldRange) → slice_get told.ranges k ≡ Some r → IsToldRange r
@@ -74,7 +78,7 @@ module _ (told : Told) (is_told : IsTold told.ranges) (given : Given) (s : Syste
   slot_named bus space a slot register (inl claims) = subst IsSlot claims.3 (slot_of s system claims.0 claims.2)
   slot_named bus space a slot register (inr range) = subst IsSlot range.named.slot (range_of range.named.index range.r range.named.at).line.slot
 
-  pub bus_named : (bus : ℕ) (space : Space) (a : ℕ) (slot : Slot) (register : ℕ) → ClaimsOnBus told given s bus (address_in space a) (named_region slot register) → slot.bus ≡ bus
+  bus_named : (bus : ℕ) (space : Space) (a : ℕ) (slot : Slot) (register : ℕ) → ClaimsOnBus told given s bus (address_in space a) (named_region slot register) → slot.bus ≡ bus
   bus_named bus space a slot register (inl claims) = claims.4
   bus_named bus space a slot register (inr range) = range.on_the_bus
 
@@ -86,14 +90,19 @@ module _ (told : Told) (is_told : IsTold told.ranges) (given : Given) (s : Syste
       let room = is_told.room in
       omega (arith, named, within, room)
 
-  pub address_of : (bus : ℕ) (space : Space) (a : ℕ) (slot : Slot) (register : ℕ) → ClaimsOnBus told given s bus (address_in space a) (named_region slot register) → a < 2 ^ 64
+  address_of : (bus : ℕ) (space : Space) (a : ℕ) (slot : Slot) (register : ℕ) → ClaimsOnBus told given s bus (address_in space a) (named_region slot register) → a < 2 ^ 64
   address_of bus space a slot register (inl (f, Own part, listed, at, on, named, own)) = address_small space a own.claims.address
   address_of bus space a slot register (inl (f, Legacy, listed, at, on, named, claims)) = address_small space a claims.address
   address_of bus space a slot register (inl (f, Palette, listed, at, on, named, claims)) = address_small space a claims.address
   address_of bus space a slot register (inr range) = address_small space a (told_claim_addresses told s (named_region slot register) range.r space a is_told range.named range.claims)
 
-  pub region_of : (bus : ℕ) (space : Space) (a : ℕ) (slot : Slot) (register : ℕ) → ClaimsOnBus told given s bus (address_in space a) (named_region slot register) → IsRegion slot register
-  region_of bus space a slot register claims = record { slot = slot_named bus space a slot register claims; register = register_named bus space a slot register claims }
+  pub spelled : (bus : ℕ) (space : Space) (a : ℕ) (slot : Slot) (register : ℕ) → ClaimsOnBus told given s bus (address_in space a) (named_region slot register) → IsSpelled bus a slot register
+  spelled bus space a slot register claims = record {
+    on_bus = bus_named bus space a slot register claims;
+    address = address_of bus space a slot register claims;
+    numbers = slot_named bus space a slot register claims;
+    register_small = register_named bus space a slot register claims;
+  }
 
   -- a bus has a number below 256
   low_bus : (bus : ℕ) (space : Space) (a : ℕ) (slot : Slot) (register : ℕ) → ClaimsOnBus told given s bus (address_in space a) (named_region slot register) → bus < 256
@@ -165,18 +174,11 @@ module _ (told : Told) (is_told : IsTold told.ranges) (given : Given) (roots : L
   abbrev Line : plain.Fault → Type 0
   Line = IsClashLine IsAnywhere told given roots s
 
-  spelled : (c : named.Clash) → Line (clash_value c) → IsSpelled c.address c.first.slot c.first.register c.second.slot c.second.register
-  spelled c (at, line) = record {
-    address = address_of told is_told given s system c.bus (space_of c.space) c.address c.first.slot c.first.register line.there.claims_first;
-    first = region_of told is_told given s system c.bus (space_of c.space) c.address c.first.slot c.first.register line.there.claims_first;
-    second = region_of told is_told given s system c.bus (space_of c.space) c.address c.second.slot c.second.register line.there.claims_second;
-  }
-
-  first_on : (c : named.Clash) → Line (clash_value c) → c.first.slot.bus ≡ c.bus
-  first_on c (at, line) = bus_named told is_told given s system c.bus (space_of c.space) c.address c.first.slot c.first.register line.there.claims_first
-
-  second_on : (c : named.Clash) → Line (clash_value c) → c.second.slot.bus ≡ c.bus
-  second_on c (at, line) = bus_named told is_told given s system c.bus (space_of c.space) c.address c.second.slot c.second.register line.there.claims_second
+  below : (c : named.Clash) → Line (clash_value c) → IsClashBelow c
+  below c (at, line) =
+      let first = spelled told is_told given s system c.bus (space_of c.space) c.address c.first.slot c.first.register line.there.claims_first in
+      let second = spelled told is_told given s system c.bus (space_of c.space) c.address c.second.slot c.second.register line.there.claims_second in
+      (space_small (space_of c.space), (first.address, (first.on_bus, (first.numbers.1, (first.numbers.2, (first.register_small, (second.on_bus, (second.numbers.1, (second.numbers.2, (second.register_small, tt))))))))))
 
   named_line : (f : plain.Fault) → Line f → IsNamed told given roots s (Known f) × (fault_number (Known f) ≡ 61)
   named_line (plain.Clash bus space a f r g q) (at, line) = (line, refl)
@@ -193,10 +195,7 @@ module _ (told : Told) (is_told : IsTold told.ranges) (given : Given) (roots : L
     inside = λ e. (let no : ⊥ = omega (arith, e) in no);
     named = named_line;
     line = line_named;
-    before = λ c d one other less. clash_precedes (space_of c.space) (space_of d.space) c.address d.address c.first.slot c.second.slot d.first.slot d.second.slot c.first.register c.second.register d.first.register d.second.register
-        (spelled c one) (spelled d other) c.bus d.bus (first_on c one) (second_on c one) (first_on d other) (second_on d other) less;
-    one_key = λ c d one other same. clash_keys (space_of c.space) (space_of d.space) c.address d.address c.first.slot c.second.slot d.first.slot d.second.slot c.first.register c.second.register d.first.register d.second.register
-        (spelled c one) (spelled d other) c.bus d.bus (first_on c one) (second_on c one) (first_on d other) (second_on d other) same;
+    in_order = λ c d one other. clash_order c d (below c one) (below d other);
   }
 
 pub all_clashes_are : (told : Told) → IsTold told.ranges → (given : Given) (t : Tree) (none xs ys : List named.Clash) → none ≡ [] → AreClashesAdded IsAnywhere told given t none xs → IsPermutation xs ys

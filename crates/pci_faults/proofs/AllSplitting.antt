@@ -20,8 +20,9 @@ use Rattle.pci_faults.specs.RegionOrder.{split_place}
 use Rattle.pci_faults.specs.Splits.{split_value, IsSplitLine, IsSplitIn, AreSplitsAdded}
 use Rattle.pci_faults.specs.Named.{AreAllSplits}
 use Rattle.pci_faults.proofs.Addings.{AreApart, added_both}
-use Rattle.pci_faults.proofs.AllClashing.{address_of, region_of}
-use Rattle.pci_faults.proofs.Orders.{IsSpelled, split_precedes, split_keys}
+use Rattle.pci_faults.proofs.AllClashing.{spelled}
+use Rattle.pci_faults.proofs.Orders.{IsSplitBelow, split_order}
+use Rattle.pci_faults.proofs.Places.{space_small}
 use Rattle.pci_faults.proofs.Numbering.{AreLinesOf, all_numbered}
 
 abbrev IsAnywhere : Space → Type 0
@@ -54,12 +55,11 @@ module _ (told : Told) (given : Given) (roots : List ℕ) (s : System) where
     abbrev pub Line : plain.Fault → Type 0
     Line = IsSplitLine IsAnywhere told given roots s
 
-    spelled : (c : named.Split) → Line (split_value c) → IsSpelled c.address c.first.slot c.first.register c.second.slot c.second.register
-    spelled c (at, line) = record {
-      address = address_of told is_told given s system c.first.slot.bus (space_of c.space) c.address c.first.slot c.first.register line.there.claims_first;
-      first = region_of told is_told given s system c.first.slot.bus (space_of c.space) c.address c.first.slot c.first.register line.there.claims_first;
-      second = region_of told is_told given s system c.second.slot.bus (space_of c.space) c.address c.second.slot c.second.register line.there.claims_second;
-    }
+    below : (c : named.Split) → Line (split_value c) → IsSplitBelow c
+    below c (at, line) =
+        let first = spelled told is_told given s system c.first.slot.bus (space_of c.space) c.address c.first.slot c.first.register line.there.claims_first in
+        let second = spelled told is_told given s system c.second.slot.bus (space_of c.space) c.address c.second.slot c.second.register line.there.claims_second in
+        (space_small (space_of c.space), (first.address, (first.numbers.0, (first.numbers.1, (first.numbers.2, (first.register_small, (second.numbers.0, (second.numbers.1, (second.numbers.2, (second.register_small, tt))))))))))
 
     named_line : (f : plain.Fault) → Line f → IsNamed told given roots s (Known f) × (fault_number (Known f) ≡ 62)
     named_line (plain.Split space a f r g q) (at, line) = (line, refl)
@@ -76,10 +76,7 @@ module _ (told : Told) (given : Given) (roots : List ℕ) (s : System) where
       inside = λ e. (let no : ⊥ = omega (arith, e) in no);
       named = named_line;
       line = line_named;
-      before = λ c d one other less. split_precedes (space_of c.space) (space_of d.space) c.address d.address c.first.slot c.second.slot d.first.slot d.second.slot c.first.register c.second.register d.first.register d.second.register
-          (spelled c one) (spelled d other) less;
-      one_key = λ c d one other same. split_keys (space_of c.space) (space_of d.space) c.address d.address c.first.slot c.second.slot d.first.slot d.second.slot c.first.register c.second.register d.first.register d.second.register
-          (spelled c one) (spelled d other) same;
+      in_order = λ c d one other. split_order c d (below c one) (below d other);
     }
 
 pub both_spaces : (told : Told) (given : Given) (t : Tree) (a b c : List named.Split) → AreSplitsAdded (IsSplitIn Io) told given t a b → AreSplitsAdded (IsSplitIn Memory) told given t b c → AreSplitsAdded IsAnywhere told given t a c

@@ -1,5 +1,5 @@
 -- Faults of one function by the check at which they are looked for.
-use Rattle.std.proofs.Common.{◌≡◌, ℕ, ◌<◌, List, ◌∷◌, drop, refl, Bool, true, false, arith, sym, ◌∙◌, subst}
+use Rattle.std.proofs.Common.{◌≡◌, ℕ, ◌<◌, List, ◌∷◌, drop, length, refl, Bool, true, false, arith, sym, ◌∙◌, ap, subst}
 use Rattle.std.specs.Prelude.{slice_index_or, IsTrue}
 use Rattle.std.specs.Bool.{then_some}
 use Rattle.std.proofs.lemmas.Bool.{both_ways}
@@ -24,6 +24,9 @@ check_of f e = slice_index_or (rest_of f e) 0 0
 rest_front : (f : Function) (e : Fault) → IsHere f e → rest_of f e ≡ check_of f e ∷ drop 1 (rest_of f e)
 rest_front f (SlotsDiffer slot) is = absurd is
 rest_front f _ is = refl
+
+pub has_check : (f : Function) (e : Fault) → IsHere f e → 0 < length (rest_of f e)
+has_check f e is = let front = ap length (rest_front f e is) in omega (arith, front)
 
 -- an earlier check comes before
 pub check_rises : (phase : ℕ) (f : Function) (a b : Fault) → IsOwnLine phase f a → IsOwnLine phase f b → check_of f a < check_of f b → IsBeforeIn f a b

@@ -1,5 +1,5 @@
 -- Keys and subjects of the faults of one function.
-use Rattle.std.proofs.Common.{◌≡◌, ℕ, ◌<◌, List, [], ◌∷◌, ◌++◌, drop, refl, true, inl, inr, arith, sym, ◌∙◌, ap, subst}
+use Rattle.std.proofs.Common.{◌≡◌, ℕ, zero, suc, ◌<◌, List, [], ◌∷◌, ◌++◌, drop, length, refl, true, inl, inr, arith, sym, ◌∙◌, ap, subst}
 use Rattle.std.specs.Prelude.{slice_index_or}
 use Rattle.std.proofs.lemmas.Bool.{both_ways, cases_order}
 use Rattle.pci_spec.specs.Slot.{Slot, IsSlot, slot_number}
@@ -12,6 +12,7 @@ use Rattle.pci_spec.proofs.FirstLines.{less_precedes, same_precedes}
 use Rattle.pci_spec.proofs.Looking.{key_head}
 use Rattle.pci_function.specs.Profile.{IsHere}
 use Rattle.pci_function.proofs.FirstHere.{rest_of, key_at, key_is}
+use Rattle.pci_faults.specs.OwnLines.{IsOwnLine}
 
 -- ---- keys
 
@@ -20,6 +21,19 @@ not_before_itself [] h = both_ways _ refl h
 not_before_itself (x ∷ xs) h = elim (precedes-cases x x xs xs h) [
   | inl less ↦ omega (arith, less)
   | inr (same, rest) ↦ not_before_itself xs rest
+]
+
+-- of two lists that neither precedes the other the numbers are the same, as far as both go
+same_at : (k : ℕ) (xs ys : List ℕ) → (precedes xs ys ≡ true → ⊥) → (precedes ys xs ≡ true → ⊥) → k < length xs → k < length ys → slice_index_or xs k 0 ≡ slice_index_or ys k 0
+same_at k [] ys low high in_xs in_ys = absurd (let no : ⊥ = omega (arith, in_xs) in no)
+same_at k (x ∷ xs) [] low high in_xs in_ys = absurd (let no : ⊥ = omega (arith, in_ys) in no)
+same_at k (x ∷ xs) (y ∷ ys) low high in_xs in_ys = elim (cases_order x y) [
+  | inr (inl less) ↦ absurd (low (less_precedes x y xs ys less))
+  | inr (inr more) ↦ absurd (high (less_precedes y x ys xs more))
+  | inl same ↦ elim k as (λ k. k < suc (length xs) → k < suc (length ys) → slice_index_or (x ∷ xs) k 0 ≡ slice_index_or (y ∷ ys) k 0) [
+    | zero ↦ λ in_x in_y. same
+    | suc j ↦ λ in_x in_y. same_at j xs ys (λ h. low (same_precedes x y xs ys same h)) (λ h. high (same_precedes y x ys xs (sym same) h)) (omega (arith, in_x)) (omega (arith, in_y))
+  ] in_xs in_ys
 ]
 
 -- behind one phase and slot
@@ -112,3 +126,10 @@ before_by_rest f a b is_a is_b same rest =
     (subst (λ k. precedes (phase_of a ∷ slot_key f.slot ++ rest_of f a) k ≡ true) (sym (key_is f b is_b))
     (subst (λ p. precedes (phase_of a ∷ slot_key f.slot ++ rest_of f a) (p ∷ slot_key f.slot ++ rest_of f b) ≡ true) same
     (front_precedes (phase_of a) f.slot (rest_of f a) (rest_of f b) rest)))
+
+-- of lines of one subject neither is looked for before the other
+pub one_rest : (phase : ℕ) (f : Function) (a b : Fault) → IsOwnLine phase f a → IsOwnLine phase f b → subject a ≡ subject b → (k : ℕ) → k < length (rest_of f a) → k < length (rest_of f b)
+    → slice_index_or (rest_of f a) k 0 ≡ slice_index_or (rest_of f b) k 0
+one_rest phase f a b is_a is_b same k = same_at k (rest_of f a) (rest_of f b)
+    (λ before. is_b.first a same (before_by_rest f a b is_a.here is_b.here (is_a.phase_is ∙ sym is_b.phase_is) before) is_a.here)
+    (λ before. is_a.first b (sym same) (before_by_rest f b a is_b.here is_a.here (is_b.phase_is ∙ sym is_a.phase_is) before) is_b.here)

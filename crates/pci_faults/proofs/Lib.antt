@@ -5,6 +5,7 @@ pub mod Listing
 pub mod Losing
 pub mod Naming
 pub mod Places
+pub mod Digits
 pub mod Sharing
 pub mod Lists
 pub mod Keys

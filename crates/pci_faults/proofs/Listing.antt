@@ -1,16 +1,11 @@
 -- The list of all faults of judging.
-use Rattle.std.proofs.Common.{◌≡◌, ℕ, ◌<◌, ◌⊎◌, inl, inr, List, [], ◌++◌, length, get_or, map, refl, sym, ◌∙◌, ap, subst, arith, eqb}
+use Rattle.std.proofs.Common.{◌≡◌, ℕ, ◌<◌, ◌⊎◌, inl, inr, List, [], ◌++◌, get_or, map, refl, sym, ◌∙◌, ap, subst, arith}
 use Rattle.std.specs.Prelude.{◌↔◌}
-use Rattle.std.specs.List.{Contains, IsDistinct}
-use Rattle.std.specs.List.Sorted.{IsPermutation, IsNonDecreasing, IsNonDecreasingBy}
+use Rattle.std.specs.List.{AllPairs, Contains}
+use Rattle.std.specs.List.Sorted.{IsPermutation, IsNonDecreasingBy}
 use Rattle.std.specs.Bool.{IsTrue}
-use Rattle.std.proofs.lemmas.Bool.{ne_eqb}
-use Rattle.std.proofs.lemmas.Bool.Decides.{nat_tests}
-use Rattle.std.proofs.lemmas.List.{get_or-map, length-map}
 use Rattle.std.proofs.lemmas.List.Elements.{Contains-get_or}
-use Rattle.std.proofs.lemmas.List.Kept.{AllPairs-from_increasing}
-use Rattle.std.proofs.lemmas.List.Sorted.{Contains-permutation, IsPermutation-sym, IsPermutation-map}
-use Rattle.std.proofs.lemmas.Map.Keys.{IsDistinct-from_apart, IsDistinct-IsPermutation, IsStrictlyIncreasing-from_distinct}
+use Rattle.std.proofs.lemmas.List.Sorted.{Contains-permutation, IsPermutation-sym}
 use Rattle.pci_spec.specs.System.{System}
 use Rattle.pci_spec.specs.Fault as faults
 use Rattle.pci_spec.specs.Order.{Reach, Clashes, Splits, precedes, judging_key}
@@ -19,16 +14,17 @@ use Rattle.pci_spec.proofs.Members.{in_nil, in_map_to, in_map_from, pairs_nil, p
 use Rattle.pci_spec.proofs.Verdicts.{single_without_clashes, home_without_unreached}
 use Rattle.pci_spec.proofs.AllFaults.{none_listed}
 use Rattle.pci_function.specs.declared.fault.Fault.{Fault}
-use Rattle.pci_function.specs.declared.fault.Fault.TheVariants.{NoVendor}
 use Rattle.pci_function.specs.Fault.{fault_of}
 use Rattle.pci_tree.specs.Outline.{Tree}
 use Rattle.pci_tree.specs.Trees.{HasTree}
 use Rattle.pci_check.specs.Stops.{AlwaysNested}
 use Rattle.pci_check.specs.Judgement.{IsFree}
+use Rattle.pci_claims.proofs.Making.{rise_in_order}
 use Rattle.pci_faults.specs.Order.{judging_place}
 use Rattle.pci_faults.specs.Lines.{AreJustCodeFaults, AreLinesAdded, IsLineInEach, AreAllListed}
 use Rattle.pci_faults.proofs.Adding.{Where, just_same, lines_both}
-use Rattle.pci_faults.proofs.Places.{looked_for_before, one_key, spelled}
+use Rattle.pci_faults.proofs.Digits.{HaveOrderOf}
+use Rattle.pci_faults.proofs.Places.{placed, by_place}
 
 -- ---- all that were added
 
@@ -67,48 +63,27 @@ all_just t a b c d empty reach clashes splits s tree =
 abbrev place : Fault → ℕ
 place f = judging_place (fault_of f)
 
-nothing : Fault
-nothing = NoVendor (record { bus = 0; device = 0; function = 0 })
-
 module _ (t : Tree) (nested : AlwaysNested t) (xs ys : List Fault) (s : System) (tree : HasTree t s) (just : AreJustCodeFaults (IsNamed t.roots s) xs) (moved : IsPermutation xs ys)
     (sorted : IsNonDecreasingBy (λ f. judging_place (fault_of f)) ys) where
-  named_in : (f : Fault) → Contains ys f → IsNamed t.roots s (fault_of f)
-  named_in f has = just.each f (Contains-permutation ys xs f (IsPermutation-sym xs ys moved) has)
+  in_both : (f : Fault) → Contains ys f → Contains xs f
+  in_both f has = Contains-permutation ys xs f (IsPermutation-sym xs ys moved) has
 
-  distinct_places : IsDistinct eqb (map place xs)
-  distinct_places = IsDistinct-from_apart eqb (map place xs) (λ i j d less within.
-      let inside : j < length xs = let n = length-map xs place in omega (arith, n, within) in
-      let before : i < length xs = omega (arith, less, inside) in
-      ne_eqb _ _ (λ equal.
-      let same : place (get_or xs i nothing) ≡ place (get_or xs j nothing) = sym (get_or-map place xs i nothing d before) ∙ equal ∙ get_or-map place xs j nothing d inside in
-      let spelled_at = λ (k : ℕ) (within : k < length xs). spelled t.roots s tree.system (nested s tree) (fault_of (get_or xs k nothing)) (just.each (get_or xs k nothing) (Contains-get_or xs k nothing within)) in
-      just.distinct i j nothing less inside (one_key (fault_of (get_or xs i nothing)) (fault_of (get_or xs j nothing)) (spelled_at i before) (spelled_at j inside) same)))
+  order_of : (f g : Fault) → Contains xs f → Contains xs g → HaveOrderOf (judging_key (fault_of f)) (judging_key (fault_of g)) (place f) (place g)
+  order_of f g one other =
+      let at = placed t.roots s tree.system (nested s tree) in
+      by_place (fault_of f) (fault_of g) (at (fault_of f) (just.each f one)) (at (fault_of g) (just.each g other))
 
-  rise : (i j : ℕ) (d : Fault) → i < j → j < length ys → place (get_or ys i d) < place (get_or ys j d)
-  rise i j d less within =
-      let n = length-map ys place in
-      let never_down : IsNonDecreasing (map place ys) = λ k m e up inside.
-      let in_m : m < length ys = omega (arith, n, inside) in
-      let in_k : k < length ys = omega (arith, up, in_m) in
-      let low = sorted k m nothing up in_m in
-      let one = get_or-map place ys k nothing e in_k in
-      let other = get_or-map place ys m nothing e in_m in
-      omega (arith, low, one, other) in
-      let up = IsStrictlyIncreasing-from_distinct (map place ys) never_down
-      (IsDistinct-IsPermutation eqb (λ x y. grind (arith, nat_tests)) (map place xs) (map place ys) (IsPermutation-map place xs ys moved) distinct_places) in
-      let low = AllPairs-from_increasing (map place ys) up i j 0 less (omega (arith, n, within)) in
-      let one = get_or-map place ys i d 0 (omega (arith, less, within)) in
-      let other = get_or-map place ys j d 0 within in
-      omega (arith, low, one, other)
+  rise : AllPairs (λ f g. place f < place g) ys
+  rise = rise_in_order place xs ys (λ i j d less within same.
+      just.distinct i j d less within ((order_of (get_or xs i d) (get_or xs j d) (Contains-get_or xs i d (omega (arith, less, within))) (Contains-get_or xs j d within)).same same)) moved sorted
 
   pub all_of_judging : AreAllOfJudging t.roots s (map fault_of ys)
   all_of_judging = record {
-    each = λ f has. (let made = in_map_to fault_of ys f has in subst (IsNamed t.roots s) made.is (named_in made.from made.has));
+    each = λ f has. (let made = in_map_to fault_of ys f has in subst (IsNamed t.roots s) made.is (just.each made.from (in_both made.from made.has)));
     complete = λ f named. (let found = just.complete f named in
         subst (λ (x : faults.Fault). Contains (map fault_of ys) x) found.2 (in_map_from fault_of ys found.0 (Contains-permutation xs ys found.0 moved found.1)));
     rising = pairs_map (λ f g. IsTrue (precedes (judging_key f) (judging_key g))) fault_of ys (λ i j d less within.
-        let at = λ (k : ℕ) (inside : k < length ys). spelled t.roots s tree.system (nested s tree) (fault_of (get_or ys k d)) (named_in (get_or ys k d) (Contains-get_or ys k d inside)) in
-        looked_for_before (fault_of (get_or ys i d)) (fault_of (get_or ys j d)) (at i (omega (arith, less, within))) (at j within) (rise i j d less within));
+        (order_of (get_or ys i d) (get_or ys j d) (in_both (get_or ys i d) (Contains-get_or ys i d (omega (arith, less, within)))) (in_both (get_or ys j d) (Contains-get_or ys j d within))).less (rise i j d less within));
   }
 
 -- where nothing fails there is none

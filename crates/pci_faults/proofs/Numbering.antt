@@ -21,14 +21,14 @@ use Rattle.judge_spec.specs.ToldAllFaults.{IsNamed}
 use Rattle.judge_spec.specs.ToldNumbered.{AreAllNumbered}
 use Rattle.pci_claims.proofs.Making.{rise_in_order}
 use Rattle.pci_faults.specs.JustLines.{AreJustLines}
+use Rattle.pci_faults.proofs.Digits.{HaveOrderOf}
 
 -- what a list of all names of a number other than 63, and the places of such faults
 pub record AreLinesOf {X : Type 0} (value : X → plain.Fault) (place : X → ℕ) (number : ℕ) (told : Told) (given : Given) (roots : List ℕ) (s : System) (Line : plain.Fault → Type 0) : Type 0 where
   pub inside : 63 ≡ number → ⊥
   pub named : (f : plain.Fault) → Line f → IsNamed told given roots s (Known f) × (fault_number (Known f) ≡ number)
   pub line : (f : plain.Fault) → IsNamed told given roots s (Known f) → fault_number (Known f) ≡ number → Line f
-  pub before : (x y : X) → Line (value x) → Line (value y) → place x < place y → IsTrue (precedes (order.judging_key (value x)) (order.judging_key (value y)))
-  pub one_key : (x y : X) → Line (value x) → Line (value y) → place x ≡ place y → order.judging_key (value x) ≡ order.judging_key (value y)
+  pub in_order : (x y : X) → Line (value x) → Line (value y) → HaveOrderOf (order.judging_key (value x)) (order.judging_key (value y)) (place x) (place y)
 
 module _ {X : Type 0} (value : X → plain.Fault) (place : X → ℕ) (number : ℕ) (told : Told) (given : Given) (roots : List ℕ) (s : System) (Line : plain.Fault → Type 0) (are : AreLinesOf value place number told given roots s Line)
     (xs ys : List X) (just : AreJustLines Line (map value xs)) (moved : IsPermutation xs ys) (sorted : IsNonDecreasingBy place ys) where
@@ -48,7 +48,7 @@ module _ {X : Type 0} (value : X → plain.Fault) (place : X → ℕ) (number : 
       just.distinct i j (value d) less (omega (arith, within, size))
       (subst (λ (f : plain.Fault). order.judging_key f ≡ order.judging_key (get_or (map value xs) j (value d))) (sym (get_or-map value xs i d (value d) inside))
       (subst (λ (f : plain.Fault). order.judging_key (value (get_or xs i d)) ≡ order.judging_key f) (sym (get_or-map value xs j d (value d) within))
-      (are.one_key (get_or xs i d) (get_or xs j d) (line_of (get_or xs i d) (Contains-get_or xs i d inside)) (line_of (get_or xs j d) (Contains-get_or xs j d within)) same)))
+      ((are.in_order (get_or xs i d) (get_or xs j d) (line_of (get_or xs i d) (Contains-get_or xs i d inside)) (line_of (get_or xs j d) (Contains-get_or xs j d within))).same same)))
 
   rise : AllPairs (λ x y. place x < place y) ys
   rise = rise_in_order place xs ys differ moved sorted
@@ -66,5 +66,5 @@ module _ {X : Type 0} (value : X → plain.Fault) (place : X → ℕ) (number : 
     complete = complete_of;
     rising = pairs_map (λ f g. IsTrue (precedes (judging_key f) (judging_key g))) known ys (λ i j d less within.
         same_precedes 1 1 (order.judging_key (value (get_or ys i d))) (order.judging_key (value (get_or ys j d))) refl
-        (are.before (get_or ys i d) (get_or ys j d) (line_in (get_or ys i d) (Contains-get_or ys i d (omega (arith, less, within)))) (line_in (get_or ys j d) (Contains-get_or ys j d within)) (rise i j d less within)));
+        ((are.in_order (get_or ys i d) (get_or ys j d) (line_in (get_or ys i d) (Contains-get_or ys i d (omega (arith, less, within)))) (line_in (get_or ys j d) (Contains-get_or ys j d within))).less (rise i j d less within)));
   }

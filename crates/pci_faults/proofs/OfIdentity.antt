@@ -1,105 +1,62 @@
 -- The line of a function's identity.
-use Rattle.std.proofs.Common.{◌≡◌, ◌⊎◌, ℕ, zero, suc, ◌<◌, [], ◌∷◌, get_or, refl, true, inl, inr, arith, sym, ◌∙◌, ap, Option, None, Some}
+use Rattle.std.proofs.Common.{◌≡◌, ℕ, zero, suc, [], ◌∷◌, refl, inl, inr, arith, sym, ◌∙◌, ap, Option, None, Some, subst}
 use Rattle.std.specs.Prelude.{MatchOption, IfSome}
-use Rattle.std.proofs.lemmas.Bool.{cases_order}
+use Rattle.std.specs.List.{Contains}
 use Rattle.pci_spec.specs.Slot.{Slot}
 use Rattle.pci_spec.specs.System.{Function}
 use Rattle.pci_spec.specs.Fault.{Fault, NoVendor, HeaderKind, StrayProbe}
-use Rattle.pci_spec.specs.Order.{precedes, phase_of}
+use Rattle.pci_spec.specs.Order.{slot_key}
 use Rattle.pci_spec.specs.FaultLines.{subject}
-use Rattle.pci_spec.proofs.FirstLines.{less_precedes, same_precedes}
+use Rattle.pci_spec.proofs.Members.{in_nil, in_head, in_cons_cases}
 use Rattle.pci_function.specs.declared.fault.Fault.{Fault as FaultOfCode}
 use Rattle.pci_function.specs.Fault.{fault_of}
-use Rattle.pci_function.specs.Profile.{IsHere, IsHereIn, IsFirstOf, IsAnswering}
+use Rattle.pci_function.specs.Profile.{IsHereIn, IsFirstOf, IsAnswering}
 use Rattle.pci_function.proofs.Examined.{clear_2}
-use Rattle.pci_function.proofs.FirstHere.{rest_of}
 use Rattle.pci_function.proofs.FirstIn.{here_not_clear}
 use Rattle.pci_faults.specs.OwnLines.{IsOwnLine, IsBeforeIn, AreOwnLines}
-use Rattle.pci_faults.proofs.Keys.{same_phase, before_by_rest}
-use Rattle.pci_faults.proofs.Lists.{IsOnly, told_by_place}
+use Rattle.pci_faults.proofs.Checks.{check_of, has_check}
+use Rattle.pci_faults.proofs.Keys.{same_phase, one_rest}
+use Rattle.pci_faults.proofs.Lists.{just_none}
 
--- two faults of a function's identity are the same, or one is looked for before the other
-abbrev AreInOrder : Function → Fault → Fault → Type 0
-AreInOrder f a b = (a ≡ b) ⊎ (IsBeforeIn f a b ⊎ IsBeforeIn f b a)
-
--- the list has one place
-abbrev only_place : Fault → ℕ
-only_place e = 0
+-- which fault a check is for
+abbrev IdentityIs : Slot → ℕ → Fault → Type 0
+IdentityIs slot zero e = e ≡ NoVendor slot
+IdentityIs slot (suc zero) e = e ≡ HeaderKind slot
+IdentityIs slot (suc (suc k)) e = (offset : ℕ) × (e ≡ StrayProbe slot offset)
 
 module _ (f : Function) where
-  abbrev IsAt : ℕ → Fault → Type 0
-  IsAt k e = IsOwnLine 1 f e × (only_place e ≡ k)
+  identity_is : (e : Fault) → IsOwnLine 1 f e → IdentityIs f.slot (check_of f e) e
+  identity_is (NoVendor slot) own = ap NoVendor own.here.0
+  identity_is (HeaderKind slot) own = ap HeaderKind own.here.0
+  identity_is (StrayProbe slot offset) own = (offset, ap (λ t. StrayProbe t offset) own.here.0)
+  identity_is _ own = absurd (let phase = own.phase_is in let no : ⊥ = omega (arith, phase) in no)
 
-  before_of : (a b : Fault) → IsHere f a → IsHere f b → phase_of a ≡ phase_of b → precedes (rest_of f a) (rest_of f b) ≡ true → AreInOrder f a b
-  before_of a b is_a is_b same rest = inr (inl (before_by_rest f a b is_a is_b same rest))
-
-  after_of : (a b : Fault) → IsHere f a → IsHere f b → phase_of a ≡ phase_of b → precedes (rest_of f b) (rest_of f a) ≡ true → AreInOrder f a b
-  after_of a b is_a is_b same rest = inr (inr (before_by_rest f b a is_b is_a (sym same) rest))
-
-  stray_in_order : (s t : Slot) (m n : ℕ) → IsHere f (StrayProbe s m) → IsHere f (StrayProbe t n) → AreInOrder f (StrayProbe s m) (StrayProbe t n)
-  stray_in_order s t m n is_a is_b = elim (cases_order m n) [
-    | inl same ↦ inl (ap (λ x. StrayProbe x m) (is_a.0 ∙ sym is_b.0) ∙ ap (StrayProbe t) same)
-    | inr (inl less) ↦ before_of (StrayProbe s m) (StrayProbe t n) is_a is_b refl (same_precedes 2 2 (m ∷ []) (n ∷ []) refl (less_precedes m n [] [] less))
-    | inr (inr more) ↦ after_of (StrayProbe s m) (StrayProbe t n) is_a is_b refl (same_precedes 2 2 (n ∷ []) (m ∷ []) refl (less_precedes n m [] [] more))
-  ]
-
-  no_vendor_with : (s : Slot) (b : Fault) → phase_of b ≡ 1 → IsHere f (NoVendor s) → IsHere f b → AreInOrder f (NoVendor s) b
-  no_vendor_with s (NoVendor t) phase is_a is_b = inl (ap NoVendor (is_a.0 ∙ sym is_b.0))
-  no_vendor_with s (HeaderKind t) phase is_a is_b = before_of (NoVendor s) (HeaderKind t) is_a is_b refl refl
-  no_vendor_with s (StrayProbe t n) phase is_a is_b = before_of (NoVendor s) (StrayProbe t n) is_a is_b refl refl
-  no_vendor_with s _ phase is_a is_b = absurd (let no : ⊥ = omega (arith, phase) in no)
-
-  header_kind_with : (s : Slot) (b : Fault) → phase_of b ≡ 1 → IsHere f (HeaderKind s) → IsHere f b → AreInOrder f (HeaderKind s) b
-  header_kind_with s (NoVendor t) phase is_a is_b = after_of (HeaderKind s) (NoVendor t) is_a is_b refl refl
-  header_kind_with s (HeaderKind t) phase is_a is_b = inl (ap HeaderKind (is_a.0 ∙ sym is_b.0))
-  header_kind_with s (StrayProbe t n) phase is_a is_b = before_of (HeaderKind s) (StrayProbe t n) is_a is_b refl refl
-  header_kind_with s _ phase is_a is_b = absurd (let no : ⊥ = omega (arith, phase) in no)
-
-  stray_with : (s : Slot) (m : ℕ) (b : Fault) → phase_of b ≡ 1 → IsHere f (StrayProbe s m) → IsHere f b → AreInOrder f (StrayProbe s m) b
-  stray_with s m (NoVendor t) phase is_a is_b = after_of (StrayProbe s m) (NoVendor t) is_a is_b refl refl
-  stray_with s m (HeaderKind t) phase is_a is_b = after_of (StrayProbe s m) (HeaderKind t) is_a is_b refl refl
-  stray_with s m (StrayProbe t n) phase is_a is_b = stray_in_order s t m n is_a is_b
-  stray_with s m _ phase is_a is_b = absurd (let no : ⊥ = omega (arith, phase) in no)
-
-  identity_in_order : (a b : Fault) → phase_of a ≡ 1 → phase_of b ≡ 1 → IsHere f a → IsHere f b → AreInOrder f a b
-  identity_in_order (NoVendor s) b pa pb is_a is_b = no_vendor_with s b pb is_a is_b
-  identity_in_order (HeaderKind s) b pa pb is_a is_b = header_kind_with s b pb is_a is_b
-  identity_in_order (StrayProbe s m) b pa pb is_a is_b = stray_with s m b pb is_a is_b
-  identity_in_order _ b pa pb is_a is_b = absurd (let no : ⊥ = omega (arith, pa) in no)
-
-  -- all of identity are of one subject
-  identity_subject : (e : Fault) → phase_of e ≡ 1 → IsHere f e → subject e ≡ subject (NoVendor f.slot)
-  identity_subject (NoVendor s) phase is = ap (λ x. subject (NoVendor x)) is.0
-  identity_subject (HeaderKind s) phase is = ap (λ x. subject (NoVendor x)) is.0
-  identity_subject (StrayProbe s n) phase is = ap (λ x. subject (NoVendor x)) is.0
-  identity_subject _ phase is = absurd (let no : ⊥ = omega (arith, phase) in no)
+  subject_is : (k : ℕ) (e : Fault) → IdentityIs f.slot k e → subject e ≡ 1 ∷ slot_key f.slot
+  subject_is zero e is = ap subject is
+  subject_is (suc zero) e is = ap subject is
+  subject_is (suc (suc k)) e is = ap subject is.1
 
   one_subject : (a b : Fault) → IsOwnLine 1 f a → IsOwnLine 1 f b → subject a ≡ subject b
-  one_subject a b is_a is_b = identity_subject a is_a.phase_is is_a.here ∙ sym (identity_subject b is_b.phase_is is_b.here)
+  one_subject a b is_a is_b = subject_is (check_of f a) a (identity_is a is_a) ∙ sym (subject_is (check_of f b) b (identity_is b is_b))
 
-  -- so of two lines of identity neither is before the other
+  one_of_check : (k : ℕ) (a b : Fault) → IdentityIs f.slot k a → IdentityIs f.slot k b → IsOwnLine 1 f a → IsOwnLine 1 f b → a ≡ b
+  one_of_check zero a b a_is b_is is_a is_b = a_is ∙ sym b_is
+  one_of_check (suc zero) a b a_is b_is is_a is_b = a_is ∙ sym b_is
+  one_of_check (suc (suc k)) a b (m, a_is) (n, b_is) is_a is_b =
+      let offsets : m ≡ n = one_rest 1 f (StrayProbe f.slot m) (StrayProbe f.slot n) (subst (IsOwnLine 1 f) a_is is_a) (subst (IsOwnLine 1 f) b_is is_b) refl 1 (omega arith) (omega arith) in
+      a_is ∙ ap (StrayProbe f.slot) offsets ∙ sym b_is
+
   one_line : (a b : Fault) → IsOwnLine 1 f a → IsOwnLine 1 f b → a ≡ b
-  one_line a b is_a is_b = elim (identity_in_order a b is_a.phase_is is_b.phase_is is_a.here is_b.here) [
-    | inl same ↦ same
-    | inr (inl before) ↦ absurd (is_b.first a (one_subject a b is_a is_b) before is_a.here)
-    | inr (inr after) ↦ absurd (is_a.first b (one_subject b a is_b is_a) after is_b.here)
-  ]
-
-  only_of_identity : (o : Option FaultOfCode) → MatchOption o (IsAnswering f) (λ e. IsHereIn 1 f (fault_of e)) → IfSome o (λ e. IsFirstOf 1 f (fault_of e)) → IsOnly (IsAt 0) o
-  only_of_identity None answers first = λ e is. here_not_clear f e 2 (let phase = is.0.phase_is in omega (arith, phase)) (clear_2 f answers) is.0.here
-  only_of_identity (Some x) here first =
-      let own : IsOwnLine 1 f (fault_of x) = record {
-        here = here.here;
-        phase_is = here.phase_is;
-        first = λ other same before there. first other (same_phase other (fault_of x) same ∙ here.phase_is) before there;
-      } in
-      ((own, refl), λ e is. one_line e (fault_of x) is.0 own)
-
-  at_place : (o : Option FaultOfCode) → IsOnly (IsAt 0) o → (j : ℕ) → j < 1 → IsOnly (IsAt j) (get_or (o ∷ []) j None)
-  at_place o only zero less = only
-  at_place o only (suc j) less = absurd (let no : ⊥ = omega (arith, less) in no)
+  one_line a b is_a is_b =
+      let checks = one_rest 1 f a b is_a is_b (one_subject a b is_a is_b) 0 (has_check f a is_a.here) (has_check f b is_b.here) in
+      one_of_check (check_of f b) a b (subst (λ k. IdentityIs f.slot k a) checks (identity_is a is_a)) (identity_is b is_b) is_a is_b
 
   pub identity_line : (o : Option FaultOfCode) → MatchOption o (IsAnswering f) (λ e. IsHereIn 1 f (fault_of e)) → IfSome o (λ e. IsFirstOf 1 f (fault_of e)) → AreOwnLines 1 f (o ∷ [])
-  identity_line o here first =
-      told_by_place (IsBeforeIn f) (IsOwnLine 1 f) only_place (λ a b is_a is_b less. absurd (let no : ⊥ = omega (arith, less) in no)) (o ∷ []) (λ e is. omega arith)
-      (at_place o (only_of_identity o here first))
+  identity_line None answers first = just_none (IsBeforeIn f) (IsOwnLine 1 f) (λ e own. here_not_clear f e 2 (let phase = own.phase_is in omega (arith, phase)) (clear_2 f answers) own.here)
+  identity_line (Some x) here first =
+      let own : IsOwnLine 1 f (fault_of x) = record { here = here.here; phase_is = here.phase_is; first = λ other same. first other (same_phase other (fault_of x) same ∙ here.phase_is) } in
+      record {
+        each = λ e has. elim (in_cons_cases (fault_of x) [] e has) [ inl same ↦ subst (IsOwnLine 1 f) same own | inr none ↦ absurd (in_nil e none) ];
+        complete = λ e is. subst (λ y. Contains (fault_of x ∷ []) y) (one_line (fault_of x) e own is) (in_head (fault_of x) []);
+        rising = λ i j d less within. absurd (let no : ⊥ = omega (arith, less, within) in no);
+      }

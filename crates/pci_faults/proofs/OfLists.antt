@@ -1,14 +1,12 @@
 -- The line of a function's capabilities list: the first fault along it.
-use Rattle.std.proofs.Common.{◌≡◌, ◌⊎◌, ℕ, zero, suc, ◌≤◌, List, [], ◌∷◌, ◌++◌, refl, true, inl, inr, arith, sym, ◌∙◌, ap, subst, Option, None, Some}
+use Rattle.std.proofs.Common.{◌≡◌, length, ℕ, zero, suc, ◌≤◌, List, [], ◌∷◌, ◌++◌, refl, true, inl, inr, arith, sym, ◌∙◌, ap, subst, Option, None, Some}
 use Rattle.std.specs.Prelude.{MatchOption, slice_index_or}
-use Rattle.std.proofs.lemmas.Bool.{cases_order}
 use Rattle.pci_spec.specs.Slot.{Slot}
 use Rattle.pci_spec.specs.Capability.{pointer, HasChain}
 use Rattle.pci_spec.specs.System.{Function}
 use Rattle.pci_spec.specs.Fault.{Fault, CapRange, CapLoop, CapCut}
 use Rattle.pci_spec.specs.Order.{precedes, slot_key, phase_of, is_before, step_after}
 use Rattle.pci_spec.specs.FaultLines.{subject}
-use Rattle.pci_spec.proofs.FirstLines.{less_precedes, same_precedes}
 use Rattle.pci_spec.proofs.Looking.{step_is}
 use Rattle.pci_spec.proofs.Regions.{precedes-cases}
 use Rattle.pci_spec.proofs.Walks.{chain-no_low_place, chain-no_loop, chain-no_cut_body}
@@ -22,7 +20,7 @@ use Rattle.pci_function.proofs.FirstDecoded.{WalkIs, IsFirstStep, first_range, f
 use Rattle.pci_function.proofs.FirstHere.{rest_of, key_is, before_here}
 use Rattle.pci_faults.specs.OwnLines.{IsOwnLine}
 use Rattle.pci_faults.specs.Registers.{IsListTold}
-use Rattle.pci_faults.proofs.Keys.{same_phase, before_by_rest}
+use Rattle.pci_faults.proofs.Keys.{same_phase, one_rest}
 use Rattle.pci_faults.proofs.Lists.{IsOnly}
 use Rattle.pci_faults.proofs.OfRegisters.{place_of, IsAt, list_check}
 
@@ -60,21 +58,6 @@ list_subject f e x = ap subject x.is ∙ of_kind x.kind x.place
     of_kind (suc zero) place = refl
     of_kind (suc (suc k)) place = refl
 
--- one pair of numbers precedes another, is preceded by it, or is the same
-abbrev AreOrdered : ℕ → ℕ → ℕ → ℕ → Type 0
-AreOrdered a b c d = ((a ≡ c) × (b ≡ d)) ⊎ ((precedes (a ∷ b ∷ []) (c ∷ d ∷ []) ≡ true) ⊎ (precedes (c ∷ d ∷ []) (a ∷ b ∷ []) ≡ true))
-
-ordered : (a b c d : ℕ) → AreOrdered a b c d
-ordered a b c d = elim (cases_order a c) [
-  | inr (inl less) ↦ inr (inl (less_precedes a c (b ∷ []) (d ∷ []) less))
-  | inr (inr more) ↦ inr (inr (less_precedes c a (d ∷ []) (b ∷ []) more))
-  | inl same ↦ elim (cases_order b d) [
-    | inr (inl less) ↦ inr (inl (same_precedes a c (b ∷ []) (d ∷ []) same (less_precedes b d [] [] less)))
-    | inr (inr more) ↦ inr (inr (same_precedes c a (d ∷ []) (b ∷ []) (sym same) (less_precedes d b [] [] more)))
-    | inl both ↦ inl (same, both)
-  ]
-]
-
 -- the place that is met at a step
 place_at : (times : ℕ) (image : List ℕ) (place : ℕ) → step_after times image place ≤ 48 → pointer image (step_after times image place) ≡ place
 place_at times image place soon = elim (step_is times image place) [
@@ -82,26 +65,17 @@ place_at times image place soon = elim (step_is times image place) [
   | inr is ↦ is
 ]
 
-module _ (f : Function) (x : Fault) (own : IsOwnLine 2 f x) (first : IsListOwn f x) (step : IsFirstStep f.image (step_after (times_of first.kind) f.image first.place) first.kind) where
-  -- another line of the list is the same
-  one_of_list : (e : Fault) → IsOwnLine 2 f e → IsListOwn f e → e ≡ x
-  one_of_list e own_e is_e =
-      let s = step_after (times_of is_e.kind) f.image is_e.place in
-      let t = step_after (times_of first.kind) f.image first.place in
-      elim (ordered s is_e.kind t first.kind) [
-        | inr (inl before) ↦ absurd (step.first (s ∷ is_e.kind ∷ []) is_e.walk before)
-        | inr (inr after) ↦
-            absurd (own_e.first x (list_subject f x first ∙ sym (list_subject f e is_e))
-            (before_by_rest f x e own.here own_e.here (own.phase_is ∙ sym own_e.phase_is)
-            (subst (λ k. precedes k (rest_of f e) ≡ true) (sym first.key) (subst (λ k. precedes (3 ∷ t ∷ first.kind ∷ []) k ≡ true) (sym is_e.key)
-            (same_precedes 3 3 (t ∷ first.kind ∷ []) (s ∷ is_e.kind ∷ []) refl after))))
-            own.here)
-        | inl (same, kinds) ↦
-            (let soon = step.soon in
-            let places : is_e.place ≡ first.place =
-            sym (place_at (times_of is_e.kind) f.image is_e.place (omega (arith, same, soon))) ∙ ap (pointer f.image) same ∙ place_at (times_of first.kind) f.image first.place soon in
-            is_e.is ∙ ap (λ k. list_fault_at k f.slot is_e.place) kinds ∙ ap (list_fault_at first.kind f.slot) places ∙ sym first.is)
-      ]
+-- another line of the list is the same
+one_of_list : (f : Function) (x e : Fault) → IsOwnLine 2 f x → IsOwnLine 2 f e → (first : IsListOwn f x) → IsListOwn f e → step_after (times_of first.kind) f.image first.place ≤ 48 → e ≡ x
+one_of_list f x e own own_e first is soon =
+    let same_at = one_rest 2 f e x own_e own (list_subject f e is ∙ sym (list_subject f x first)) in
+    let long = ap length is.key in
+    let long_x = ap length first.key in
+    let steps = sym (ap (λ k. slice_index_or k 1 0) is.key) ∙ same_at 1 (omega (arith, long)) (omega (arith, long_x)) ∙ ap (λ k. slice_index_or k 1 0) first.key in
+    let kinds = sym (ap (λ k. slice_index_or k 2 0) is.key) ∙ same_at 2 (omega (arith, long)) (omega (arith, long_x)) ∙ ap (λ k. slice_index_or k 2 0) first.key in
+    let places : is.place ≡ first.place =
+    sym (place_at (times_of is.kind) f.image is.place (omega (arith, steps, soon))) ∙ ap (pointer f.image) steps ∙ place_at (times_of first.kind) f.image first.place soon in
+    is.is ∙ ap (λ k. list_fault_at k f.slot is.place) kinds ∙ ap (list_fault_at first.kind f.slot) places ∙ sym first.is
 
 -- none of the list's subject is looked for before the first along it
 none_of_list : (f : Function) (x other : Fault) (first : IsListOwn f x) → IsHere f x → phase_of x ≡ 2 → IsFirstStep f.image (step_after (times_of first.kind) f.image first.place) first.kind
@@ -167,4 +141,4 @@ pub list_only : (f : Function) (o : Option FaultOfCode) → MatchOption o (HasCh
 list_only f None chain = λ e is. chain_has_none f e chain (at_list f e is) is.0.here
 list_only f (Some x) told =
     let line : IsListLine f (fault_of x) = subst (IsListLine f) (sym told.1) (list_line f told.0 told.2 told.3) in
-    ((line.own, line.place), λ e is. one_of_list f (fault_of x) line.own line.first line.step e is.0 (at_list f e is))
+    ((line.own, line.place), λ e is. one_of_list f (fault_of x) e line.own is.0 line.first (at_list f e is) line.step.soon)
