@@ -1,13 +1,11 @@
 -- A function's registers, taken one after another by rising offset.
 use Rattle.std.specs.Prelude.{◌⊎◌}
-use Rattle.std.proofs.Common.{◌≡◌, ℕ, zero, suc, ◌+◌, ◌-◌, ◌/◌, ◌%◌, ◌^◌, ◌<◌, ◌≤◌, nat_le, nat_lt, cond, Bool, true, false, List, [], ◌∷◌, ◌++◌, map, length, take, get_or, replicate, Option, Some, None, refl, inl, inr, arith, sym, ◌∙◌, ap}
-use Rattle.std.specs.List.{filter}
+use Rattle.std.proofs.Common.{◌≡◌, ℕ, zero, suc, ◌+◌, ◌-◌, ◌/◌, ◌%◌, ◌^◌, ◌<◌, ◌≤◌, cond, Bool, true, false, List, [], ◌∷◌, ◌++◌, map, length, take, get_or, replicate, Option, Some, None, refl, arith, sym, ◌∙◌, ap}
+use Rattle.std.specs.List.{filter, list_all, range_with_len}
 use Rattle.std.specs.Option.{option_or}
-use Rattle.std.proofs.lemmas.Bool.{cases_Bool, and_parts, and_cases, leb-true, ltb-true, leb-false, ltb-false, cond-true, cond-false}
 use Rattle.std.proofs.lemmas.Option.{none-some}
-use Rattle.std.proofs.lemmas.List.{take_more, take_all, get_or-map, get_or-replicate, length-append, length-map}
+use Rattle.std.proofs.lemmas.List.{take_more, take_all, get_or-map, length-append, length-map}
 use Rattle.std.proofs.lemmas.List.Elements.{filter-append}
-use Rattle.std.proofs.lemmas.List.FromFn.{fill_by_all}
 use Rattle.pci_spec.specs.Number.{byte_at}
 use Rattle.pci_spec.specs.Header.{layout, address_registers}
 use Rattle.pci_spec.specs.Machine.{register_at}
@@ -15,8 +13,12 @@ use Rattle.pci_spec.specs.Resource.{ResourceLine}
 use Rattle.pci_spec.specs.Derived.{Derived, register_derived, read_back_of, is_assumed, derived_byte, derived_probe, assumed_registers}
 use Rattle.pci_spec.specs.NoProbe.{Assuming, NoProbe, register_fault, first_at, no_probe}
 use Rattle.pci_image.specs.declared.layout.Layout.{Layout}
-use Rattle.pci_image.specs.Layouts.{layout_number}
-use Rattle.pci_machine.proofs.RegisterOrder.{holds_place, found_in, found_in-more, registers_rise}
+use Rattle.pci_image.specs.declared.register.Register.{Register}
+use Rattle.pci_image.specs.Layouts.{layout_number, is_of_bridge}
+use Rattle.pci_image.specs.Registers.{has_place}
+use Rattle.pci_machine.proofs.Targets.{map-map}
+use Rattle.pci_machine.proofs.Turns.{none, pair_of}
+use Rattle.pci_machine.proofs.Filled.{IsFilled, none_filled, more_filled, all_filled}
 
 -- ---- the first fault of some registers
 
@@ -54,12 +56,9 @@ first_at-found fault (x ∷ xs) (suc k) found is = or_of (first_at-found fault x
 
 -- ---- what was derived of the registers so far
 
-module _ (assuming : Assuming) (image : List ℕ) (lines : List ResourceLine) (known : Layout) where
-  abbrev registers : List (ℕ × ℕ)
-  registers = address_registers (layout_number known)
-
+module _ (assuming : Assuming) (image : List ℕ) (lines : List ResourceLine) (known : Layout) (items : List Register) where
   abbrev offsets : List ℕ
-  offsets = map (λ (r : ℕ × ℕ). r.0) registers
+  offsets = map (λ (r : Register). r.offset) items
 
   abbrev derived : ℕ → Derived
   derived offset = register_derived image lines offset
@@ -72,86 +71,55 @@ module _ (assuming : Assuming) (image : List ℕ) (lines : List ResourceLine) (k
 
   -- of the first k registers, in a probe and a list of those that are assumed
   pub record HasDerived (k : ℕ) (probe assumed : List ℕ) : Type 0 where
-    pub full : length probe ≡ 256
-    pub bytes : (place : ℕ) → place < 256 → byte_at probe place ≡ derived_byte image lines place (found_in (take k registers) place)
+    pub filled : IsFilled known items (derived_byte image lines) k probe
     pub told : first_at fault (take k offsets) ≡ None
     pub listed : assumed ≡ filter assumes (take k offsets)
     pub few : length assumed ≤ k
 
-  pub derived_none : (assumed : List ℕ) → assumed ≡ [] → HasDerived 0 (replicate 256 0) assumed
+  pub derived_none : map pair_of items ≡ address_registers (layout_number known) → list_all (has_place (is_of_bridge known)) items ≡ true → (assumed : List ℕ) → assumed ≡ [] → HasDerived 0 (replicate 256 0) assumed
   unfolding first_at
-  derived_none assumed empty = record {
-    full = refl;
-    bytes = λ place below. get_or-replicate 256 place 0 0 below;
+  derived_none table roles assumed empty = record {
+    filled = none_filled known items (derived_byte image lines) table roles (λ place. refl);
     told = refl;
     listed = empty;
     few = omega (arith, ap length empty);
   }
 
   -- the offset of a register of the table
-  module _ (k : ℕ) (r : ℕ × ℕ) (below : k < length registers) (is : get_or registers k r ≡ r) where
-    offset_is : get_or offsets k r.0 ≡ r.0
-    offset_is = get_or-map (λ (q : ℕ × ℕ). q.0) registers k r r.0 below ∙ ap (λ (q : ℕ × ℕ). q.0) is
+  module _ (k : ℕ) (within : k < length items) where
+    abbrev r : Register
+    r = get_or items k none
+
+    offset_is : get_or offsets k r.offset ≡ r.offset
+    offset_is = get_or-map (λ (q : Register). q.offset) items k none r.offset within
 
     offset_in : k < length offsets
-    offset_in = omega (arith, below, length-map {B = ℕ} registers (λ (q : ℕ × ℕ). q.0))
-
-    -- a register without a read back is the first
-    pub derived_fault : (probe assumed : List ℕ) (found : NoProbe) → HasDerived k probe assumed → layout image ≡ layout_number known → fault r.0 ≡ Some found
-        → no_probe assuming image lines ≡ Some found
-    unfolding no_probe
-    derived_fault probe assumed found so_far kind faulty =
-        ap (λ m. first_at fault (map (λ (q : ℕ × ℕ). q.0) (address_registers m))) kind
-        ∙ first_at-found fault offsets (k + 1) found (first_at-more fault offsets k r.0 offset_in offset_is so_far.told ∙ faulty)
-
-    -- the bytes with those of one register more
-    bytes_more : (before after : List ℕ) (value : ℕ) → value ≡ read_back_of (derived r.0)
-        → ((j : ℕ) → j < r.1 → byte_at after (r.0 + j) ≡ value / 256 ^ j % 256)
-        → ((place : ℕ) → (place < r.0) ⊎ (r.0 + r.1 ≤ place) → byte_at after place ≡ byte_at before place)
-        → (place : ℕ) → byte_at before place ≡ derived_byte image lines place (found_in (take k registers) place)
-        → byte_at after place ≡ derived_byte image lines place (found_in (take (k + 1) registers) place)
-    bytes_more before after value value_is inside outside place so_far =
-        let more = found_in-more 0 registers (registers_rise known) k r below is place in
-        elim (cases_Bool (holds_place place r)) [
-          | inl hit ↦
-              let parts = and_parts (nat_le r.0 place) (nat_lt place (r.0 + r.1)) hit in
-              let from = leb-true r.0 place parts.0 in
-              let upto = ltb-true place (r.0 + r.1) parts.1 in
-              let spot : r.0 + (place - r.0) ≡ place = omega (arith, from) in
-              let read = inside (place - r.0) (omega (arith, from, upto)) in
-              ap (byte_at after) (sym spot) ∙ read ∙ ap (λ n. n / 256 ^ (place - r.0) % 256) value_is
-              ∙ sym (ap (derived_byte image lines place) (more ∙ cond-true (holds_place place r) (Some r) (found_in (take k registers) place) hit))
-          | inr miss ↦
-              outside place (elim (and_cases (nat_le r.0 place) (nat_lt place (r.0 + r.1)) miss) [
-                | inl under ↦ inl (leb-false r.0 place under)
-                | inr over ↦ inr (ltb-false place (r.0 + r.1) over)
-              ]) ∙ so_far ∙ sym (ap (derived_byte image lines place) (more ∙ cond-false (holds_place place r) (Some r) (found_in (take k registers) place) miss))
-        ]
+    offset_in = omega (arith, within, length-map {B = ℕ} items (λ (q : Register). q.offset))
 
     -- the assumed registers with one more
-    listed_more : filter assumes (take (k + 1) offsets) ≡ filter assumes (take k offsets) ++ cond (assumes r.0) (r.0 ∷ []) []
+    listed_more : filter assumes (take (k + 1) offsets) ≡ filter assumes (take k offsets) ++ cond (assumes r.offset) (r.offset ∷ []) []
     listed_more =
-        ap (filter assumes) (take_more offsets k r.0 offset_in) ∙ filter-append assumes (take k offsets) (get_or offsets k r.0 ∷ [])
+        ap (filter assumes) (take_more offsets k r.offset offset_in) ∙ filter-append assumes (take k offsets) (get_or offsets k r.offset ∷ [])
         ∙ ap (λ x. filter assumes (take k offsets) ++ filter assumes (x ∷ [])) offset_is
 
-    pub derived_more : (before after assumed longer : List ℕ) (value : ℕ) → HasDerived k before assumed → fault r.0 ≡ None
-        → length after ≡ 256 → value ≡ read_back_of (derived r.0)
-        → ((j : ℕ) → j < r.1 → byte_at after (r.0 + j) ≡ value / 256 ^ j % 256)
-        → ((place : ℕ) → (place < r.0) ⊎ (r.0 + r.1 ≤ place) → byte_at after place ≡ byte_at before place)
-        → longer ≡ assumed ++ cond (assumes r.0) (r.0 ∷ []) []
+    pub derived_more : (before after assumed longer : List ℕ) (value : ℕ) → HasDerived k before assumed → fault r.offset ≡ None
+        → length after ≡ 256 → value ≡ read_back_of (derived r.offset)
+        → ((j : ℕ) → j < r.width → byte_at after (r.offset + j) ≡ value / 256 ^ j % 256)
+        → ((place : ℕ) → (place < r.offset) ⊎ (r.offset + r.width ≤ place) → byte_at after place ≡ byte_at before place)
+        → longer ≡ assumed ++ cond (assumes r.offset) (r.offset ∷ []) []
         → HasDerived (k + 1) after longer
     derived_more before after assumed longer value so_far none full value_is inside outside longer_is = record {
-      full = full;
-      bytes = λ place within. bytes_more before after value value_is inside outside place (so_far.bytes place within);
-      told = first_at-more fault offsets k r.0 offset_in offset_is so_far.told ∙ none;
-      listed = longer_is ∙ ap (λ xs. xs ++ cond (assumes r.0) (r.0 ∷ []) []) so_far.listed ∙ sym listed_more;
+      filled = more_filled known items (derived_byte image lines) k before after within so_far.filled full (λ j below.
+          inside j below ∙ ap (λ n. n / 256 ^ j % 256) value_is ∙ ap (λ i. read_back_of (derived r.offset) / 256 ^ i % 256) (let e : j ≡ r.offset + j - r.offset = omega arith in e)) outside;
+      told = first_at-more fault offsets k r.offset offset_in offset_is so_far.told ∙ none;
+      listed = longer_is ∙ ap (λ xs. xs ++ cond (assumes r.offset) (r.offset ∷ []) []) so_far.listed ∙ sym listed_more;
       few =
-          let size = ap length longer_is ∙ length-append assumed (cond (assumes r.0) (r.0 ∷ []) []) in
+          let size = ap length longer_is ∙ length-append assumed (cond (assumes r.offset) (r.offset ∷ []) []) in
           let few = so_far.few in
-          let one = at_most_one (assumes r.0) in
+          let one = at_most_one (assumes r.offset) in
           omega (arith, size, few, one);
     } where
-      at_most_one : (b : Bool) → length (cond b (r.0 ∷ []) []) ≤ 1
+      at_most_one : (b : Bool) → length (cond b (r.offset ∷ []) []) ≤ 1
       at_most_one true = omega arith
       at_most_one false = omega arith
 
@@ -163,28 +131,36 @@ module _ (assuming : Assuming) (image : List ℕ) (lines : List ResourceLine) (k
     pub bytes : probe ≡ derived_probe image lines
     pub listed : assumed ≡ assumed_registers image lines
 
-  module _ (k : ℕ) (probe assumed : List ℕ) (kind : layout image ≡ layout_number known) (all : length registers ≤ k) (has : HasDerived k probe assumed) where
-    all_offsets : length offsets ≤ k
-    all_offsets = omega (arith, all, length-map {B = ℕ} registers (λ (q : ℕ × ℕ). q.0))
+  module _ (kind : layout image ≡ layout_number known) (table : map pair_of items ≡ address_registers (layout_number known)) where
+    -- the offsets of the definitions' table
+    offsets_are : map (λ (q : ℕ × ℕ). q.0) (address_registers (layout image)) ≡ offsets
+    offsets_are = ap (λ m. map (λ (q : ℕ × ℕ). q.0) (address_registers m)) kind ∙ ap (map (λ (q : ℕ × ℕ). q.0)) (sym table) ∙ map-map (λ (q : ℕ × ℕ). q.0) pair_of (λ (q : Register). q.offset) (λ q. refl) items
 
-    derived_all : probe ≡ derived_probe image lines
-    unfolding derived_probe
-    derived_all =
-        fill_by_all (λ place. derived_byte image lines place (register_at (layout image) place)) probe 256 0 has.full (λ place below.
-        has.bytes place below ∙ ap (λ rs. derived_byte image lines place (found_in rs place)) (take_all k registers all)
-        ∙ ap (λ m. derived_byte image lines place (register_at m place)) (sym kind))
-
-    told_all : no_probe assuming image lines ≡ None
+    -- a register without a read back is the first
+    pub derived_fault : (k : ℕ) (probe assumed : List ℕ) (found : NoProbe) → k < length items → HasDerived k probe assumed → fault (get_or items k none).offset ≡ Some found
+        → no_probe assuming image lines ≡ Some found
     unfolding no_probe
-    told_all =
-        ap (λ m. first_at fault (map (λ (q : ℕ × ℕ). q.0) (address_registers m))) kind
-        ∙ ap (first_at fault) (sym (take_all k offsets all_offsets)) ∙ has.told
+    derived_fault k probe assumed found within so_far faulty =
+        ap (first_at fault) offsets_are
+        ∙ first_at-found fault offsets (k + 1) found (first_at-more fault offsets k (get_or items k none).offset (offset_in k within) (offset_is k within) so_far.told ∙ faulty)
 
-    assumed_all : assumed ≡ assumed_registers image lines
-    unfolding assumed_registers
-    assumed_all =
-        has.listed ∙ ap (filter assumes) (take_all k offsets all_offsets)
-        ∙ ap (λ m. filter assumes (map (λ (q : ℕ × ℕ). q.0) (address_registers m))) (sym kind)
+    module _ (k : ℕ) (probe assumed : List ℕ) (all : length items ≤ k) (has : HasDerived k probe assumed) where
+      all_offsets : take k offsets ≡ offsets
+      all_offsets = take_all k offsets (omega (arith, all, length-map {B = ℕ} items (λ (q : Register). q.offset)))
 
-    pub derived_of_all : IsDerivedOfAll probe assumed
-    derived_of_all = record { told = told_all; bytes = derived_all; listed = assumed_all }
+      derived_all : probe ≡ derived_probe image lines
+      unfolding derived_probe
+      derived_all =
+          all_filled known items (derived_byte image lines) k probe all has.filled
+          ∙ ap (λ m. map (λ place. derived_byte image lines place (register_at m place)) (range_with_len 0 256)) (sym kind)
+
+      told_all : no_probe assuming image lines ≡ None
+      unfolding no_probe
+      told_all = ap (first_at fault) (offsets_are ∙ sym all_offsets) ∙ has.told
+
+      assumed_all : assumed ≡ assumed_registers image lines
+      unfolding assumed_registers
+      assumed_all = has.listed ∙ ap (filter assumes) (all_offsets ∙ sym offsets_are)
+
+      pub derived_of_all : IsDerivedOfAll probe assumed
+      derived_of_all = record { told = told_all; bytes = derived_all; listed = assumed_all }

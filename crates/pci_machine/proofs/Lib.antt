@@ -4,8 +4,8 @@ pub mod Targets
 pub mod Bytes
 pub mod Memory
 pub mod Sizing
-pub mod RegisterOrder
 pub mod Turns
+pub mod Filled
 pub mod Quieting
 pub mod Ends
 pub mod MaskBits

@@ -5,7 +5,7 @@ use Rattle.std.specs.List.{filter, flat_map, list_all}
 use Rattle.std.proofs.lemmas.Bool.{and_parts, leb-true, cases_Bool, eqb-false}
 use Rattle.std.proofs.lemmas.List.{append-nil, length-map}
 use Rattle.pci_spec.specs.Slot.{Slot}
-use Rattle.pci_number.specs.Board.{Nodes, NoMore, Node, RootBus, Board, on_bus, at_root, goes_to, behind_bridges, answers, HasOneAnswer}
+use Rattle.pci_number.specs.Board.{Nodes, NoMore, Node, RootBus, Board, on_bus, at_root, goes_to, answers, HasOneAnswer}
 use Rattle.pci_number.specs.Access.{nodes_behind, with_nodes}
 use Rattle.pci_number.specs.Walk.{is_rising, is_all_found}
 use Rattle.pci_number.specs.Numbered.{without_numbers}
@@ -13,7 +13,6 @@ use Rattle.pci_number.specs.Ready.{IsReady}
 use Rattle.pci_number.specs.Spread.{IsSpread}
 use Rattle.pci_number.proofs.Kept.{same_walk}
 use Rattle.pci_number.proofs.ListedRoots.{with_root}
-use Rattle.pci_number.proofs.Single.{once_on_bus}
 use Rattle.pci_number.proofs.Spread.{once_at_root}
 use Rattle.pci_number.specs.Less.{without_own_numbers, IsLessOf}
 use Rattle.pci_number.specs.Single.{IsApart, IsSingleBeside}
@@ -38,19 +37,10 @@ others_answer board root first second access elsewhere [] = refl
 others_answer board root first second access elsewhere (r ∷ roots) =
     let rest = others_answer board root first second access elsewhere roots in
     elim (cases_Bool (r.number == root)) [
-      | inl own ↦
-          let no_first : goes_to (with_nodes board root first) access.bus (root_of root first) ≡ false = same_goes board root access.bus first (root_of root first) ∙ elsewhere in
-          let no_second : goes_to (with_nodes board root second) access.bus (root_of root second) ≡ false = same_goes board root access.bus second (root_of root second) ∙ elsewhere in
-          rw (own, no_first, no_second) rest
+      | inl own ↦ rw (own, same_goes board root access.bus first (root_of root first) ∙ elsewhere, same_goes board root access.bus second (root_of root second) ∙ elsewhere) rest
       | inr other ↦ elim (cases_Bool (goes_to board access.bus r)) [
-        | inl goes ↦
-            let to_first : goes_to (with_nodes board root first) access.bus r ≡ true = same_goes board root access.bus first r ∙ goes in
-            let to_second : goes_to (with_nodes board root second) access.bus r ≡ true = same_goes board root access.bus second r ∙ goes in
-            rw (other, to_first, to_second) (ap (λ xs. with_root access r ++ xs) rest)
-        | inr none ↦
-            let no_first : goes_to (with_nodes board root first) access.bus r ≡ false = same_goes board root access.bus first r ∙ none in
-            let no_second : goes_to (with_nodes board root second) access.bus r ≡ false = same_goes board root access.bus second r ∙ none in
-            rw (other, no_first, no_second) rest
+        | inl goes ↦ rw (other, same_goes board root access.bus first r ∙ goes, same_goes board root access.bus second r ∙ goes) (ap (λ xs. with_root access r ++ xs) rest)
+        | inr none ↦ rw (other, same_goes board root access.bus first r ∙ none, same_goes board root access.bus second r ∙ none) rest
       ]
     ]
 
@@ -88,19 +78,6 @@ module _ (board : Board) (root last : ℕ) (ready : IsReady board root last) whe
   rising_still : (after : Nodes) → without_numbers after ≡ without_numbers (nodes_behind board root) → is_rising after ≡ true
   rising_still after same = (and_parts (is_rising after) (is_all_found after after) (same_walk after (nodes_behind board root) same ∙ ready.walkable)).0
 
-  pub less_is_single : (after : Nodes) → IsLessOf (nodes_behind board root) after → HasOneAnswer board → HasOneAnswer (with_nodes board root after)
-  less_is_single after less single = single_from after (single_beside single) (λ access goes.
-      let before : length (at_root (root_of root (nodes_behind board root)) access) ≤ 1 = omega (arith, single access, ap (λ b. length (answers b access)) own_nodes, count_at (nodes_behind board root) access goes) in
-      elim (cases_Bool (root == access.bus)) [
-        | inl own ↦ rw own (once_on_bus after (rising_still after less.same) access)
-        | inr other ↦
-            let from = leb-true root access.bus (and_parts (nat_le root access.bus) (list_all (λ o. nat_le o.number root || nat_lt access.bus o.number) board) goes).0 in
-            let apart = eqb-false root access.bus other in
-            let few : length (behind_bridges (nodes_behind board root) access) ≤ 1 = rw other at before in
-            let fewer = less.less access (omega arith) in
-            rw other (omega (arith, few, fewer))
-      ])
-
   -- bridges that are spread over the buses of the root
   pub spread_at_root : (high : ℕ) (after : Nodes) → without_numbers after ≡ without_numbers (nodes_behind board root) → IsSingleBeside board root → IsSpread root high after → HasOneAnswer (with_nodes board root after)
   spread_at_root high after same beside spread = single_from after beside (λ access goes.
@@ -124,3 +101,6 @@ module _ (board : Board) (root last : ℕ) (ready : IsReady board root last) whe
         omega (arith, few, count_at first access goes, count_at second access goes)
     | inr elsewhere ↦ subst (λ xs. length xs ≤ length (answers (with_nodes board root first) access)) (others_answer board root first second access elsewhere board) (omega arith)
   ]
+
+  pub less_is_single : (after : Nodes) → IsLessOf (nodes_behind board root) after → HasOneAnswer board → HasOneAnswer (with_nodes board root after)
+  less_is_single after less single access = omega (arith, single access, ap (λ b. length (answers b access)) own_nodes, fewer_answers (nodes_behind board root) after less access)

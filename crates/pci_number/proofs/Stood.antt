@@ -35,3 +35,7 @@ ends_then P old mid new before ends = (ends.0, adds_then P old mid ends.0 before
 pub ended : {T E : Type 0} → (P : Board → Type 0) (r : Result T E) (old new : List Board) → IsErr r → Ends P old new → AddsOrEnds P r old new
 ended P (Ok x) old new err ends = cc err
 ended P (Err e) old new err ends = ends
+
+pub outcome_then : {T E : Type 0} → (P : Board → Type 0) (r : Result T E) (old mid new : List Board) → Adds P old mid → AddsOrEnds P r mid new → AddsOrEnds P r old new
+outcome_then P (Ok x) old mid new before after = adds_then P old mid new before after
+outcome_then P (Err e) old mid new before after = ends_then P old mid new before after

@@ -1,6 +1,8 @@
+use Rattle.std.proofs.Common.{Ok, Err}
+use Rattle.std.proofs.lemmas.Result.{err_from_is_err_and}
 use Rattle.pci_number.proofs.Few.{few_at_hush, few_at_walk}
 use Rattle.pci_number.proofs.Roots.{kept_at_hush, kept_at_walk, kept_at_end, answer_of}
-use Rattle.pci_number.proofs.Throughout.{throughout_hush, throughout_left, throughout_done, end_single}
+use Rattle.pci_number.proofs.Throughout.{throughout_hush, throughout_walk, end_single}
 use Rattle.pci_number.proofs.number.number.Goals as goal
 
 pub returns-in_err-hush-clause-kept : goal.returns-in_err-hush-clause-kept
@@ -46,21 +48,23 @@ returns-clause-few g c =
 pub returns-in_err-hush-clause-single : goal.returns-in_err-hush-clause-single
 returns-in_err-hush-clause-single g c =
     let history = g.P.BoardPort.history in
-    throughout_hush (g.P.BoardPort.board c.args.port.now) c.args.root c.args.last (history c.args.port.now) (history c.hush.new.port) c.from_residual.result c.from_residual.ensures.0 c.in_err-hush.ensures.stood
+    let p = err_from_is_err_and c.from_residual.result c.from_residual.ensures.1 in
+    rw p.1 (throughout_hush (g.P.BoardPort.board c.args.port.now) c.args.root c.args.last (history c.args.port.now) (history c.hush.new.port) p.0 c.in_err-hush.ensures.stood)
 
 pub returns-in_err-walk-clause-single : goal.returns-in_err-walk-clause-single
 returns-in_err-walk-clause-single g c =
     let board = g.P.BoardPort.board in
     let history = g.P.BoardPort.history in
-    throughout_left (board c.args.port.now) (board c.hush.new.port) c.args.root c.args.last c.in_ok-hush.field-0 (history c.args.port.now) (history c.hush.new.port) (history c.number_bus.new.port)
-    c.in_ok-hush.ensures.hushed c.in_ok-hush.ensures.stood c.from_residual-in_err-walk.result c.from_residual-in_err-walk.ensures.0 c.in_err-walk.ensures.stood
+    let p = err_from_is_err_and c.from_residual-in_err-walk.result c.from_residual-in_err-walk.ensures.1 in
+    rw p.1 (throughout_walk c.args.spare (board c.args.port.now) (board c.hush.new.port) c.args.root c.args.last c.in_ok-hush.field-0 (history c.args.port.now) (history c.hush.new.port) (history c.number_bus.new.port)
+    (Err p.0) c.in_ok-hush.ensures.hushed c.in_ok-hush.ensures.stood c.in_err-walk.ensures.stood)
 
 pub returns-clause-single : goal.returns-clause-single
 returns-clause-single g c =
     let board = g.P.BoardPort.board in
     let history = g.P.BoardPort.history in
-    throughout_done (board c.args.port.now) (board c.hush.new.port) c.args.root c.args.last c.in_ok-hush.field-0 (history c.args.port.now) (history c.hush.new.port) (history c.number_bus.new.port)
-    c.in_ok-hush.ensures.hushed c.in_ok-hush.ensures.stood c.answer.result c.in_ok-walk.ensures.stood
+    throughout_walk c.args.spare (board c.args.port.now) (board c.hush.new.port) c.args.root c.args.last c.in_ok-hush.field-0 (history c.args.port.now) (history c.hush.new.port) (history c.number_bus.new.port)
+    (Ok c.answer.result) c.in_ok-hush.ensures.hushed c.in_ok-hush.ensures.stood c.in_ok-walk.ensures.stood
 
 pub returns-clause-end : goal.returns-clause-end
 returns-clause-end g c =
