@@ -38,6 +38,8 @@ pub mod DecimalDigits
 pub mod Ranges
 pub mod Keys
 pub mod Marks
+pub mod Badges
+pub mod BadgeWords
 pub mod Examples
 pub mod SideBySide
 pub mod Seated

@@ -8,6 +8,8 @@ pub mod Headings
 pub mod Boxes
 pub mod Canvases
 pub mod Marks
+pub mod Ranks
+pub mod Badges
 pub mod Said
 pub mod Looks
 pub mod Maps

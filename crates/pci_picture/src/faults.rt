@@ -2,9 +2,12 @@
 ghost use Rattle.std.specs.Prelude.{◌≤◌, ◌<◌, length};
 ghost use Rattle.std.specs.List.{All};
 ghost use Rattle.std.specs.List.Sorted.{IsNonDecreasingBy};
+ghost use Rattle.pci_picture.specs.Ranks.{rank_of_badge};
+ghost use Rattle.pci_picture.specs.declared.badge.Badge.{Badge};
 ghost use Rattle.pci_picture.specs.declared.faults.Fault.{Fault};
 ghost use Rattle.pci_picture.specs.declared.faults.Naming.{Naming};
 
+use super::badge::{Badge, first_slot};
 use super::memory::OutOfMemory;
 use super::reading::{key_at, slot_number, slot_of, stripped, word, word_count};
 use std::alloc::Allocator;
@@ -102,16 +105,6 @@ pub struct Naming {
     pub fault: usize,
 }
 
-/// What the tree shows of a fault beside a function.
-#[derive(Clone, Copy, PartialEq, Eq)]
-pub struct Badge {
-    /// The number of the function's slot.
-    pub slot: u32,
-    pub number: u8,
-    /// Whether the fault names it as the bridge.
-    pub is_bridge: bool,
-}
-
 /// All faults.
 #[derive(Drop)]
 pub struct Faults<'a, A: Allocator> {
@@ -119,8 +112,10 @@ pub struct Faults<'a, A: Allocator> {
     pub faults: Vec<Fault, A>,
     /// By rising key, those of a key by rising fault.
     pub namings: Vec<Naming, A>,
-    /// By rising slot.
+    /// By rising slot, those of a slot by rising number.
     pub badges: Vec<Badge, A>,
+    ghost small: { All (λ (badge : Badge). badge.number < 256) badges.items },
+    ghost ranked: { IsNonDecreasingBy (λ (badge : Badge). rank_of_badge badge) badges.items },
     ghost sorted: { IsNonDecreasingBy (λ (naming : Naming). naming.key) namings.items },
     ghost within: { All (λ (fault : Fault). (fault.begin < fault.end) × (fault.end ≤ length lines.items)) faults.items },
 }
@@ -134,24 +129,18 @@ struct Reader<'a, A: Allocator> {
     badges: Vec<Badge, A>,
 }
 
-/// The first slot of a line.
-fn first_slot(line: &[u8]) -> Option<u32> {
-    for one in line.split(|byte| *byte == b' ') {
-        if let Some(slot) = slot_number(one) {
-            return Some(slot);
-        }
-    }
-    None
-}
-
 impl<'a, A: Allocator + Copy> Reader<'a, A> {
-    ghost use Rattle.std.specs.Prelude.{◌≡◌, ◌++◌, Some, List, OnOk};
+    ghost use Rattle.std.specs.Prelude.{◌≡◌, ◌++◌, ◌∷◌, ◌-◌, [], true, false, length, map, Some, List, OnOk};
+    ghost use Rattle.pci_picture.specs.Badges.{badge_of, badges_begun, badges_of_fault, badges_of_line, bridge_slots, slots_of_keys};
+    ghost use Rattle.pci_picture.specs.Lines.{nth_word, words_in_line};
     ghost use Rattle.pci_picture.specs.Marks.{AddsFault, fault_numbers, keys_told, namings_of, number_before_blank};
     ghost use Rattle.pci_picture.specs.Said.{AreLinesOf, FaultSaid, with_fault_line, with_reason};
 
     /// Adds a fault, by its first line.
     fn begin(&mut self, number: u8, line: &'a [u8]) -> Result<(), OutOfMemory>
         ensures adds { OnOk result (AddsFault (Some number) line.entry.now self.old self.new) }
+        ensures shows { OnOk result
+            (self.new.badges.items ≡ self.old.badges.items ++ badges_begun (Some number) line.entry.now) }
         ensures said { OnOk result ((said : List FaultSaid) → AreLinesOf said self.old
             → AreLinesOf (with_fault_line said line.entry.now (Some number)) self.new) }
     {
@@ -174,6 +163,7 @@ impl<'a, A: Allocator + Copy> Reader<'a, A> {
         ensures named { OnOk result (self.new.namings.items ≡ self.old.namings.items ++ namings_of fault (keys_told keys)) }
         ensures same { self.new.faults ≡ self.old.faults }
         ensures lines { self.new.lines ≡ self.old.lines }
+        ensures badges { self.new.badges ≡ self.old.badges }
     {
         match keys {
             Keys::None => {}
@@ -191,13 +181,39 @@ impl<'a, A: Allocator + Copy> Reader<'a, A> {
         ensures faults { self.new.faults ≡ self.old.faults }
         ensures namings { self.new.namings ≡ self.old.namings }
         ensures lines { self.new.lines ≡ self.old.lines }
+        ensures shows { OnOk result (self.new.badges.items
+            ≡ self.old.badges.items ++ badges_of_fault number (keys_told keys) (words_in_line line.now)) }
     {
-        if number == 60 {
-            let last = word(line, word_count(line).saturating_sub(1));
-            if let Some(slot) = slot_number(last) {
-                self.badge(slot, number, true)?;
-            }
+        self.mark_bridge(number, line)?;
+        self.mark_functions(number, keys, line)
+    }
+
+    /// Adds what the tree shows of a fault beside the bridge that it names.
+    fn mark_bridge(&mut self, number: u8, line: &[u8]) -> Result<(), OutOfMemory>
+        ensures faults { self.new.faults ≡ self.old.faults }
+        ensures namings { self.new.namings ≡ self.old.namings }
+        ensures lines { self.new.lines ≡ self.old.lines }
+        ensures shows { OnOk result (self.new.badges.items ≡ self.old.badges.items
+            ++ map (badge_of number true) (bridge_slots number
+            (nth_word (words_in_line line.now) (length (words_in_line line.now) - 1)))) }
+    {
+        if number != 60 {
+            return Ok(());
         }
+        match slot_number(word(line, word_count(line).saturating_sub(1))) {
+            Some(slot) => self.badge(slot, number, true),
+            None => Ok(()),
+        }
+    }
+
+    /// Adds what the tree shows of a fault beside the functions of its regions, or else beside the first one of its line.
+    fn mark_functions(&mut self, number: u8, keys: Keys, line: &[u8]) -> Result<(), OutOfMemory>
+        ensures faults { self.new.faults ≡ self.old.faults }
+        ensures namings { self.new.namings ≡ self.old.namings }
+        ensures lines { self.new.lines ≡ self.old.lines }
+        ensures shows { OnOk result (self.new.badges.items ≡ self.old.badges.items
+            ++ map (badge_of number false) (slots_of_keys (keys_told keys) (words_in_line line.now))) }
+    {
         match keys {
             Keys::One(key) => self.badge(slot_of(key), number, false),
             Keys::Two(one, other) => {
@@ -216,6 +232,8 @@ impl<'a, A: Allocator + Copy> Reader<'a, A> {
         ensures faults { self.new.faults ≡ self.old.faults }
         ensures namings { self.new.namings ≡ self.old.namings }
         ensures lines { self.new.lines ≡ self.old.lines }
+        ensures shows { OnOk result
+            (self.new.badges.items ≡ self.old.badges.items ++ badge_of number is_bridge slot ∷ []) }
     {
         self.badges.push(Badge {
             slot,
@@ -229,6 +247,7 @@ impl<'a, A: Allocator + Copy> Reader<'a, A> {
     fn reason(&mut self, line: &'a [u8]) -> Result<(), OutOfMemory>
         ensures faults { fault_numbers self.new.faults.items ≡ fault_numbers self.old.faults.items }
         ensures namings { self.new.namings ≡ self.old.namings }
+        ensures badges { self.new.badges ≡ self.old.badges }
         ensures said { OnOk result ((said : List FaultSaid) → AreLinesOf said self.old
             → AreLinesOf (with_reason said line.entry.now) self.new) }
     {
@@ -242,6 +261,8 @@ impl<'a, A: Allocator + Copy> Reader<'a, A> {
     /// Reads a line: the first one of a fault, a further one, or none of a fault.
     fn take(&mut self, line: &'a [u8]) -> Result<(), OutOfMemory>
         ensures adds { OnOk result (AddsFault (number_before_blank line.entry.now) line.entry.now self.old self.new) }
+        ensures shows { OnOk result
+            (self.new.badges.items ≡ self.old.badges.items ++ badges_of_line line.entry.now) }
         ensures said { OnOk result ((said : List FaultSaid) → AreLinesOf said self.old
             → AreLinesOf (with_fault_line said line.entry.now (number_before_blank line.entry.now)) self.new) }
     {
@@ -258,6 +279,7 @@ impl<'a, A: Allocator + Copy> Reader<'a, A> {
 impl<'a, A: Allocator + Copy> Faults<'a, A> {
     ghost use Rattle.std.specs.Prelude.{◌≡◌, ◌==◌, [], map, slice_index_or, IfOk};
     ghost use Rattle.std.specs.List.{filter, slice_get};
+    ghost use Rattle.pci_picture.specs.Badges.{AreBadgesOf, badges_beside};
     ghost use Rattle.pci_picture.specs.Marks.{AreFaultsOf, has_naming, has_one_of};
     ghost use Rattle.pci_picture.specs.Said.{AreSaidOf};
 
@@ -265,6 +287,7 @@ impl<'a, A: Allocator + Copy> Faults<'a, A> {
     pub fn read(alloc: A, text: &'a str) -> Result<Faults<'a, A>, OutOfMemory>
         ensures named { IfOk result (λ faults. AreFaultsOf text.entry.now faults) }
         ensures said { IfOk result (λ faults. AreSaidOf text.entry.now faults) }
+        ensures shown { IfOk result (λ faults. AreBadgesOf text.entry.now faults) }
     {
         let mut reader = Reader {
             lines: Vec::new(alloc),
@@ -277,9 +300,7 @@ impl<'a, A: Allocator + Copy> Faults<'a, A> {
         }
         // they were added by rising fault, and the sort is stable
         reader.namings.sort_by_key(|naming| naming.key)?;
-        reader
-            .badges
-            .sort_by_key(|badge| (badge.slot, badge.number, badge.is_bridge))?;
+        reader.badges.sort_by_key(|badge| badge.rank())?;
         Ok(Faults {
             lines: reader.lines,
             faults: reader.faults,
@@ -308,7 +329,9 @@ impl<'a, A: Allocator + Copy> Faults<'a, A> {
     }
 
     /// What the tree shows beside a function.
-    pub fn beside(&self, slot: u32) -> &[Badge] {
+    pub fn beside(&self, slot: u32) -> &[Badge]
+        ensures { result.now ≡ badges_beside self.now slot }
+    {
         let begin = self.badges.partition_point(|badge| badge.slot < slot);
         let end = self.badges.partition_point(|badge| badge.slot <= slot);
         self.badges.as_slice().get(begin..end).unwrap_or(&[])

@@ -5,6 +5,7 @@
 //! ```
 #![tactic(auto)]
 
+pub mod badge;
 pub mod board;
 pub mod canvas;
 pub mod elements;

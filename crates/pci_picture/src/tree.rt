@@ -1,7 +1,10 @@
 //! The tree of buses.
-ghost use Rattle.std.specs.Prelude.{[], IfOk, OnOk};
+ghost use Rattle.std.specs.Prelude.{◌≡◌, ◌++◌, [], IfOk, OnOk};
+ghost use Rattle.pci_picture.specs.Badges.{ShowBadges, badges_beside};
+ghost use Rattle.pci_picture.specs.Ranks.{badge_word};
 ghost use Rattle.pci_picture.specs.Canvases.{AddsToCanvas};
 
+use super::badge::Badge;
 use super::board::Board;
 use super::canvas::{Canvas, Label, Shape};
 use super::elements::Frame;
@@ -37,27 +40,39 @@ fn on_bus<A: Allocator + Copy>(board: &Board<'_, A>, bus: u8, depth: u64) -> Res
     Rest { next, end, depth }
 }
 
-/// Appends the numbers of the faults that the tree shows beside a function.
-fn put_badges<A: Allocator + Copy>(
-    words: &mut Words<A>,
+/// Appends the number of a fault in two digits, and whether it names the function as the bridge.
+fn put_badge<A: Allocator + Copy>(words: &mut Words<A>, badge: Badge) -> Result<(), OutOfMemory>
+    ensures { OnOk result (words.new.bytes.items ≡ words.old.bytes.items ++ badge_word badge) }
+{
+    words.put(&[b'0' + badge.number / 10 % 10, b'0' + badge.number % 10])?;
+    if badge.is_bridge {
+        words.put(b" bridge")?;
+    }
+    Ok(())
+}
+
+/// The numbers of the faults that the tree shows beside a function.
+fn badges_of<A: Allocator + Copy>(
+    alloc: A,
     board: &Board<'_, A>,
     function: &Function<'_>,
-) -> Result<(), OutOfMemory> {
+) -> Result<Words<A>, OutOfMemory>
+    ensures { IfOk result (λ words. ShowBadges
+        (badges_beside board.entry.now.faults function.entry.now.number) words.bytes.items) }
+{
+    let mut words = Words::new(alloc);
     let mut before = None;
     for badge in board.faults.beside(function.number) {
-        if before == Some(*badge) {
+        if before == Some(badge.rank()) {
             continue;
         }
         if before.is_some() {
             words.put(b" ")?;
         }
-        words.put(&[b'0' + badge.number / 10 % 10, b'0' + badge.number % 10])?;
-        if badge.is_bridge {
-            words.put(b" bridge")?;
-        }
-        before = Some(*badge);
+        put_badge(&mut words, *badge)?;
+        before = Some(badge.rank());
     }
-    Ok(())
+    Ok(words)
 }
 
 /// Draws the box of a function. Its class is `window` for a bridge, `bar` for a function that decodes, else `off`.
@@ -117,8 +132,7 @@ fn draw_row<A: Allocator + Copy>(
     ensures { OnOk result (AddsToCanvas [] canvas.old canvas.new) }
 {
     let x = LEFT + STEP * depth.min(DEEPEST);
-    let mut badges = Words::new(alloc);
-    put_badges(&mut badges, board, function)?;
+    let badges = badges_of(alloc, board, function)?;
     let taken = (badges.bytes.len() as u64).saturating_mul(7);
     draw_function(canvas, function, x, y.saturating_add(2))?;
     let class: &[u8] = if !badges.bytes.is_empty() {

@@ -1,8 +1,10 @@
-use Rattle.std.proofs.Common.{List, ℕ, Bor, refl, lit<, rules}
+use Rattle.std.proofs.Common.{List, ℕ, Bor, map, refl, lit<, rules}
 use Rattle.std.proofs.lemmas.Iterator.Consumers.{YieldsList-end}
 use Rattle.std.proofs.lemmas.Iterator.Splits.{YieldsList-from_str_split}
 use Rattle.std.proofs.lemmas.List.Sorted.{IsNonDecreasingBy-from_sort, answers_always}
+use Rattle.pci_picture.specs.Ranks.{rank_of_badge}
 use Rattle.pci_picture.specs.declared.faults.Faults.{Faults}
+use Rattle.pci_picture.proofs.Badges.{badges_more, badges_whole, text_small}
 use Rattle.pci_picture.proofs.Marks.{none_read, one_more, whole_text}
 use Rattle.pci_picture.proofs.ReadSaid.{faults_within, lines_more, no_lines, text_said}
 use Rattle.pci_picture.proofs.faults.Faults.read.Goals as goal
@@ -11,6 +13,7 @@ pub loop-line-init : goal.loop-line-init
 loop-line-init g c = record {
   named = none_read _ _ c.new-3.ensures.items;
   said = no_lines _ c.new.ensures.items c.new-2.ensures.items c.new-3.ensures.items;
+  shown = c.new-4.ensures.items;
 }
 
 pub loop-line-preserved : goal.loop-line-preserved
@@ -23,6 +26,9 @@ loop-line-preserved g c =
       said =
           lines_more now c.loop-line.yielded c.in-Some.line c.as_bytes.result.now c.loop-line.reader c.take.new.self
           c.as_bytes.ensures.value c.loop-line.invariant.said c.in_ok-take.ensures.adds c.in_ok-take.ensures.said;
+      shown =
+          badges_more now c.loop-line.yielded c.in-Some.line c.as_bytes.result.now c.loop-line.reader.badges.items c.take.new.self.badges.items
+          c.as_bytes.ensures.value c.loop-line.invariant.shown c.in_ok-take.ensures.shows;
     }
 
 pub returns : goal.returns
@@ -35,7 +41,11 @@ returns g c =
       lines = reader.lines;
       faults = reader.faults;
       namings = c.sort_by_key.new.self;
-      badges = reader.badges;
+      badges = c.sort_by_key-2.new.self;
+      small = text_small (map now c.loop-line.yielded) reader.badges.items _ c.loop-line.invariant.shown c.in_ok-sort_by_key-2.ensures.permutation;
+      ranked =
+          IsNonDecreasingBy-from_sort (λ b. rank_of_badge b) c.sort_by_key-2.new.self.items
+          (c.in_ok-sort_by_key-2.ensures.sorted (λ b. rank_of_badge b) (answers_always _ _ _ (λ f a r h k. search rules)));
       sorted =
           IsNonDecreasingBy-from_sort (λ n. n.key) c.sort_by_key.new.self.items
           (c.in_ok-sort_by_key.ensures.sorted (λ n. n.key) (answers_always _ _ _ (λ f a r h k. search rules)));
@@ -48,10 +58,19 @@ returns g c =
       said =
           text_said now c.loop-line.yielded c.args.text.now reader faults whole c.loop-line.invariant.said refl refl
           (c.in_ok-sort_by_key.ensures.stable (λ n. n.key) (answers_always _ _ _ (λ f a r h k. search rules)));
+      shown =
+          badges_whole now c.loop-line.yielded c.args.text.now c.loop-line.reader.badges.items _ whole
+          c.loop-line.invariant.shown c.in_ok-sort_by_key-2.ensures.permutation;
     }
 
 pub invariant_of-result : goal.invariant_of-result
 invariant_of-result g c = record {
+  small =
+      text_small (map (λ (x : Bor (List ℕ)). x.now) c.loop-line.yielded) c.loop-line.reader.badges.items _ c.loop-line.invariant.shown
+      c.in_ok-sort_by_key-2.ensures.permutation;
+  ranked =
+      IsNonDecreasingBy-from_sort (λ b. rank_of_badge b) c.sort_by_key-2.new.self.items
+      (c.in_ok-sort_by_key-2.ensures.sorted (λ b. rank_of_badge b) (answers_always _ _ _ (λ f a r h k. search rules)));
   sorted =
       IsNonDecreasingBy-from_sort (λ n. n.key) c.sort_by_key.new.self.items
       (c.in_ok-sort_by_key.ensures.sorted (λ n. n.key) (answers_always _ _ _ (λ f a r h k. search rules)));
