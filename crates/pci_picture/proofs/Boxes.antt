@@ -86,6 +86,8 @@ added_box x y width height class anchor title before after empty element none ma
             (spots_append spots (titled_spot (titled x y width height class title)) (string_bytes before.boxes) _ drawn.in_boxes (box_spots x y width height class anchor title));
         in_words = subst (HasTitles []) (sym words) drawn.in_words;
       };
+  bytes = [];
+  writes = words ∙ sym (append-nil (string_bytes before.words));
 }
 
 -- an element without a title among the boxes
@@ -101,6 +103,8 @@ added_bare made bare before after empty element none is boxes words = record {
             (spots_append spots [] (string_bytes before.boxes) made drawn.in_boxes (bare_spots made bare));
         in_words = subst (HasTitles []) (sym words) drawn.in_words;
       };
+  bytes = [];
+  writes = words ∙ sym (append-nil (string_bytes before.words));
 }
 
 -- an element without a title among the words
@@ -116,12 +120,16 @@ added_words made bare before after empty element none is boxes words = record {
         in_words = subst (HasTitles []) (sym (words ∙ ap (λ l. string_bytes before.words ++ l) e))
             (titles_append [] [] (string_bytes before.words) made drawn.in_words bare);
       };
+  bytes = element;
+  writes = words;
 }
 
 -- nothing is added
 pub unchanged : {A : Type 0} (canvas : Canvas A) → AddsToCanvas [] canvas canvas
 unchanged canvas = record {
   behind = λ spots drawn. subst (λ l. HasDrawn l canvas) (sym (append-nil spots)) drawn;
+  bytes = [];
+  writes = sym (append-nil (string_bytes canvas.words));
 }
 
 -- one after the other
@@ -130,6 +138,8 @@ pub then_adds : {A : Type 0} (first second : List BoxSpot) (before between after
 then_adds first second before between after one other = record {
   behind = λ spots drawn.
       subst (λ l. HasDrawn l after) (append_assoc spots first second) (other.behind (spots ++ first) (one.behind spots drawn));
+  bytes = one.bytes ++ other.bytes;
+  writes = other.writes ∙ ap (λ l. l ++ other.bytes) one.writes ∙ append_assoc (string_bytes before.words) one.bytes other.bytes;
 }
 
 -- nothing, and then some; some, and then nothing

@@ -40,6 +40,7 @@ pub mod Keys
 pub mod Marks
 pub mod Badges
 pub mod BadgeWords
+pub mod Rows
 pub mod Examples
 pub mod SideBySide
 pub mod Seated

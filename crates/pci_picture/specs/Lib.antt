@@ -1,5 +1,6 @@
 pub mod Xml
 pub mod Elements
+pub mod Labels
 pub mod Whole
 pub mod Stacked
 pub mod Lines
@@ -27,3 +28,4 @@ pub mod Sides
 pub mod Nested
 pub mod Members
 pub mod Siblings
+pub mod Rows

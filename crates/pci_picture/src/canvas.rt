@@ -40,7 +40,8 @@ pub struct Canvas<A: Allocator> {
 }
 
 impl<A: Allocator + Copy> Canvas<A> {
-    ghost use Rattle.pci_picture.specs.Canvases.{HasDrawn, AddsToCanvas};
+    ghost use Rattle.pci_picture.specs.Canvases.{HasDrawn, AddsToCanvas, WritesBytes};
+    ghost use Rattle.pci_picture.specs.Labels.{cut_words, label_text};
 
     /// A canvas with no element.
     pub fn new(alloc: A) -> Canvas<A>
@@ -79,8 +80,9 @@ impl<A: Allocator + Copy> Canvas<A> {
 
     /// Draws a box with its title.
     pub fn add_box(&mut self, shape: Shape<'_>, title: &[u8]) -> Result<(), OutOfMemory>
-        ensures { OnOk result (AddsToCanvas (titled_spot (titled shape.entry.at.x shape.entry.at.y shape.entry.at.width
+        ensures adds { OnOk result (AddsToCanvas (titled_spot (titled shape.entry.at.x shape.entry.at.y shape.entry.at.width
             shape.entry.at.height shape.entry.class.now title.now)) self.old self.new) }
+        ensures writes { OnOk result (string_bytes self.new.words ≡ string_bytes self.old.words) }
     {
         self.element.clear();
         push_box(
@@ -137,7 +139,9 @@ impl<A: Allocator + Copy> Canvas<A> {
 
     /// Writes a line of words, where there are any.
     pub fn add_words(&mut self, label: Label<'_>, words: &[u8]) -> Result<(), OutOfMemory>
-        ensures { OnOk result (AddsToCanvas [] self.old self.new) }
+        ensures adds { OnOk result (AddsToCanvas [] self.old self.new) }
+        ensures writes { OnOk result (WritesBytes (label_text label.entry.x label.entry.y label.entry.class.now words.entry.now)
+            self.old self.new) }
     {
         if words.is_empty() {
             return Ok(());
@@ -154,7 +158,9 @@ impl<A: Allocator + Copy> Canvas<A> {
         words: &mut Words<A>,
         width: u64,
     ) -> Result<(), OutOfMemory>
-        ensures { OnOk result (AddsToCanvas [] self.old self.new) }
+        ensures adds { OnOk result (AddsToCanvas [] self.old self.new) }
+        ensures writes { OnOk result (WritesBytes (label_text label.entry.x label.entry.y label.entry.class.now
+            (cut_words width words.old.bytes.items)) self.old self.new) }
     {
         words.cut(width)?;
         self.add_words(label, words.bytes.as_slice())

@@ -1,8 +1,9 @@
 //! The tree of buses.
-ghost use Rattle.std.specs.Prelude.{◌≡◌, ◌++◌, [], IfOk, OnOk};
+ghost use Rattle.std.specs.Prelude.{◌≡◌, ◌++◌, ◌∷◌, [], ℕ, List, IfOk, OnOk};
 ghost use Rattle.pci_picture.specs.Badges.{ShowBadges, badges_beside};
 ghost use Rattle.pci_picture.specs.Ranks.{badge_word};
-ghost use Rattle.pci_picture.specs.Canvases.{AddsToCanvas};
+ghost use Rattle.pci_picture.specs.Canvases.{AddsToCanvas, WritesBytes};
+ghost use Rattle.pci_picture.specs.Rows.{WritesRow};
 
 use super::badge::Badge;
 use super::board::Board;
@@ -82,7 +83,8 @@ fn draw_function<A: Allocator + Copy>(
     x: u64,
     y: u64,
 ) -> Result<(), OutOfMemory>
-    ensures { OnOk result (AddsToCanvas [] canvas.old canvas.new) }
+    ensures adds { OnOk result (AddsToCanvas [] canvas.old canvas.new) }
+    ensures writes { OnOk result (WritesBytes [] canvas.old canvas.new) }
 {
     let class: &[u8] = match function.buses {
         Some(_) => b"window",
@@ -108,7 +110,9 @@ fn words_of<A: Allocator + Copy>(
     alloc: A,
     board: &Board<'_, A>,
     function: &Function<'_>,
-) -> Result<Words<A>, OutOfMemory> {
+) -> Result<Words<A>, OutOfMemory>
+    ensures { IfOk result (λ words. (more : List ℕ) × (words.bytes.items ≡ function.entry.now.slot.now ++ 32 ∷ more)) }
+{
     let mut words = Words::of(alloc, function.slot)?;
     words.put(b" ")?;
     if function.buses.is_some() {
@@ -129,7 +133,8 @@ fn draw_row<A: Allocator + Copy>(
     depth: u64,
     y: u64,
 ) -> Result<(), OutOfMemory>
-    ensures { OnOk result (AddsToCanvas [] canvas.old canvas.new) }
+    ensures adds { OnOk result (AddsToCanvas [] canvas.old canvas.new) }
+    ensures row { OnOk result (WritesRow board.entry.now.faults.badges.items function.entry.now canvas.old canvas.new) }
 {
     let x = LEFT + STEP * depth.min(DEEPEST);
     let badges = badges_of(alloc, board, function)?;

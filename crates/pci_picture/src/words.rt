@@ -1,6 +1,7 @@
 //! A line of words that is being written.
 ghost use Rattle.std.specs.Prelude.{◌≡◌, ◌++◌, [], IfOk, OnOk};
 ghost use Rattle.std.specs.List.{flat_map};
+ghost use Rattle.pci_picture.specs.Labels.{cut_words};
 ghost use Rattle.pci_picture.specs.Said.{AddsMore};
 
 use super::function::{Buses, Function};
@@ -144,7 +145,10 @@ impl<A: Allocator + Copy> Words<A> {
     }
 
     /// Cuts the words so that they fit in a width. Words that are cut end in two dots.
-    pub fn cut(&mut self, width: u64) -> Result<(), OutOfMemory> {
+    #[tactic(auto, unfolding(crate::specs::Labels::cut_words))]
+    pub fn cut(&mut self, width: u64) -> Result<(), OutOfMemory>
+        ensures { OnOk result (self.new.bytes.items ≡ cut_words width self.old.bytes.items) }
+    {
         let inside = width.saturating_sub(3);
         let room = (inside / 6).saturating_sub(inside / 1000);
         if (self.bytes.len() as u64) <= room {

@@ -19,9 +19,9 @@ returns g c =
     (ap titled_line c.as_slice-lines.ensures.value ∙ c.in_ok-title.ensures.line) refl
     (subst (λ (k : ℕ). IsTitleOf (said_by faults k) region.line.now c.as_slice-lines.result.now) region.is_of_line.key_is
     (subst (λ (t : List ℕ). IsTitleOf (said_by faults region.key) region.line.now t) (sym c.as_slice-lines.ensures.value) c.in_ok-title.ensures.said))
-    c.in_ok-add_box.ensures in
+    c.in_ok-add_box.ensures.adds in
     on_ok_weaker c.add_cut.result
     (λ kept. keeps_some (IsBoxOf (codes "off") said region.line.now _ c.args.site.now.y c.args.site.now.width 13) _ _ _
     (subst (λ (x : ℕ). AddsSome (IsBoxOf (codes "off") said region.line.now x c.args.site.now.y c.args.site.now.width 13) c.args.canvas.now c.add_box.new.self)
     c.saturating_add-x.ensures box) kept)
-    c.add_cut.ensures
+    c.add_cut.ensures.adds

@@ -19,4 +19,4 @@ returns g c =
     (c.as_bytes.ensures.value ∙ c.class_of-class.ensures)
     (subst (λ (k : ℕ). IsTitleOf (said_by faults k) region.line.now c.as_slice-lines.result.now) region.is_of_line.key_is
     (subst (λ (t : List ℕ). IsTitleOf (said_by faults region.key) region.line.now t) (sym c.as_slice-lines.ensures.value) c.in_ok-title.ensures.said)))
-    c.add_box.ensures
+    c.add_box.ensures.adds

@@ -12,8 +12,8 @@ keep_box-requires g c =
     made (string_bytes c.clear.new.self) (string_bytes c.push_box.new.text) (box_text c.args.shape.at.x c.args.shape.at.y c.args.shape.at.width c.args.shape.at.height c.args.shape.class.now c.args.shape.anchor.now c.args.title.now)
     (box_content c.args.shape.at.x c.args.shape.at.y c.args.shape.at.width c.args.shape.at.height c.args.shape.class.now c.args.shape.anchor.now c.args.title.now (omega arith) (omega arith) (omega arith) (omega arith)) c.clear.ensures.bytes c.in_ok-push_box.ensures
 
-pub returns : goal.returns
-returns g c =
+pub returns-clause-adds : goal.returns-clause-adds
+returns-clause-adds g c =
     on_ok_weaker c.keep_box.result
     (λ kept. added_box c.args.shape.at.x c.args.shape.at.y c.args.shape.at.width c.args.shape.at.height c.args.shape.class.now c.args.shape.anchor.now c.args.title.now
     c.args.self.now c.keep_box.new.self (string_bytes c.clear.new.self) (string_bytes c.push_box.new.text) c.clear.ensures.bytes c.in_ok-push_box.ensures kept.0 kept.1)

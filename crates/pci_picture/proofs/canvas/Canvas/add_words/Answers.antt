@@ -12,12 +12,12 @@ keep_words-requires g c =
     made (string_bytes c.clear.new.self) (string_bytes c.push_words.new.text) (words_text c.args.label.x c.args.label.y c.args.label.class.now c.args.words.now)
     (words_content c.args.label.x c.args.label.y c.args.label.class.now c.args.words.now (omega arith) (omega arith)) c.clear.ensures.bytes c.in_ok-push_words.ensures
 
-pub returns : goal.returns
-returns g c =
+pub returns-clause-adds : goal.returns-clause-adds
+returns-clause-adds g c =
     on_ok_weaker c.keep_words.result
     (λ kept. added_words (words_text c.args.label.x c.args.label.y c.args.label.class.now c.args.words.now) (words_titles c.args.label.x c.args.label.y c.args.label.class.now c.args.words.now)
     c.args.self.now c.keep_words.new.self (string_bytes c.clear.new.self) (string_bytes c.push_words.new.text) c.clear.ensures.bytes c.in_ok-push_words.ensures kept.1 kept.0)
     c.keep_words.ensures
 
-pub returns-then-is_empty : goal.returns-then-is_empty
-returns-then-is_empty g c = unchanged c.args.self.now
+pub returns-then-is_empty-clause-adds : goal.returns-then-is_empty-clause-adds
+returns-then-is_empty-clause-adds g c = unchanged c.args.self.now
