@@ -41,6 +41,7 @@ pub mod Marks
 pub mod Badges
 pub mod BadgeWords
 pub mod Rows
+pub mod FaultLines
 pub mod Examples
 pub mod SideBySide
 pub mod Seated

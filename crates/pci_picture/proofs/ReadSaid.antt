@@ -7,13 +7,14 @@ use Rattle.std.specs.Ordering.{is_lt, nat_cmp}
 use Rattle.std.proofs.Math.Seq.{drop-append_seam, take-append_seam}
 use Rattle.std.proofs.lemmas.Bool.Decides.{nat_tests}
 use Rattle.std.proofs.lemmas.Grind.{flat_map-append}
-use Rattle.std.proofs.lemmas.List.{append-nil, append_assoc, drop-map, get_or-map, length-append, length-map, map-append, map-set, take-map}
+use Rattle.std.proofs.lemmas.List.{append-nil, append_assoc, drop-map, ext_get_or, get_or-map, length-append, length-map, map-append, map-set, take-map}
 use Rattle.std.proofs.lemmas.List.Elements.{All-append, All-cons, All-head, All-nil, All-tail, filter-append, filter_agree}
 use Rattle.std.proofs.lemmas.List.Sums.{fold-append}
 use Rattle.std.proofs.lemmas.Option.{slice_get-get_or}
 use Rattle.pci_picture.specs.Lines.{is_feed, unindented_line, words_in_line}
 use Rattle.pci_picture.specs.Marks.{AddsFault, keys_begun, keys_of_fault, namings_of, number_before_blank}
-use Rattle.pci_picture.specs.Said.{AreLinesOf, FaultPlace, FaultSaid, lines_of_fault, place_of_fault, places_from, said_by, said_lines, said_of_fault, said_of_key, say_line, with_fault_line, with_reason}
+use Rattle.pci_picture.specs.FaultLines.{faults_read}
+use Rattle.pci_picture.specs.Said.{AreLinesOf, FaultPlace, FaultSaid, faults_said, lines_of_fault, place_of_fault, places_from, said_by, said_lines, said_of_fault, said_of_key, say_line, with_fault_line, with_reason}
 use Rattle.pci_picture.specs.declared.faults.Fault.{Fault}
 use Rattle.pci_picture.specs.declared.faults.Faults.{Faults}
 use Rattle.pci_picture.specs.declared.faults.Keys.TheVariants.{None as NoKey}
@@ -338,3 +339,36 @@ text_said now lines text reader faults whole read same_lines same_faults stable 
     ∙ ap said_lines
     (lines_found faults said j d (ap (map (λ l. l.now)) same_lines ∙ read.said.lines) (ap (map place_of_fault) same_faults ∙ read.said.places) inside))
     ∙ ap (λ l. flat_map (said_of_fault key) (fold say_line [] l)) whole
+
+-- ---- all faults that were read
+
+number_at : (begin : ℕ) (said : List FaultSaid) (k : ℕ) (e : FaultPlace) (d : FaultSaid) → k < length said → (get_or (places_from begin said) k e).number ≡ (get_or said k d).number
+number_at begin [] k e d inside = absurd (omega (arith, inside))
+number_at begin (fault ∷ said) zero e d inside = refl
+number_at begin (fault ∷ said) (suc k) e d inside = number_at (begin + length fault.lines) said k e d (omega (arith, inside))
+
+the_said : ℕ → List (List ℕ) → FaultSaid
+the_said number lines = record { number = number; lines = lines }
+
+said_read : {A : Type 0} (faults : Faults A) (said : List FaultSaid) → map (λ l. l.now) faults.lines.items ≡ lines_in said
+    → map place_of_fault faults.faults.items ≡ places_from 0 said → faults_read faults ≡ said
+unfolding the_said
+said_read faults said lines places =
+    let none : Fault = record { number = 0; keys = NoKey; begin = 0; end = 0 } in
+    let items = faults.faults.items in
+    let read : Fault → FaultSaid = λ f. record { number = f.number; lines = lines_of_fault faults (Some f) } in
+    let many : length said ≡ length items = said_long items said places in
+    let long : length (map read items) ≡ length items = length-map items read in
+    let d : FaultSaid = the_said 0 [] in
+    ext_get_or d (faults_read faults) said (omega (arith, many, long)) (λ k inside.
+    let lt : k < length items = omega (arith, inside, long) in
+    let in_said : k < length said = omega (arith, lt, many) in
+    get_or-map read items k none d lt
+    ∙ ap (λ n. the_said n (lines_of_fault faults (Some (get_or items k none)))) (ap (λ p. p.number) (place_at items said k none places lt) ∙ number_at 0 said k (place_of_fault none) d in_said)
+    ∙ ap (the_said (get_or said k d).number) (ap (lines_of_fault faults) (sym (slice_get-get_or items k none lt)) ∙ lines_found faults said k d lines places in_said))
+
+pub text_read : {A X : Type 0} (now : X → List ℕ) (lines : List X) (text : List ℕ) (reader : Reader A) (faults : Faults A) → map now lines ≡ slice_split is_feed text
+    → AreReadLines (map now lines) reader → faults.lines.items ≡ reader.lines.items → faults.faults.items ≡ reader.faults.items → faults_read faults ≡ faults_said text
+text_read now lines text reader faults whole read same_lines same_faults =
+    said_read faults (fold say_line [] (map now lines)) (ap (map (λ l. l.now)) same_lines ∙ read.said.lines) (ap (map place_of_fault) same_faults ∙ read.said.places)
+    ∙ ap (fold say_line []) whole

@@ -1,19 +1,19 @@
 -- The row of a function in the tree.
-use Rattle.std.proofs.Common.{◌≡◌, ◌≤◌, ◌+◌, ◌-◌, ◌*◌, ◌^◌, ℕ, List, [], ◌++◌, length, sym, ap, ◌∙◌, arith}
+use Rattle.std.proofs.Common.{◌≡◌, ◌≤◌, ◌+◌, ◌-◌, ◌*◌, ◌^◌, ℕ, List, [], ◌++◌, length, ap, ◌∙◌, arith}
 use Rattle.std.specs.Prelude.{codes, min}
 use Rattle.std.proofs.lemmas.List.{append-nil, append_assoc}
 use Rattle.pci_picture.specs.Labels.{cut_words, label_text}
-use Rattle.pci_picture.specs.Rows.{Row, row_text}
+use Rattle.pci_picture.specs.Rows.{TreeRow, tree_row_text}
 
 -- a product that was cut off at 64 bits leaves as little of a small number
 pub cut_off : (room wide : ℕ) → room ≤ 400 → room - min wide (2 ^ 64 - 1) ≡ room - wide
 cut_off room wide low = omega (arith, low)
 
 -- the words of a row, and behind them what stands at its right end
-pub row_written : (row : Row) (before between cut after : List ℕ) (room right : ℕ) → between ≡ before ++ []
+pub row_written : (row : TreeRow) (before between cut after : List ℕ) (room right : ℕ) → between ≡ before ++ []
     → cut ≡ between ++ label_text row.left row.base row.class (cut_words room row.words) → after ≡ cut ++ label_text right row.base (codes "alarm bold") row.beside
-    → room ≡ 394 - row.left - length row.beside * 7 → right ≡ 400 - length row.beside * 7 → after ≡ before ++ row_text row
-unfolding row_text
+    → room ≡ 394 - row.left - length row.beside * 7 → right ≡ 400 - length row.beside * 7 → after ≡ before ++ tree_row_text row
+unfolding tree_row_text
 row_written row before between cut after room right kept words beside room_is right_is =
     let first = label_text row.left row.base row.class (cut_words (394 - row.left - length row.beside * 7) row.words) in
     beside ∙ ap (λ n. cut ++ label_text n row.base (codes "alarm bold") row.beside) right_is

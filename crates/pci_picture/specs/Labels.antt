@@ -1,5 +1,5 @@
 -- Lines of words, cut to their room.
-use Rattle.std.specs.Prelude.{ℕ, Bool, ◌+◌, ◌-◌, ◌/◌, List, [], ◌∷◌, ◌++◌, codes, length, nat_le, take, if◌then◌else◌}
+use Rattle.std.specs.Prelude.{ℕ, ◌+◌, ◌-◌, ◌/◌, List, [], ◌∷◌, ◌++◌, codes, length, nat_le, take, if◌then◌else◌}
 use Rattle.pci_picture.specs.Elements.{words_text}
 
 -- how many characters a width has room for: each is six units wide, and three units are kept free

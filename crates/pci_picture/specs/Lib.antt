@@ -29,3 +29,4 @@ pub mod Nested
 pub mod Members
 pub mod Siblings
 pub mod Rows
+pub mod FaultLines

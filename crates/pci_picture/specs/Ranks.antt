@@ -1,5 +1,5 @@
 -- How and in which order the tree shows the faults of a function.
-use Rattle.std.specs.Prelude.{ℕ, Bool, true, false, ◌+◌, ◌*◌, ◌/◌, ◌%◌, List, [], ◌∷◌, ◌++◌, codes, drop, if◌then◌else◌}
+use Rattle.std.specs.Prelude.{ℕ, Bool, true, false, ◌+◌, ◌*◌, ◌/◌, ◌%◌, List, [], ◌∷◌, codes, drop, if◌then◌else◌}
 use Rattle.std.specs.List.{flat_map}
 use Rattle.pci_picture.specs.declared.badge.Badge.{Badge}
 

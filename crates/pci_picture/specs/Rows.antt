@@ -10,7 +10,7 @@ use Rattle.pci_picture.specs.declared.function.Function.{Function}
 
 -- a row of the tree: the slot of its function and the number of this slot, its words and their look, what stands at its right end,
 -- and where both begin
-pub record Row : Type 0 where
+pub record TreeRow : Type 0 where
   pub slot : List ℕ
   pub number : ℕ
   pub class : List ℕ
@@ -20,25 +20,25 @@ pub record Row : Type 0 where
   pub base : ℕ
 
 -- a character beside a function is seven units wide
-abbrev pub width_beside : Row → ℕ
+abbrev pub width_beside : TreeRow → ℕ
 width_beside row = length row.beside * 7
 
 -- the words of a row, cut to the room that is left, and in red what stands at its right end
-unfoldable pub row_text : Row → List ℕ
-row_text row =
+unfoldable pub tree_row_text : TreeRow → List ℕ
+tree_row_text row =
     label_text row.left row.base row.class (cut_words (394 - row.left - width_beside row) row.words)
     ++ label_text (400 - width_beside row) row.base (codes "alarm bold") row.beside
 
 -- the words begin with the slot, and at the right end stands the number of each fault that shows beside the function, once
-pub record IsRow (badges : List Badge) (row : Row) : Type 0 where
+pub record IsRow (badges : List Badge) (row : TreeRow) : Type 0 where
   pub more : List ℕ
   pub named : row.words ≡ row.slot ++ 32 ∷ more
   pub shows : ShowBadges (filter (λ badge. badge.slot == row.number) badges) row.beside
 
 -- the row of a function is written
 pub record WritesRow {A : Type 0} (badges : List Badge) (function : Function) (before after : Canvas A) : Type 0 where
-  pub row : Row
+  pub row : TreeRow
   pub slot_is : row.slot ≡ function.slot.now
   pub number_is : row.number ≡ function.number
   pub lawful : IsRow badges row
-  pub writes : WritesBytes (row_text row) before after
+  pub writes : WritesBytes (tree_row_text row) before after

@@ -8,7 +8,8 @@ ghost use Rattle.pci_picture.specs.Listings.{AreFunctionsListed};
 ghost use Rattle.pci_picture.specs.Maps.{IsReadOf};
 ghost use Rattle.pci_picture.specs.Marks.{AreFaultsOf};
 ghost use Rattle.pci_picture.specs.Roots.{AreBusesAbove, AreRoots, go_up, listed_functions};
-ghost use Rattle.pci_picture.specs.Said.{AddsMore, AreSaidOf, IsTitleOf, lines_of_fault, said_by, said_lines};
+ghost use Rattle.pci_picture.specs.Said.{AddsMore, AreSaidOf, IsTitleOf, faults_said, lines_of_fault, said_by, said_lines};
+ghost use Rattle.pci_picture.specs.FaultLines.{faults_read};
 
 use super::faults::{Fault, Faults};
 use super::function::{Buses, Function, Span, find};
@@ -122,6 +123,7 @@ impl<'a, A: Allocator + Copy> Board<'a, A> {
         ensures chained { IfOk result (λ board. AreChained board.map.lines.items) }
         ensures faults { IfOk result (λ board. AreFaultsOf texts.entry.now.faults.now board.faults) }
         ensures said { IfOk result (λ board. AreSaidOf texts.entry.now.faults.now board.faults) }
+        ensures lines { IfOk result (λ board. faults_read board.faults ≡ faults_said texts.entry.now.faults.now) }
         ensures show { IfOk result (λ board. AreFunctionsListed texts.entry.now.show.now (listed_functions board.functions.items)) }
     {
         let mut functions = read_functions(alloc, texts.show)?;

@@ -198,6 +198,8 @@ impl<A: Allocator + Copy> Canvas<A> {
         ensures closed { IfOk result (λ text. IsPictureText (string_bytes text)) }
         ensures drawn { (spots : List BoxSpot) → HasDrawn spots self.now
             → IfOk result (λ text. IsDrawnOf spots height (string_bytes text)) }
+        ensures says { IfOk result (λ text. string_bytes text
+            ≡ picture_text is_told (string_bytes self.now.boxes) (string_bytes self.now.words) width height) }
     {
         self.text(alloc, is_told, width, height)
     }

@@ -76,7 +76,7 @@ pub struct Fault {
 }
 
 impl Fault {
-    ghost use Rattle.std.specs.Prelude.{◌≡◌};
+    ghost use Rattle.std.specs.Prelude.{◌≡◌, ◌-◌};
     ghost use Rattle.pci_picture.specs.Marks.{number_before_blank};
 
     /// The number with which the first line of a fault begins: two digits and a blank.
@@ -93,7 +93,9 @@ impl Fault {
     }
 
     /// How many lines it has.
-    pub fn lines(&self) -> usize {
+    pub fn lines(&self) -> usize
+        ensures { result ≡ self.now.end - self.now.begin }
+    {
         self.end.saturating_sub(self.begin)
     }
 }
@@ -281,13 +283,15 @@ impl<'a, A: Allocator + Copy> Faults<'a, A> {
     ghost use Rattle.std.specs.List.{filter, slice_get};
     ghost use Rattle.pci_picture.specs.Badges.{AreBadgesOf, badges_beside};
     ghost use Rattle.pci_picture.specs.Marks.{AreFaultsOf, has_naming, has_one_of};
-    ghost use Rattle.pci_picture.specs.Said.{AreSaidOf};
+    ghost use Rattle.pci_picture.specs.Said.{AreSaidOf, faults_said};
+    ghost use Rattle.pci_picture.specs.FaultLines.{faults_read};
 
     /// Reads the faults from what `faults --why` prints.
     pub fn read(alloc: A, text: &'a str) -> Result<Faults<'a, A>, OutOfMemory>
         ensures named { IfOk result (λ faults. AreFaultsOf text.entry.now faults) }
         ensures said { IfOk result (λ faults. AreSaidOf text.entry.now faults) }
         ensures shown { IfOk result (λ faults. AreBadgesOf text.entry.now faults) }
+        ensures lines { IfOk result (λ faults. faults_read faults ≡ faults_said text.entry.now) }
     {
         let mut reader = Reader {
             lines: Vec::new(alloc),

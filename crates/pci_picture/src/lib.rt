@@ -9,6 +9,7 @@ pub mod badge;
 pub mod board;
 pub mod canvas;
 pub mod elements;
+pub mod fault_list;
 pub mod faults;
 pub mod function;
 pub mod heights;

@@ -7,6 +7,7 @@ ghost use Rattle.pci_picture.specs.Canvases.{AddsToCanvas, AddsSome};
 ghost use Rattle.pci_picture.specs.Depths.{AreChained};
 ghost use Rattle.pci_picture.specs.Drawings.{AreOffBoxes, AreOfSections, IsBoxOf, IsRunOfSection};
 ghost use Rattle.pci_picture.specs.ByRoots.{IsDrawnByRootsOfShow};
+ghost use Rattle.pci_picture.specs.FaultLines.{HasFaultList};
 ghost use Rattle.pci_picture.specs.Looks.{look_read};
 ghost use Rattle.pci_picture.specs.Maps.{AreMembersOf};
 ghost use Rattle.pci_picture.specs.Members.{AreIndentedBySection, AreSortedBySection};
@@ -17,6 +18,7 @@ ghost use Rattle.pci_picture.specs.Whole.{IsPictureText};
 use super::board::{Board, Texts};
 use super::canvas::{Canvas, Label, Shape};
 use super::elements::Frame;
+use super::fault_list::write_faults;
 use super::heights::LINE;
 use super::legend::draw_legend;
 use super::map::{Map, section_number};
@@ -34,9 +36,6 @@ const COLUMN: u64 = 126;
 
 /// The width of the innermost lines.
 const LEAF: u64 = 330;
-
-/// How many lines of faults a picture has, at most.
-const LINES: usize = 40;
 
 /// The margin at the right and at the bottom.
 const MARGIN: u64 = 16;
@@ -88,66 +87,6 @@ fn write_counts<A: Allocator + Copy>(
         class: b"",
     };
     canvas.add_heading(label, words.bytes.as_slice())
-}
-
-/// Writes how many faults are left.
-fn write_left<A: Allocator + Copy>(
-    alloc: A,
-    canvas: &mut Canvas<A>,
-    left: usize,
-    y: u64,
-) -> Result<(), OutOfMemory>
-    ensures { OnOk result (AddsToCanvas [] canvas.old canvas.new) }
-{
-    let mut words = Words::of(alloc, b"and ")?;
-    words.put_number(alloc, left)?;
-    words.put(b" more")?;
-    let label = Label {
-        x: LEFT,
-        y,
-        class: b"alarm bold",
-    };
-    canvas.add_words(label, words.bytes.as_slice())
-}
-
-/// Writes the faults, up to 40 lines. Its answer is the base line of the last line.
-fn write_faults<A: Allocator + Copy>(
-    alloc: A,
-    canvas: &mut Canvas<A>,
-    board: &Board<'_, A>,
-    above: u64,
-) -> Result<u64, OutOfMemory>
-    ensures { IfOk result (λ _. AddsToCanvas [] canvas.old canvas.new) }
-{
-    let mut y = above;
-    let mut room = LINES;
-    for (index, fault) in board.faults.faults.iter().enumerate() {
-        if room < fault.lines() {
-            y = y.saturating_add(LINE);
-            let left = board.faults.faults.len().saturating_sub(index);
-            write_left(alloc, canvas, left, y)?;
-            return Ok(y);
-        }
-        room = room.saturating_sub(fault.lines());
-        for place in fault.begin..fault.end {
-            y = y.saturating_add(LINE);
-            let label = if place == fault.begin {
-                Label {
-                    x: LEFT,
-                    y,
-                    class: b"alarm bold",
-                }
-            } else {
-                Label {
-                    x: LEFT + 16,
-                    y,
-                    class: b"",
-                }
-            };
-            canvas.add_words(label, board.faults.line(place))?;
-        }
-    }
-    Ok(y)
 }
 
 /// The regions of all sections, by section. One that is out of place or not reached is drawn in the section of its
@@ -348,13 +287,15 @@ pub fn picture_of<A: Allocator + Copy>(
     // lists, and of its space
     ensures by_root { IfOk result (λ text. IsDrawnByRootsOfShow texts.entry.now.show.now texts.entry.now.map.now
         texts.entry.now.faults.now (string_bytes text)) }
+    // above all stand the lines of the faults, up to 40, and how many faults are left out
+    ensures listed { IfOk result (λ text. HasFaultList texts.entry.now.faults.now (string_bytes text)) }
 {
     let board = Board::read(alloc, texts)?;
     let mut canvas = Canvas::new(alloc);
     write_counts(alloc, &mut canvas, &board)?;
     let is_told = board.map.has_told();
     let legend = draw_legend(&mut canvas, is_told, 66)?;
-    let top = write_faults(alloc, &mut canvas, &board, 72)?.saturating_add(22);
+    let top = write_faults(alloc, &mut canvas, &board)?.saturating_add(22);
     let tree_end = draw_tree(alloc, &mut canvas, &board, top)?;
     let site = first_site(&board.map, top);
     let y = draw_sections(alloc, &mut canvas, &board, &site)?;

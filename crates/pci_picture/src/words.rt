@@ -1,5 +1,6 @@
 //! A line of words that is being written.
 ghost use Rattle.std.specs.Prelude.{◌≡◌, ◌++◌, [], IfOk, OnOk};
+ghost use Rattle.std.specs.Fmt.{decimal};
 ghost use Rattle.std.specs.List.{flat_map};
 ghost use Rattle.pci_picture.specs.Labels.{cut_words};
 ghost use Rattle.pci_picture.specs.Said.{AddsMore};
@@ -82,7 +83,9 @@ impl<A: Allocator + Copy> Words<A> {
     }
 
     /// Appends a number in decimal digits.
-    pub fn put_number(&mut self, alloc: A, number: usize) -> Result<(), OutOfMemory> {
+    pub fn put_number(&mut self, alloc: A, number: usize) -> Result<(), OutOfMemory>
+        ensures { OnOk result (self.new.bytes.items ≡ self.old.bytes.items ++ decimal number) }
+    {
         let digits = number.to_string(alloc)?;
         self.put(digits.as_bytes())
     }

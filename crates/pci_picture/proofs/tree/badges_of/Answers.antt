@@ -1,4 +1,4 @@
-use Rattle.std.proofs.Common.{◌≡◌, ◌++◌, ◌+◌, [], false, Some, ap, refl, sym, subst, ◌∙◌, get_or}
+use Rattle.std.proofs.Common.{◌≡◌, ◌++◌, ◌+◌, false, Some, ap, sym, subst, ◌∙◌, get_or}
 use Rattle.std.proofs.lemmas.List.{append-nil, append_assoc}
 use Rattle.pci_picture.specs.Badges.{ShowBadges}
 use Rattle.pci_picture.specs.Ranks.{badge_word, rank_of_badge}

@@ -3,7 +3,7 @@ use Rattle.std.specs.Prelude.{codes, min}
 use Rattle.std.specs.String.{string_bytes}
 use Rattle.std.proofs.lemmas.Result.{on_ok_weaker}
 use Rattle.pci_picture.specs.Labels.{label_text}
-use Rattle.pci_picture.specs.Rows.{Row}
+use Rattle.pci_picture.specs.Rows.{TreeRow}
 use Rattle.pci_picture.proofs.Boxes.{then_ok, then_draws}
 use Rattle.pci_picture.proofs.Rows.{cut_off, row_written}
 use Rattle.pci_picture.proofs.tree.draw_row.Goals as goal
@@ -16,7 +16,7 @@ returns-clause-adds g c =
 
 pub returns-clause-row : goal.returns-clause-row
 returns-clause-row g c =
-    let row : Row = record {
+    let row : TreeRow = record {
       slot = c.args.function.now.slot.now;
       number = c.args.function.now.number;
       class = c.if-not-is_empty.class.now;
@@ -35,7 +35,7 @@ returns-clause-row g c =
       lawful = record { more = c.in_ok-words.ensures.0; named = c.in_ok-words.ensures.1; shows = c.in_ok-badges.ensures };
       writes =
           row_written row (string_bytes c.args.canvas.now.words) (string_bytes c.draw_function.new.canvas.words) (string_bytes c.add_cut.new.self.words) (string_bytes c.add_words.new.self.words)
-          c.saturating_sub-room.result c.saturating_sub-2.result c.in_ok-draw_function.ensures.writes c.in_ok-add_cut.ensures.writes 
+          c.saturating_sub-room.result c.saturating_sub-2.result c.in_ok-draw_function.ensures.writes c.in_ok-add_cut.ensures.writes
           (writes ∙ ap (λ l. string_bytes c.add_cut.new.self.words ++ label_text c.saturating_sub-2.result c.saturating_add-y.result (codes "alarm bold") l) c.as_slice.ensures.value)
           (c.saturating_sub-room.ensures ∙ ap (λ n. n - c.saturating_mul-taken.result) c.saturating_sub.ensures ∙ ap (λ n. 380 - (16 + 14 * c.min.result) - n) wide
           ∙ cut_off (380 - (16 + 14 * c.min.result)) (length row.beside * 7) (omega arith) ∙ omega arith)

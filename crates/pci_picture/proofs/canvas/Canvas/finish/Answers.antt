@@ -10,4 +10,5 @@ returns g c = record {
       (omega arith) (omega arith) c.args.self.now.boxes_closed c.args.self.now.words_closed c.text.ensures;
   drawn = λ spots drawn. drawn_of c.text.result (λ text. string_bytes text) c.args.is_told (string_bytes c.args.self.now.boxes) (string_bytes c.args.self.now.words) c.args.width c.args.height
       spots drawn c.text.ensures;
+  says = c.text.ensures;
 }

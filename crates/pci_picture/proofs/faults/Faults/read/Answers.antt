@@ -6,7 +6,7 @@ use Rattle.pci_picture.specs.Ranks.{rank_of_badge}
 use Rattle.pci_picture.specs.declared.faults.Faults.{Faults}
 use Rattle.pci_picture.proofs.Badges.{badges_more, badges_whole, text_small}
 use Rattle.pci_picture.proofs.Marks.{none_read, one_more, whole_text}
-use Rattle.pci_picture.proofs.ReadSaid.{faults_within, lines_more, no_lines, text_said}
+use Rattle.pci_picture.proofs.ReadSaid.{faults_within, lines_more, no_lines, text_read, text_said}
 use Rattle.pci_picture.proofs.faults.Faults.read.Goals as goal
 
 pub loop-line-init : goal.loop-line-init
@@ -61,6 +61,7 @@ returns g c =
       shown =
           badges_whole now c.loop-line.yielded c.args.text.now c.loop-line.reader.badges.items _ whole
           c.loop-line.invariant.shown c.in_ok-sort_by_key-2.ensures.permutation;
+      lines = text_read now c.loop-line.yielded c.args.text.now reader faults whole c.loop-line.invariant.said refl refl;
     }
 
 pub invariant_of-result : goal.invariant_of-result
