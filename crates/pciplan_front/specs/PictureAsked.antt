@@ -6,6 +6,7 @@ use Rattle.pci_dump.specs.Begun.{AppendsBeginning}
 use Rattle.pci_check.specs.Audits.{IsDumpOf}
 use Rattle.pci_picture.specs.Boxes.{IsPictureOf}
 use Rattle.pci_picture.specs.ByRoots.{IsDrawnByRootsOfShow}
+use Rattle.pci_picture.specs.FaultLines.{HasFaultList}
 use Rattle.pci_picture.specs.Whole.{IsPictureText}
 use Rattle.pciplan_cli.specs.CarriedOut.{TextsByPath}
 use Rattle.pciplan_cli.specs.Invocations.{IsInvocationOf, HasBadWords}
@@ -22,7 +23,8 @@ abbrev pub map_words : List (List ℕ) → List (List ℕ)
 map_words words = codes "map" ∷ words
 
 -- a well-formed picture of the map, where there is one: each of its regions is the title of one box, which is marked where one of
--- the faults with reasons names the region. What is out of place is drawn where the functions that `show` lists say
+-- the faults with reasons names the region. What is out of place is drawn where the functions that `show` lists say. Above all
+-- stand the lines of these faults
 pub record IsDrawn (beside : Beside) (dump probe : List Block) (answer : Answer) : Type 0 where
   pub map : Answer
   pub is_map : IsPairAnswer (task.Map beside) dump probe map
@@ -35,6 +37,7 @@ pub record IsDrawn (beside : Beside) (dump probe : List Block) (answer : Answer)
   pub picture : IsPictureText text
   pub draws : IsPictureOf map.text faults.text text
   pub by_root : IsDrawnByRootsOfShow shown.text map.text faults.text text
+  pub listed : HasFaultList faults.text text
   pub line : answer ≡ done_with map.remarks text
 
 -- the line `no ..` of the map, where there is none

@@ -2,6 +2,7 @@ use Rattle.std.proofs.Common.{inl, ap, subst, cond, List, ℕ, Bool}
 use Rattle.std.specs.Prelude.{string_bytes}
 use Rattle.pci_picture.specs.Boxes.{IsPictureOf}
 use Rattle.pci_picture.specs.ByRoots.{IsDrawnByRootsOfShow}
+use Rattle.pci_picture.specs.FaultLines.{HasFaultList}
 use Rattle.pciplan_tasks.specs.Answers.{Answer, answer_of, text_bytes}
 use Rattle.pciplan_front.proofs.drawn.drawn.Goals as goal
 
@@ -26,5 +27,6 @@ returns-in-Ok c =
           subst (λ (f : List ℕ). IsDrawnByRootsOfShow (text_bytes c.in_ok-shown.shown.text) (text_bytes c.in_ok-map.map.text) f text) c.in_ok-lines_of-3.ensures
           (subst (λ (m : List ℕ). IsDrawnByRootsOfShow (text_bytes c.in_ok-shown.shown.text) m c.in_ok-lines_of-3.field-0.now text) c.in_ok-lines_of-2.ensures
           (subst (λ (s : List ℕ). IsDrawnByRootsOfShow s c.in_ok-lines_of-2.field-0.now c.in_ok-lines_of-3.field-0.now text) c.in_ok-lines_of.ensures c.in-Ok.ensures.by_root));
+      listed = subst (λ (f : List ℕ). HasFaultList f text) c.in_ok-lines_of-3.ensures c.in-Ok.ensures.listed;
       line = ap of_refused c.if-map.false;
     }
