@@ -1,8 +1,8 @@
 -- Single and home are the want of the faults of judging, and sound that of all faults.
-use Rattle.std.proofs.Common.{◌≡◌, ℕ, ◌⊎◌, inl, inr, List, [], refl, Bool, true, false, ◌&&◌, sym, ◌∙◌, ap, subst}
-use Rattle.std.specs.Bool.{IsTrue, ◌==◌}
+use Rattle.std.proofs.Common.{◌≡◌, ℕ, ◌⊎◌, inl, inr, List, [], refl, Bool, true, false, sym, ◌∙◌, ap, subst}
+use Rattle.std.specs.Bool.{IsTrue}
 use Rattle.std.specs.List.{list_all, Contains}
-use Rattle.std.proofs.lemmas.Bool.{cases_eq, cases_Bool, both_ways, and_parts, eqb-true, true_from_ne_false}
+use Rattle.std.proofs.lemmas.Bool.{cases_eq, cases_Bool, both_ways, and_parts, true_from_ne_false}
 use Rattle.std.proofs.lemmas.List.Elements.{All-contains}
 use Rattle.pci_spec.specs.Number.{IsImage}
 use Rattle.pci_spec.specs.Slot.{Slot, same_slot}
@@ -17,20 +17,14 @@ use Rattle.pci_spec.proofs.Nesting.{one_function, nested_without_bus_faults, no_
 use Rattle.pci_spec.proofs.Chains.{chain_without_faults}
 use Rattle.pci_spec.proofs.Sounding.{sound_without_faults as plain_sound}
 use Rattle.pci_spec.proofs.Ways.{one_way, a_way_to_each}
-use Rattle.pci_spec.proofs.Regions.{region_decided, slot_from}
+use Rattle.pci_spec.proofs.Regions.{region_decided}
+use Rattle.pci_spec.proofs.SameSlot.{slots_same}
 use Rattle.judge_spec.specs.Given.{Given, nothing_given, starts}
 use Rattle.judge_spec.specs.Claims.{Part, Claims, ClaimsOnBus, Gets, IsPassedTo, passes, register_of, may_share}
 use Rattle.judge_spec.specs.Fault.{Fault, Known, Outside, IsIn, IsKnownIn, IsOutside, IsUnreached}
 use Rattle.judge_spec.specs.Sound.{MayBoth, IsSingle, IsHome, IsSound}
 use Rattle.judge_spec.specs.Laws.{SoundWithoutFaults, SameSound}
 use Rattle.judge_spec.proofs.Nothing.{same_faults, none_outside}
-
--- slots whose parts are the same
-pub slots_same : (s t : Slot) → same_slot s t ≡ true → s ≡ t
-slots_same s t h =
-    let f = and_parts (s.bus == t.bus && s.device == t.device) (s.function == t.function) h in
-    let d = and_parts (s.bus == t.bus) (s.device == t.device) f.0 in
-    slot_from s t (eqb-true s.bus t.bus d.0) (eqb-true s.device t.device d.1) (eqb-true s.function t.function f.1)
 
 -- two slots with a window and a legacy part are one
 pub shared_slot : (first second : Slot) (fr sr : ℕ) → IsTrue (may_share first fr second sr) → first ≡ second

@@ -2,14 +2,14 @@
 use Rattle.std.proofs.Common.{◌≡◌, ℕ, zero, suc, ◌+◌, List, [], ◌∷◌, Bool, true, refl, ◌∙◌, ap, subst, arith, inl, inr, None, Some}
 use Rattle.std.specs.Prelude.{not, IsFalse}
 use Rattle.std.specs.List.{Contains, slice_get}
-use Rattle.std.proofs.lemmas.Bool.{and_parts, and_from, not-true, not_from_false, both_ways, eq-eqb}
-use Rattle.pci_spec.specs.Slot.{Slot, same_slot}
+use Rattle.std.proofs.lemmas.Bool.{and_parts, and_from, not-true, not_from_false, both_ways}
+use Rattle.pci_spec.specs.Slot.{same_slot}
 use Rattle.pci_spec.proofs.Members.{in_nil, in_cons_cases, in_head, in_tail, in_filter_to, in_filter_from}
+use Rattle.pci_spec.proofs.SameSlot.{slot_itself, slots_same}
 use Rattle.judge_spec.specs.Told.{Mark, Command, Always, Held, ToldRange}
 use Rattle.judge_spec.specs.ToldClaims.{is_on_by, is_range_on, is_asleep, is_enabled_at, is_marked_held}
 use Rattle.judge_spec.specs.ToldRegion.{ToldRegion, regions_from, told_regions, is_off_at}
 use Rattle.judge_spec.specs.ToldRegionLaws.{RegionsAreNumbered, OffRangesAreExact, HeldAreNotOff}
-use Rattle.judge_spec.proofs.Judging.{slots_same}
 
 -- the range of an index, with its register
 record IsNumbered (first : ℕ) (ranges : List ToldRange) (x : ToldRegion) : Type 0 where
@@ -45,9 +45,6 @@ regions_are_numbered told x = (
 )
 
 -- ---- those that are off
-
-pub slot_itself : (slot : Slot) → same_slot slot slot ≡ true
-slot_itself slot = and_from _ _ (and_from _ _ (eq-eqb slot.bus slot.bus refl) (eq-eqb slot.device slot.device refl)) (eq-eqb slot.function slot.function refl)
 
 pub off_ranges_are_exact : OffRangesAreExact
 off_ranges_are_exact told s slot x = (

@@ -13,16 +13,15 @@ use Rattle.pci_spec.specs.Why.{IsRun, AreRuns}
 use Rattle.pci_spec.proofs.BusRanges.{any_from, any_gives}
 use Rattle.pci_spec.proofs.Members.{in_head, in_tail, in_nil, in_cons_cases}
 use Rattle.pci_spec.proofs.Ways.{below_the_end}
+use Rattle.pci_spec.proofs.SameSlot.{slot_itself, slots_same}
 use Rattle.judge_spec.specs.Given.{Given, TakingBridge, is_cut, is_isa_port, is_taken_at, legacy_claims, palette_claims, ranges_of, starts, takes}
-use Rattle.judge_spec.specs.Claims.{Part, Own, Legacy, Palette, Claims, Gets, forwards, forwards_else, passes_else}
+use Rattle.judge_spec.specs.Claims.{Own, Legacy, Palette, Claims, forwards, forwards_else, passes_else}
 use Rattle.judge_spec.specs.Claims as untold
 use Rattle.judge_spec.specs.ToldClaims.{Told, ClaimsOnBus}
 use Rattle.judge_spec.specs.Unclaimed.{IsUnclaimedOn, IsTakingBridge, AreTaking}
 use Rattle.judge_spec.specs.UnclaimedLaws.{TakesWhatIsUnclaimed, NobodySharesWhatIsTaken, TakingIsDetermined, TakingClaimsNothing, TakingComesLast, TakingLeavesForwards, TakingLeavesPasses, TakingAddsNoClash, with_taking, without_taking, is_taking}
-use Rattle.judge_spec.proofs.Judging.{slots_same}
 use Rattle.judge_spec.proofs.OneList.{same_runs}
 use Rattle.judge_spec.proofs.Reasons.{runs_same}
-use Rattle.judge_spec.proofs.ToldNumbering.{slot_itself}
 
 -- ---- a list of runs
 

@@ -12,6 +12,7 @@ use Rattle.pci_spec.proofs.BusRanges.{any_gives, any_from}
 use Rattle.pci_spec.proofs.Members.{in_map_from}
 use Rattle.pci_spec.proofs.Nesting.{one_function}
 use Rattle.pci_spec.proofs.Regions.{slot_number-same}
+use Rattle.pci_spec.proofs.SameSlot.{slots_same}
 use Rattle.pci_base.specs.Space.{is_on}
 use Rattle.pci_function.specs.declared.record.Record.{Record}
 use Rattle.pci_tree.specs.Ways.{slots_of}
@@ -20,7 +21,6 @@ use Rattle.pci_tree.specs.Trees.{HasTree}
 use Rattle.pci_tree.proofs.Lifting.{Has, record_for, function_for, same_slot_of}
 use Rattle.judge_spec.specs.Told.{ToldRange, IsTold}
 use Rattle.judge_spec.specs.ToldClaims.{Told, is_asleep, is_enabled_at, is_on_by, is_range_on}
-use Rattle.judge_spec.proofs.Judging.{slots_same}
 use Rattle.pci_claims.specs.declared.all_claims.Stretch.{Stretch}
 use Rattle.pci_claims.specs.AllClaims.{IsStretchOf}
 use Rattle.pci_claims.specs.ToldOn.{AreOnIn}

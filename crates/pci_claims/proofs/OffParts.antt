@@ -11,11 +11,11 @@ use Rattle.pci_spec.specs.Decoded.{HasRecords, record_of, decoded_bars}
 use Rattle.pci_spec.specs.Decoded as decoded
 use Rattle.pci_spec.specs.Listing.{kind_space}
 use Rattle.pci_spec.proofs.Regions.{slot_number-same}
+use Rattle.pci_spec.proofs.SameSlot.{slots_same}
 use Rattle.judge_spec.specs.Told.{ToldRange, IsTold}
 use Rattle.judge_spec.specs.ToldForm.{blank}
 use Rattle.judge_spec.specs.ToldClaims.{Told, is_range_on}
 use Rattle.judge_spec.specs.ToldRegion.{ToldRegion, regions_from, told_regions, is_off_at, off_ranges}
-use Rattle.judge_spec.proofs.Judging.{slots_same}
 use Rattle.pci_image.specs.Bars.{decoded_bar_of}
 use Rattle.pci_function.specs.Values.{record_value}
 use Rattle.pci_function.specs.declared.record.Record.{Record}

@@ -4,8 +4,8 @@ use Rattle.std.specs.Prelude.{◌&&◌, ◌||◌}
 use Rattle.std.specs.List.{list_any}
 use Rattle.pci_spec.specs.Slot.{Slot, same_slot}
 use Rattle.pci_spec.specs.System.{Io}
+use Rattle.pci_spec.proofs.SameSlot.{slot_itself}
 use Rattle.judge_spec.specs.Given.{Given, is_isa_port}
-use Rattle.judge_spec.proofs.ToldNumbering.{slot_itself}
 use Rattle.pci_faults.specs.Stopped.{HasCut}
 
 -- a bridge with ISA Enable takes port 100h from its window

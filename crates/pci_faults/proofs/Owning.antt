@@ -6,6 +6,7 @@ use Rattle.std.proofs.lemmas.List.{take_more, take_all, get_or_default}
 use Rattle.pci_base.specs.declared.range.Range.{Range}
 use Rattle.pci_spec.specs.Slot.{Slot, IsSlot, slot_number, same_slot}
 use Rattle.pci_spec.proofs.Regions.{slot_number-same}
+use Rattle.pci_spec.proofs.SameSlot.{slots_same}
 use Rattle.pci_tree.specs.Ranges.{Holds, Covers, IsCanonical}
 use Rattle.pci_tree.proofs.Passing.{covers_push}
 use Rattle.pci_tree.proofs.RangeLists.{found_at, covers_at}
@@ -16,7 +17,6 @@ use Rattle.pci_faults.specs.declared.owners.Found.{Found}
 use Rattle.pci_faults.specs.Owners.{OwnedRanges, Owns, IsRangeAdded}
 use Rattle.pci_faults.specs.Owners as one
 use Rattle.judge_spec.specs.Claims.{is_window_register, is_fixed_register, are_together, may_share}
-use Rattle.judge_spec.proofs.Judging.{slots_same}
 use Rattle.pci_claims.specs.Claim.{Claimed, may_both_claim, is_held_claim_beside}
 use Rattle.pci_claims.proofs.Gathering.{none_covered, covers_take}
 use Rattle.pci_faults.specs.Clashes.{Meet, claim_at, missing_claim, AreMeeting, IsFoundBelow}

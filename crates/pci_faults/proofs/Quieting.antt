@@ -15,6 +15,7 @@ use Rattle.pci_spec.specs.Fault.{Clash, Split, address_in, named_region}
 use Rattle.pci_spec.specs.Fault as plain
 use Rattle.pci_spec.proofs.Members.{in_nil, in_head, in_cons_cases, in_map_to, pairs_nil}
 use Rattle.pci_spec.proofs.BusRanges.{any_gives}
+use Rattle.pci_spec.proofs.SameSlot.{slots_same}
 use Rattle.pci_base.specs.declared.range.Range.{Range}
 use Rattle.pci_tree.specs.declared.region.Region.{Region}
 use Rattle.pci_tree.specs.Regions.{AreRegionsOf}
@@ -24,7 +25,6 @@ use Rattle.pci_check.specs.Clashes.{AreRegionsOn}
 use Rattle.judge_spec.specs.Given.{Given, legacy_holds, is_legacy_at, palette_holds, is_palette_at}
 use Rattle.judge_spec.specs.Given as spec
 use Rattle.judge_spec.specs.Claims.{Own, Legacy, Palette, ClaimsOnBus, may_share, are_together}
-use Rattle.judge_spec.proofs.Judging.{slots_same}
 use Rattle.pci_claims.specs.declared.given.LegacyBridge.{LegacyBridge}
 use Rattle.pci_claims.specs.Values.{legacy_value}
 use Rattle.pci_claims.specs.Legacy.{ArePieces}

@@ -9,14 +9,13 @@ use Rattle.pci_spec.specs.System.{System, Function, Space, IsSystem, is_space_on
 use Rattle.pci_spec.proofs.BusRanges.{any_gives, any_from}
 use Rattle.pci_spec.proofs.Members.{in_map_from}
 use Rattle.pci_spec.proofs.Nesting.{one_function}
+use Rattle.pci_spec.proofs.SameSlot.{slot_itself, slots_same}
 use Rattle.judge_spec.specs.ToldClaims.{is_enabled_at}
-use Rattle.judge_spec.proofs.Judging.{slots_same}
 use Rattle.pci_base.specs.Space.{is_on}
 use Rattle.pci_function.specs.Values.{record_value}
 use Rattle.pci_function.specs.declared.record.Record.{Record}
 use Rattle.pci_tree.specs.Ways.{slots_of}
 use Rattle.pci_tree.proofs.Lifting.{record_for, function_for, same_slot_of}
-use Rattle.pci_kept.proofs.Indexes.{slot_itself}
 use Rattle.pci_kept.proofs.OfRecord.{on_is}
 
 module _ (s : System) (system : IsSystem s) (records : List Record) (has : HasRecords s (map record_value records)) (slot : Slot) (space : Space) where

@@ -6,8 +6,9 @@ use Rattle.std.proofs.lemmas.List.{get_or-set_same, get_or-set_other, get_or-rep
 use Rattle.std.proofs.lemmas.List.Folds.{list_any_more}
 use Rattle.pci_spec.specs.Slot.{Slot, IsSlot, same_slot, slot_number}
 use Rattle.pci_spec.proofs.Regions.{slot_number-same}
+use Rattle.pci_spec.proofs.SameSlot.{slot_itself}
 use Rattle.pci_kept.specs.Flags.{AreFlags}
-use Rattle.pci_kept.proofs.Indexes.{one_number, slot_itself}
+use Rattle.pci_kept.proofs.Indexes.{one_number}
 
 pub number_low : (slot : Slot) → IsSlot slot → slot_number slot < 65536
 number_low slot is = let a = is.0 in let b = is.1 in let c = is.2 in omega (arith, a, b, c)

@@ -2,12 +2,13 @@
 use Rattle.std.proofs.Common.{◌≡◌, ℕ, zero, suc, ◌<◌, inl, inr, ◌⊎◌, List, [], ◌∷◌, get_or, set, length, true, false, cond, ◌&&◌, arith, sym, ◌∙◌, ap, refl, Some, Bool}
 use Rattle.std.specs.Bool.{◌==◌}
 use Rattle.std.specs.List.{Contains, slice_get}
-use Rattle.std.proofs.lemmas.Bool.{cases_eq, and_parts, and_from, eqb-true, eq-eqb, false_from_ne_true}
+use Rattle.std.proofs.lemmas.Bool.{cases_eq, and_parts, eqb-true, false_from_ne_true}
 use Rattle.std.proofs.lemmas.List.{get_or-set_same, get_or-set_other}
 use Rattle.std.proofs.lemmas.Option.{slice_get_within, slice_get-get_or, get_or_from_slice_get}
 use Rattle.pci_spec.specs.Slot.{Slot, same_slot, slot_number}
 use Rattle.pci_spec.specs.Window.{WindowKind, IoWindow, MemoryWindow, PrefetchWindow}
 use Rattle.pci_spec.specs.System.{System, Function, Part, Bar, Rom, Window, IsSystem}
+use Rattle.pci_spec.proofs.SameSlot.{slot_itself}
 use Rattle.plan_spec.proofs.Planning.AllItems.{slots_rise}
 use Rattle.settle_spec.specs.Parts.{FunctionPart}
 use Rattle.pci_first_fit.specs.declared.kept.Kept.{Kept}
@@ -57,11 +58,6 @@ one_number a b same =
     let y = eqb-true a.device b.device one.1 in
     let z = eqb-true a.function b.function two.1 in
     omega (arith, x, y, z)
-
-pub slot_itself : (a : Slot) → same_slot a a ≡ true
-slot_itself a =
-    and_from (a.bus == a.bus && a.device == a.device) (a.function == a.function)
-    (and_from (a.bus == a.bus) (a.device == a.device) (eq-eqb a.bus a.bus refl) (eq-eqb a.device a.device refl)) (eq-eqb a.function a.function refl)
 
 index_first : (s : System) (k : ℕ) (f : Function) → slice_get s k ≡ Some f → ((j : ℕ) (d : Function) → j < k → same_slot (get_or s j d).slot f.slot ≡ false) → index_of s f.slot ≡ k
 index_first [] k f at others = cc

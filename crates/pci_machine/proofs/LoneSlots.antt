@@ -14,9 +14,10 @@ use Rattle.pci_spec.specs.ProbeOf.{least_slot, lone_slots}
 use Rattle.pci_spec.specs.Fault.{IsInOne}
 use Rattle.pci_spec.proofs.BusRanges.{all_gives, all_from, any_gives, any_from}
 use Rattle.pci_spec.proofs.Members.{IsMade, in_filter_to, in_filter_from, in_map_to, in_head, in_tail}
+use Rattle.pci_spec.proofs.SameSlot.{slots_same}
 use Rattle.pci_tree.specs.Pair.{IsNoneBelow}
 use Rattle.pci_tree.proofs.Pairs.{number_same, in_left, in_right, in_left_more, in_right_more, none_below_both, none_below_left, none_below_right, same_more}
-use Rattle.pci_machine.proofs.Targets.{slot_of_test, same_slot-same, find-test, find-none, any-find, map-map}
+use Rattle.pci_machine.proofs.Targets.{same_slot-same, find-test, find-none, any-find, map-map}
 
 -- ---- lone slots
 
@@ -31,7 +32,7 @@ has_false : (slots : List Slot) (s : Slot) → (Contains slots s → ⊥) → ha
 has_false slots s gone = elim (cases_Bool (has slots s)) [
   | inl yes_there ↦
       let found = any_gives (same_slot s) slots yes_there in
-      absurd (gone (subst (λ t. Contains slots t) (sym (slot_of_test s found.0 found.2)) found.1))
+      absurd (gone (subst (λ t. Contains slots t) (sym (slots_same s found.0 found.2)) found.1))
   | inr none ↦ none
 ]
 

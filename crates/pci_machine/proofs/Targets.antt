@@ -3,25 +3,16 @@ use Rattle.std.proofs.Common.{◌≡◌, ℕ, ◌<◌, ◌==◌, refl, Bool, tru
 use Rattle.std.specs.List.{find, list_any, Contains, slice_get, position_or_len, slice_set}
 use Rattle.std.proofs.lemmas.List.Folds.{find_at, list_any_at}
 use Rattle.std.specs.Option.{option_map}
-use Rattle.std.proofs.lemmas.Bool.{and_parts, and_from, eqb-true, eq-eqb, cond-true, cond-false, cases_Bool, cases_eq, both_ways, or_parts, false_from_ne_true}
+use Rattle.std.proofs.lemmas.Bool.{and_from, eq-eqb, cond-true, cond-false, cases_Bool, cases_eq, both_ways, or_parts, false_from_ne_true}
 use Rattle.std.proofs.lemmas.List.{ext_get_or, get_or-map, length-map, length-set, get_or-set_same, get_or-set_other}
 use Rattle.std.proofs.lemmas.List.Elements.{Contains-get_or}
 use Rattle.std.proofs.lemmas.Option.{same_Some, slice_get-get_or, slice_get_within, get_or_from_slice_get}
 use Rattle.pci_spec.specs.Slot.{Slot, same_slot}
 use Rattle.pci_spec.specs.Machine.{Target, Write, write_target, write_targets, written}
 use Rattle.pci_spec.specs.Port.{target_at, has_function, IsLawful, put_image, with_image}
+use Rattle.pci_spec.proofs.SameSlot.{slots_same}
 
 -- slots that test as one are one
-pub slot_of_test : (s t : Slot) → same_slot s t ≡ true → s ≡ t
-slot_of_test s t h =
-    let first = and_parts (s.bus == t.bus && s.device == t.device) (s.function == t.function) h in
-    let second = and_parts (s.bus == t.bus) (s.device == t.device) first.0 in
-    let bus = eqb-true s.bus t.bus second.0 in
-    let device = eqb-true s.device t.device second.1 in
-    let function = eqb-true s.function t.function first.1 in
-    ap (λ n. let u : Slot = record { bus = n; device = s.device; function = s.function } in u) bus
-    ∙ ap (λ n. let u : Slot = record { bus = t.bus; device = n; function = s.function } in u) device
-    ∙ ap (λ n. let u : Slot = record { bus = t.bus; device = t.device; function = n } in u) function
 
 -- a slot tests as itself
 pub same_slot-same : (s : Slot) → same_slot s s ≡ true
@@ -89,7 +80,7 @@ put_image-slot slot image t = elim (cases_Bool (same_slot t.slot slot)) [
 
 -- the function that is found is at the slot
 pub target_at-slot : (targets : List Target) (slot : Slot) (t : Target) → target_at targets slot ≡ Some t → t.slot ≡ slot
-target_at-slot targets slot t h = slot_of_test t.slot slot (find-test (λ u. same_slot u.slot slot) targets t h)
+target_at-slot targets slot t h = slots_same t.slot slot (find-test (λ u. same_slot u.slot slot) targets t h)
 
 -- with another image it is found all the same
 pub target_at-with_image : (targets : List Target) (slot : Slot) (t : Target) (image : List ℕ) → target_at targets slot ≡ Some t
@@ -138,7 +129,7 @@ found targets slot k u lawful at is =
 listed : (targets : List Target) (slot : Slot) (t u : Target) → IsLawful targets → target_at targets slot ≡ Some t → Contains targets u → same_slot u.slot slot ≡ true → u ≡ t
 listed targets slot t u lawful h within test =
     let at : slice_get targets within.0 ≡ Some u = slice_get-get_or targets within.0 u within.1 ∙ ap Some within.2 in
-    same_Some u t (sym (found targets slot within.0 u lawful at (slot_of_test u.slot slot test)) ∙ h)
+    same_Some u t (sym (found targets slot within.0 u lawful at (slots_same u.slot slot test)) ∙ h)
 
 -- no change
 map-same : {X : Type 0} (xs : List X) → map (λ x. x) xs ≡ xs
@@ -186,7 +177,7 @@ set-map change targets slot k t lawful at is others =
       | inr other ↦
           let u = get_or targets i t in
           let at_u : slice_get targets i ≡ Some u = slice_get-get_or targets i t inside in
-          let miss : same_slot u.slot slot ≡ false = false_from_ne_true _ (λ hit. other (lawful.one i k u t at_u at (slot_of_test u.slot slot hit ∙ sym is))) in
+          let miss : same_slot u.slot slot ≡ false = false_from_ne_true _ (λ hit. other (lawful.one i k u t at_u at (slots_same u.slot slot hit ∙ sym is))) in
           get_or-set_other targets k i (change t) t other ∙ sym (mapped ∙ others u miss)
     ])
 

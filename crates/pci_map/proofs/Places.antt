@@ -1,8 +1,8 @@
 -- Which regions are out of place.
-use Rattle.std.proofs.Common.{◌≡◌, ℕ, ◌≤◌, map, [], ◌∷◌, get_or, sym, ap, ◌∙◌, subst, inl, inr, arith, ◌&&◌, ◌==◌, not, Bool, true, false, refl, None}
+use Rattle.std.proofs.Common.{◌≡◌, ℕ, ◌≤◌, map, [], ◌∷◌, get_or, sym, ap, ◌∙◌, subst, inl, inr, arith, not, Bool, true, false, refl, None}
 use Rattle.std.specs.Prelude.{MatchBool}
 use Rattle.std.specs.List.{Contains}
-use Rattle.std.proofs.lemmas.Bool.{and_from, eq-eqb, cases_Bool, both_ways, false≢true, false_from_ne_true}
+use Rattle.std.proofs.lemmas.Bool.{cases_Bool, both_ways, false≢true, false_from_ne_true}
 use Rattle.std.proofs.lemmas.Option.{slice_get_within, get_or_from_slice_get}
 use Rattle.std.proofs.lemmas.List.Elements.{Contains-get_or}
 use Rattle.pci_spec.specs.Slot.{Slot, same_slot}
@@ -11,13 +11,13 @@ use Rattle.pci_spec.specs.System as system
 use Rattle.pci_spec.specs.Fault.{RegionName, address_in, named_region}
 use Rattle.pci_spec.proofs.Members.{in_nil, in_cons_cases, in_head, in_tail}
 use Rattle.pci_spec.proofs.Regions.{part_same, register_of-lt}
+use Rattle.pci_spec.proofs.SameSlot.{slot_itself, slots_same}
 use Rattle.judge_spec.specs.Given.{Given, starts, starts_in, ranges_said}
 use Rattle.judge_spec.specs.Fault as untold
 use Rattle.judge_spec.specs.Told.{ToldRange, IsTold}
 use Rattle.judge_spec.specs.ToldClaims.{Told, is_marked_held}
 use Rattle.judge_spec.specs.ToldFault.{IsOutside, IsRangeOutside}
 use Rattle.judge_spec.specs.ToldRegion.{ToldRegion, told_name, IsToldIn}
-use Rattle.judge_spec.proofs.Judging.{slots_same}
 use Rattle.judge_spec.proofs.Reasons.{low_register}
 use Rattle.judge_spec.proofs.ToldNames.{one_range}
 use Rattle.judge_spec.specs.Regions.{MapRegion, Own, OfLine, slot_of, register_of, space_of}
@@ -65,11 +65,6 @@ all_start : (given : Given) (sp : Space) (root a : ℕ) → ranges_said given Io
 all_start given Io root a io memory = ap (λ o. starts_in o root a) io
 all_start given Memory root a io memory = ap (λ o. starts_in o root a) memory
 
-same_slot_refl : (s : Slot) → same_slot s s ≡ true
-same_slot_refl s =
-    and_from (s.bus == s.bus && s.device == s.device) (s.function == s.function)
-    (and_from (s.bus == s.bus) (s.device == s.device) (eq-eqb s.bus s.bus refl) (eq-eqb s.device s.device refl)) (eq-eqb s.function s.function refl)
-
 -- the function of a slot, where it is listed
 listed_there : (s : System) (slot : Slot) → ((Contains (map (λ (f : Function). f.slot) s) slot → ⊥) → ⊥) → (f : Function) × Contains s f × (f.slot ≡ slot)
 listed_there [] slot there = absurd (there (λ has. in_nil slot has))
@@ -77,7 +72,7 @@ listed_there (g ∷ s) slot there = elim (cases_Bool (same_slot g.slot slot)) [
   | inl same ↦ (g, in_head g s, slots_same g.slot slot same)
   | inr other ↦ (
       let found = listed_there s slot (λ none. there (λ has. elim (in_cons_cases g.slot (map (λ (f : Function). f.slot) s) slot has) [
-        | inl here ↦ both_ways (same_slot g.slot slot) other (subst (λ (y : Slot). same_slot g.slot y ≡ true) here (same_slot_refl g.slot))
+        | inl here ↦ both_ways (same_slot g.slot slot) other (subst (λ (y : Slot). same_slot g.slot y ≡ true) here (slot_itself g.slot))
         | inr later ↦ none later
       ])) in
       (found.0, in_tail g s found.0 found.1, found.2))

@@ -1,13 +1,13 @@
 -- The bridge that leads to a bus.
-use Rattle.std.proofs.Common.{◌≡◌, ℕ, ◌<◌, ◌≤◌, ◌+◌, List, [], ◌∷◌, ◌++◌, length, get_or, refl, sym, ap, ◌∙◌, subst, arith, inl, inr, true, ◌&&◌, ◌==◌, Option, None}
+use Rattle.std.proofs.Common.{◌≡◌, ℕ, ◌<◌, ◌≤◌, ◌+◌, List, [], ◌∷◌, ◌++◌, length, get_or, refl, sym, ap, ◌∙◌, subst, arith, inl, inr, true, Option, None}
 use Rattle.std.specs.List.{Contains}
-use Rattle.std.proofs.lemmas.Bool.{cases_Bool, cases_lt, and_from, eq-eqb, both_ways, false_from_ne_true}
+use Rattle.std.proofs.lemmas.Bool.{cases_Bool, cases_lt, both_ways, false_from_ne_true}
 use Rattle.std.proofs.lemmas.List.{get_or_append_left, get_or_push, length_push}
 use Rattle.pci_spec.specs.Slot.{Slot, same_slot}
 use Rattle.pci_spec.specs.System.{System, Function}
 use Rattle.pci_spec.specs.Bus.{IsNested, LeadsTo, secondary, is_root}
 use Rattle.pci_spec.proofs.BusRanges.{IsOrdered, IsWithin, ordered, within_of_behind, apart_shares_none, behind_is_no_root, root_means, bus_order_means}
-use Rattle.judge_spec.proofs.Judging.{slots_same}
+use Rattle.pci_spec.proofs.SameSlot.{slot_itself, slots_same}
 use Rattle.judge_spec.specs.Given.{Given}
 use Rattle.pci_function.specs.declared.record.Record.{Record}
 use Rattle.pci_tree.specs.Ways.{bus_behind, IsBridgeIn, LeadsAt}
@@ -16,11 +16,6 @@ use Rattle.pci_tree.proofs.Ways.{bridge_at}
 use Rattle.pci_map.specs.Left.{IsSlotAbove}
 use Rattle.pci_map.specs.Ways.{IsWayTo, AreWays}
 use Rattle.pci_map.specs.Windows.{BridgeWindows}
-
-pub same_slot_refl : (s : Slot) → same_slot s s ≡ true
-same_slot_refl s =
-    and_from (s.bus == s.bus && s.device == s.device) (s.function == s.function)
-    (and_from (s.bus == s.bus) (s.device == s.device) (eq-eqb s.bus s.bus refl) (eq-eqb s.device s.device refl)) (eq-eqb s.function s.function refl)
 
 -- ---- two bridges lead to two buses
 
@@ -42,7 +37,7 @@ module _ (roots : List ℕ) (s : System) (nested : IsNested roots s) (bus : ℕ)
   one_slot b c to_b to_c = elim (cases_Bool (same_slot b.slot c.slot)) [
     | inl same ↦ slots_same b.slot c.slot same
     | inr other ↦ absurd (apart_shares_none b c
-        (nested.apart b c to_b.0 to_c.0 to_b.1 to_c.1 (λ same. both_ways (same_slot b.slot c.slot) other (subst (λ (x : Slot). same_slot b.slot x ≡ true) same (same_slot_refl b.slot)))
+        (nested.apart b c to_b.0 to_c.0 to_b.1 to_c.1 (λ same. both_ways (same_slot b.slot c.slot) other (subst (λ (x : Slot). same_slot b.slot x ≡ true) same (slot_itself b.slot)))
         (false_from_ne_true _ (λ h. not_behind b c to_b to_c (within_of_behind c b.slot.bus h)))
         (false_from_ne_true _ (λ h. not_behind c b to_c to_b (within_of_behind b c.slot.bus h))))
         bus (starts_with b bus (ordered b (nested.order b to_b.0 to_b.1)) to_b.2) (starts_with c bus (ordered c (nested.order c to_c.0 to_c.1)) to_c.2))

@@ -1,9 +1,9 @@
 -- Tables of which functions sleep, and of the buses below bridges that do.
-use Rattle.std.specs.Prelude.{◌==◌, ◌||◌, ◌&&◌, ◌⊎◌}
+use Rattle.std.specs.Prelude.{◌||◌, ◌&&◌, ◌⊎◌}
 use Rattle.std.proofs.Common.{◌≡◌, ℕ, ◌+◌, ◌<◌, ◌≤◌, Bool, true, false, List, [], ◌∷◌, ◌++◌, length, get_or, set, replicate, inl, inr, refl, arith, sym, ◌∙◌, ap, ltb, leb}
 use Rattle.std.specs.List.{list_any}
 use Rattle.std.proofs.Math.Bool.{or-true, or-false, and-false}
-use Rattle.std.proofs.lemmas.Bool.{cases_Bool, cases_eq, cases_lt, and_parts, and_from, eq-eqb, eqb-true, both_ways, lt-ltb, le-ltb, le-leb, lt-leb}
+use Rattle.std.proofs.lemmas.Bool.{cases_Bool, cases_eq, cases_lt, and_from, both_ways, lt-ltb, le-ltb, le-leb, lt-leb}
 use Rattle.std.proofs.lemmas.List.{get_or-replicate, get_or-set_same, get_or-set_other, length-replicate, length-set}
 use Rattle.std.proofs.lemmas.List.Folds.{list_any-append}
 use Rattle.pci_spec.specs.Slot.{Slot, IsSlot, slot_number, same_slot}
@@ -11,6 +11,7 @@ use Rattle.pci_spec.specs.Text.{Block}
 use Rattle.pci_spec.specs.System.{is_bridge, function_of, system_of}
 use Rattle.pci_spec.specs.Bus.{is_behind}
 use Rattle.pci_spec.proofs.Regions.{slot_number-same}
+use Rattle.pci_spec.proofs.SameSlot.{slot_itself, slots_same}
 use Rattle.pci_model_settle.specs.Unmoved.{is_among, is_below}
 use Rattle.pci_model_settle.specs.SleepTables.{IsSlotTable, IsBelowTable, is_above_by}
 
@@ -19,18 +20,6 @@ any_more : {X : Type 0} (p : X → Bool) (xs : List X) (x : X) → list_any p (x
 any_more p xs x = list_any-append p xs (x ∷ []) ∙ ap (λ b. list_any p xs || b) (or-false (p x))
 
 -- ---- slots
-
-same_is : (s t : Slot) → same_slot s t ≡ true → s ≡ t
-same_is s t on =
-    let parts = and_parts (s.bus == t.bus && s.device == t.device) (s.function == t.function) on in
-    let first = and_parts (s.bus == t.bus) (s.device == t.device) parts.0 in
-    let bus = eqb-true s.bus t.bus first.0 in
-    let device = eqb-true s.device t.device first.1 in
-    let function = eqb-true s.function t.function parts.1 in
-    λ i. record { bus = bus i; device = device i; function = function i }
-
-same_self : (s : Slot) → same_slot s s ≡ true
-same_self s = and_from (s.bus == s.bus && s.device == s.device) (s.function == s.function) (and_from (s.bus == s.bus) (s.device == s.device) (eq-eqb s.bus s.bus refl) (eq-eqb s.device s.device refl)) (eq-eqb s.function s.function refl)
 
 pub no_slots : IsSlotTable [] (replicate 65536 false)
 no_slots = record {
@@ -47,12 +36,12 @@ more_slots slots table t is small so_far =
       size = length-set table (slot_number t) true ∙ size;
       each = λ s is_s. elim (cases_Bool (same_slot s t)) [
         | inl same ↦
-            ap (λ (x : Slot). get_or (set table (slot_number t) true) (slot_number x) false) (same_is s t same)
+            ap (λ (x : Slot). get_or (set table (slot_number t) true) (slot_number x) false) (slots_same s t same)
             ∙ get_or-set_same table (slot_number t) true false (omega (arith, size, small))
             ∙ sym (any_more (same_slot s) slots t ∙ ap (λ b. is_among slots s || b) same ∙ or-true (is_among slots s))
         | inr other ↦
             get_or-set_other table (slot_number t) (slot_number s) true false
-            (λ e. both_ways (same_slot s t) other (ap (λ (x : Slot). same_slot s x) (sym (slot_number-same s t is_s is e)) ∙ same_self s))
+            (λ e. both_ways (same_slot s t) other (ap (λ (x : Slot). same_slot s x) (sym (slot_number-same s t is_s is e)) ∙ slot_itself s))
             ∙ so_far.each s is_s
             ∙ sym (any_more (same_slot s) slots t ∙ ap (λ b. is_among slots s || b) other ∙ or-false (is_among slots s))
       ];

@@ -20,11 +20,10 @@ use Rattle.plan_spec.proofs.Planning.Kept.{images_of}
 use Rattle.pci_spec.proofs.Pairs.{member_back}
 use Rattle.plan_spec.proofs.Planning.Fit.{after_moved, moved_start, fitting_later}
 use Rattle.plan_spec.proofs.Planning.Settled.{write_shows}
-use Rattle.plan_spec.proofs.Planning.Reached.{slot_itself}
 use Rattle.plan_spec.proofs.Planning.OwnMachine.{own_machine}
 use Rattle.pci_spec.specs.Port as port
 use Rattle.pci_spec.specs.Port.{target_at, has_function, is_access, ShowsNumber}
-use Rattle.pci_machine.proofs.Targets.{slot_of_test}
+use Rattle.pci_spec.proofs.SameSlot.{slot_itself, slots_same}
 use Rattle.pci_plan.specs.declared.apply_fault.ApplyFault.{ApplyFault}
 use Rattle.pci_plan.specs.declared.apply_fault.ApplyFault.TheVariants.{Changed, Port, Stuck}
 use Rattle.pci_place.specs.Above.{system_in}
@@ -76,7 +75,7 @@ found_in : (u : System) (slot : Slot) (t : Target) → target_at (map target_of 
 found_in [] slot t h = absurd (let impossible : ⊥ = cc in impossible)
 found_in (f ∷ u) slot t h = elim (cases_Bool (same_slot f.slot slot)) [
   | inl hit ↦
-      (f, in_head f u, slot_of_test f.slot slot hit, sym (same_Some (target_of f) t (sym (cond-true (same_slot f.slot slot) (Some (target_of f)) (target_at (map target_of u) slot) hit) ∙ h)))
+      (f, in_head f u, slots_same f.slot slot hit, sym (same_Some (target_of f) t (sym (cond-true (same_slot f.slot slot) (Some (target_of f)) (target_at (map target_of u) slot) hit) ∙ h)))
   | inr miss ↦
       let rest = found_in u slot t (sym (cond-false (same_slot f.slot slot) (Some (target_of f)) (target_at (map target_of u) slot) miss) ∙ h) in
       (rest.0, in_tail f u rest.0 rest.1, rest.2, rest.3)

@@ -20,9 +20,10 @@ use Rattle.plan_spec.proofs.Planning.Behind.{all_gives}
 use Rattle.plan_spec.proofs.Planning.Fit.{fitting_later, moved_start, system_moves, system_trans, write_moves}
 use Rattle.plan_spec.proofs.Planning.Kept.{images_of}
 use Rattle.plan_spec.proofs.Planning.Moved.{layout_same}
-use Rattle.plan_spec.proofs.Planning.Writes.{same_fields, same_number}
+use Rattle.plan_spec.proofs.Planning.Writes.{same_number}
 use Rattle.plan_spec.proofs.Planning.Settled.{IsQuiet, number_outside, quiet_keeps, write_shows}
 use Rattle.pci_spec.specs.Port.{target_at, ShowsNumber}
+use Rattle.pci_spec.proofs.SameSlot.{slots_same}
 use Rattle.pci_machine.proofs.Targets.{find-map, target_at-slot}
 use Rattle.pci_plan.specs.Comparing.{compared, ShowsAll}
 use Rattle.pci_plan.specs.Making.{AreWritesMade}
@@ -115,7 +116,7 @@ module _ (x : Write) (targets : List Target) (t : System) (images : (f : Functio
 
   set_shown : (f : Function) → Contains t f → same_slot f.slot x.slot ≡ true → ShowsNumber (write_targets targets x) f.slot x.offset x.width (number_at (write_function x f).image x.offset x.width)
   set_shown f listed here =
-      subst (λ slot. ShowsNumber (write_targets targets x) slot x.offset x.width (number_at (write_function x f).image x.offset x.width)) (sym (same_fields f.slot x.slot here))
+      subst (λ slot. ShowsNumber (write_targets targets x) slot x.offset x.width (number_at (write_function x f).image x.offset x.width)) (sym (slots_same f.slot x.slot here))
       (subst (λ n. ShowsNumber (write_targets targets x) x.slot x.offset x.width n) (sym (write_shows f x (images f listed) (fits f listed here) small here)) shown)
 
   one_shown : (f : Function) → Contains t f → (r : ℕ × ℕ) → Contains (compared f.image) r → ShowsNumber (write_targets targets x) f.slot r.0 r.1 (number_at (write_function x f).image r.0 r.1)

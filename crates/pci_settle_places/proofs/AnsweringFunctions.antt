@@ -8,13 +8,13 @@ use Rattle.pci_spec.specs.Slot.{Slot, IsSlot, same_slot, slot_number}
 use Rattle.pci_spec.specs.System.{System, Function, Space}
 use Rattle.pci_spec.proofs.Members.{in_range_to, in_range_from}
 use Rattle.pci_spec.proofs.Regions.{slot_number-same}
+use Rattle.pci_spec.proofs.SameSlot.{slot_itself, slots_same}
 use Rattle.plan_spec.proofs.Planning.Behind.{any_gives, any_from}
 use Rattle.judge_spec.specs.Told.{ToldRange, IsTold}
 use Rattle.judge_spec.specs.ToldForm.{blank}
 use Rattle.judge_spec.specs.ToldClaims.{told_register}
 use Rattle.judge_spec.specs.ToldRegion.{ToldRegion, told_regions}
-use Rattle.judge_spec.proofs.Judging.{slots_same}
-use Rattle.judge_spec.proofs.ToldNumbering.{regions_are_numbered, slot_itself}
+use Rattle.judge_spec.proofs.ToldNumbering.{regions_are_numbered}
 use Rattle.settle_spec.specs.Lists.{Request}
 use Rattle.settle_spec.specs.Lines.{is_command_line}
 use Rattle.settle_spec.specs.Parts.{are_same_space}

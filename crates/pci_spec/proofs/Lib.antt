@@ -42,6 +42,7 @@ pub mod FirstLines
 pub mod Sounding
 pub mod Regions
 pub mod Firsts
+pub mod SameSlot
 pub mod Looking
 pub mod Chains
 pub mod Pairing

@@ -1,8 +1,8 @@
 -- The order in which faults are looked for: what a key that precedes another says.
 use Rattle.std.proofs.Common.{◌≡◌, ◌⊎◌, ℕ, ◌+◌, ◌<◌, ◌≤◌, List, [], ◌∷◌, ◌++◌, length, get_or, drop, refl, true, false, inl, inr, arith, sym, ◌∙◌, ap, subst}
-use Rattle.std.specs.Prelude.{◌==◌, ◌&&◌}
+use Rattle.std.specs.Prelude.{◌==◌}
 use Rattle.std.specs.List.{Contains, AllPairs, range_with_len}
-use Rattle.std.proofs.lemmas.Bool.{both_ways, cases_lt, cases_Bool, eqb-true, eq-eqb, and_parts, and_from}
+use Rattle.std.proofs.lemmas.Bool.{both_ways, cases_lt, cases_Bool, eqb-true, eq-eqb}
 use Rattle.std.proofs.lemmas.List.{get_or_past, get_or_default}
 use Rattle.std.proofs.lemmas.List.Elements.{Contains-get_or}
 use Rattle.pci_spec.specs.Slot.{Slot, IsSlot, slot_number, same_slot}
@@ -12,6 +12,7 @@ use Rattle.pci_spec.specs.Fault.{Fault, NoVendor, HeaderKind, BarType, BarMask, 
 use Rattle.pci_spec.specs.Order.{precedes, slot_key, looking_key, phase_of, is_before, longest_walk, steps_at, step_after, image_at}
 use Rattle.pci_spec.proofs.Members.{in_nil, in_head, in_tail, in_cons_cases, in_filter_to, in_filter_from, in_range_from, pairs_filter, pairs_range}
 use Rattle.pci_spec.proofs.Regions.{precedes-cases}
+use Rattle.pci_spec.proofs.SameSlot.{slot_itself, slots_same}
 
 -- ---- keys
 
@@ -159,27 +160,13 @@ met_again_by image place m n less within one two =
 
 -- ---- images by slot
 
-same_slot_true : (s t : Slot) → same_slot s t ≡ true → s ≡ t
-same_slot_true s t h =
-    let p = and_parts (s.bus == t.bus && s.device == t.device) (s.function == t.function) h in
-    let q = and_parts (s.bus == t.bus) (s.device == t.device) p.0 in
-    let bus = eqb-true s.bus t.bus q.0 in
-    let device = eqb-true s.device t.device q.1 in
-    let function = eqb-true s.function t.function p.1 in
-    λ i. record { bus = bus i; device = device i; function = function i }
-
-same_slot_refl : (s : Slot) → same_slot s s ≡ true
-same_slot_refl s =
-    and_from (s.bus == s.bus && s.device == s.device) (s.function == s.function)
-    (and_from (s.bus == s.bus) (s.device == s.device) (eq-eqb s.bus s.bus refl) (eq-eqb s.device s.device refl)) (eq-eqb s.function s.function refl)
-
 -- a function's image is that at its slot, where no other function stands there
 pub image_at_is : (s : System) (f : Function) → ((g : Function) → Contains s g → g.slot ≡ f.slot → g ≡ f) → Contains s f → image_at s f.slot ≡ f.image
 image_at_is [] f unique has = absurd (in_nil f has)
 image_at_is (g ∷ s) f unique has = elim (cases_Bool (same_slot g.slot f.slot)) [
-  | inl same ↦ rw same (ap (λ (x : Function). x.image) (unique g (in_head g s) (same_slot_true g.slot f.slot same)))
+  | inl same ↦ rw same (ap (λ (x : Function). x.image) (unique g (in_head g s) (slots_same g.slot f.slot same)))
   | inr other ↦ rw other (elim (in_cons_cases g s f has) [
-    | inl here ↦ absurd (both_ways _ other (subst (λ (x : Function). same_slot x.slot f.slot ≡ true) (sym here) (same_slot_refl f.slot)))
+    | inl here ↦ absurd (both_ways _ other (subst (λ (x : Function). same_slot x.slot f.slot ≡ true) (sym here) (slot_itself f.slot)))
     | inr later ↦ image_at_is s f (λ h listed e. unique h (in_tail g s h listed) e) later
   ])
 ]

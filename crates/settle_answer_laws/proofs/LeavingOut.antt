@@ -9,7 +9,7 @@ use Rattle.pci_spec.specs.Header.{command, layout}
 use Rattle.pci_spec.specs.System.{Function, System}
 use Rattle.pci_spec.proofs.BusRanges.{any_from}
 use Rattle.pci_spec.proofs.Members.{in_head, in_tail}
-use Rattle.judge_spec.proofs.ToldNumbering.{slot_itself}
+use Rattle.pci_spec.proofs.SameSlot.{slot_itself}
 use Rattle.judge_spec.specs.Bytes.{without_registers}
 use Rattle.pci_model_settle.specs.OffDevices.{function_without, functions_without}
 use Rattle.pci_model_settle.specs.Unmoved.{is_among}

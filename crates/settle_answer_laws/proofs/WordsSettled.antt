@@ -2,7 +2,7 @@
 use Rattle.std.proofs.Common.{◌≡◌, ℕ, zero, suc, [], ◌∷◌, List, Bool, true, false, ◌&&◌, ◌||◌, not, inl, inr, refl, sym, ◌∙◌, ap, subst, arith, map, take, set}
 use Rattle.std.specs.Bool.{nat_le, nat_lt, ◌==◌, if◌then◌else◌}
 use Rattle.std.specs.List.{All, AllZip, Contains, list_any}
-use Rattle.std.proofs.lemmas.Bool.{and_cases, and_from, and_parts, both_ways, cases_Bool, cond_both, eq-eqb, false_from_ne_true, ltb-true, or_parts}
+use Rattle.std.proofs.lemmas.Bool.{and_cases, and_from, and_parts, both_ways, cases_Bool, cond_both, false_from_ne_true, ltb-true, or_parts}
 use Rattle.std.proofs.lemmas.List.Elements.{All-contains, All-take}
 use Rattle.pci_spec.specs.Header.{command, primary_bus}
 use Rattle.pci_spec.specs.Slot.{Slot, same_slot}
@@ -13,17 +13,18 @@ use Rattle.pci_spec.specs.Text.{Block}
 use Rattle.pci_spec.proofs.BusRanges.{any_from, any_gives}
 use Rattle.pci_spec.proofs.Members.{in_cons_cases, in_head, in_map_from, in_nil, in_tail}
 use Rattle.pci_spec.proofs.Nesting.{one_function}
+use Rattle.pci_spec.proofs.SameSlot.{slot_itself, slots_same}
 use Rattle.plan_spec.specs.Planning.Fitting.{FitsAt}
 use Rattle.plan_spec.proofs.Planning.Kept.{images_of}
 use Rattle.plan_spec.proofs.Planning.OwnMachine.{own_machine}
-use Rattle.plan_spec.proofs.Planning.Writes.{same_fields, same_number}
+use Rattle.plan_spec.proofs.Planning.Writes.{same_number}
 use Rattle.settle_spec.specs.Lists.{Request}
 use Rattle.settle_laws.proofs.Told.Settling.{fixed_is_not_written}
 use Rattle.judge_spec.specs.Bytes.{without_registers}
 use Rattle.judge_spec.specs.ModelWords.{Words}
 use Rattle.judge_spec.specs.Asleep.{AreSlotsWhere}
 use Rattle.judge_spec.specs.Taken.{AreFunctionsTakenAs, IsAsleepBy, IsTakenAs}
-use Rattle.judge_spec.proofs.Kept.{slots_same}
+use Rattle.judge_spec.proofs.Kept.{slots_same as all_slots_same}
 use Rattle.judge_spec.specs.Words.{is_alone, unclaimed_aside}
 use Rattle.pci_spec.specs.Registers.{SECONDARY_BUS_RESET}
 use Rattle.pci_spec.specs.Fault.{controls_bridge}
@@ -45,9 +46,6 @@ use Rattle.settle_answer_laws.proofs.TakenAlong.{AreWindowsShown, first_along}
 
 -- ---- Command of a dump
 
-slot_itself : (slot : Slot) → same_slot slot slot ≡ true
-slot_itself slot = λ i. eq-eqb slot.bus slot.bus refl i && eq-eqb slot.device slot.device refl i && eq-eqb slot.function slot.function refl i
-
 module _ (s : System) (system : IsSystem s) where
   command_of : (dump probe : List Block) → ((g : Function) → Contains (system_of dump probe) g → Contains s g) → (f : Function) → Contains (system_of dump probe) f → listed_command dump f.slot ≡ command f.image
   command_of [] probe among f has = absurd (in_nil f has)
@@ -67,7 +65,7 @@ module _ (s : System) (system : IsSystem s) where
 listing : (dump probe : List Block) → IsSystem (system_of dump probe) → IsListing (listed_write dump) (system_of dump probe)
 listing dump probe system = record {
   slot = λ u. slot_is u (listed_command dump u.slot);
-  own = λ f has u here. λ i. put_write ((ap (listed_command dump) (sym (same_fields f.slot u.slot here)) ∙ command_of (system_of dump probe) system dump probe (λ g in_g. in_g) f has) i) u;
+  own = λ f has u here. λ i. put_write ((ap (listed_command dump) (sym (slots_same f.slot u.slot here)) ∙ command_of (system_of dump probe) system dump probe (λ g in_g. in_g) f has) i) u;
 }
 
 -- ---- those that stay
@@ -125,7 +123,7 @@ aside_windows w s f kind =
 pub among_has : (slots : List Slot) (slot : Slot) → is_among slots slot ≡ true → Contains slots slot
 among_has slots slot is =
     let found = any_gives (same_slot slot) slots is in
-    subst (λ x. Contains slots x) (sym (same_fields slot found.0 found.2)) found.1
+    subst (λ x. Contains slots x) (sym (slots_same slot found.0 found.2)) found.1
 
 -- a member of the first so many is one of all
 in_take : (n : ℕ) (writes : List Write) (u : Write) → Contains (take n writes) u → Contains writes u
@@ -162,7 +160,7 @@ module _ (q : Request) (w : Words) (slots : List Slot) (dump probe : List Block)
   -- no write is one of a fixed function
   pub left_alone : (f : Function) → Contains q.fixed f.slot → IsLeftAlone firsts f
   left_alone f has u in_u = false_from_ne_true (same_slot f.slot u.slot) (λ here.
-      let same = same_fields f.slot u.slot here in
+      let same = slots_same f.slot u.slot here in
       both_ways (list_any (same_slot u.slot) q.fixed) (fixed_is_not_written q rest writes u set_so.ended (in_take n writes u in_u))
       (any_from (same_slot u.slot) q.fixed f.slot has (ap (same_slot u.slot) same ∙ slot_itself u.slot)))
 
@@ -260,7 +258,7 @@ module _ (q : Request) (w : Words) (slots : List Slot) (dump probe : List Block)
       )
 
   all_pairs : AllZip (IsPair w slots s set_so.system (listed_write dump) firsts (listing dump probe set_so.system)) s t
-  all_pairs = pairs s t (λ f has. has) (λ h has. has) (slots_same w slots s t set_so.taken)
+  all_pairs = pairs s t (λ f has. has) (λ h has. has) (all_slots_same w slots s t set_so.taken)
       (subst (λ x. AllZip (IsTakenAs w slots) x t) (each_aside w s) set_so.taken)
       (λ slot has. set_so.fixed slot (subst (λ (ss : List Slot). Contains ss slot) (sym set_so.stay.are) has))
 

@@ -2,17 +2,17 @@
 use Rattle.std.proofs.Common.{◌≡◌, ◌&&◌, ◌||◌, ℕ, ◌+◌, ◌*◌, inl, inr, List, Bool, true, false, not, arith, refl, sym, ◌∙◌, ap, subst}
 use Rattle.std.specs.Bool.{◌==◌, nat_lt}
 use Rattle.std.specs.List.{Contains, list_all}
-use Rattle.std.proofs.lemmas.Bool.{and_from, and_parts, both_ways, cases_Bool, eq-eqb, eqb-true, false_from_ne_true, lt-ltb, or_cases, or_left, or_right}
-use Rattle.pci_spec.specs.Slot.{Slot, same_slot, slot_number}
+use Rattle.std.proofs.lemmas.Bool.{and_from, and_parts, both_ways, cases_Bool, eqb-true, false_from_ne_true, lt-ltb, or_cases, or_left, or_right}
+use Rattle.pci_spec.specs.Slot.{same_slot, slot_number}
 use Rattle.pci_spec.specs.Decoded.{Range}
 use Rattle.pci_spec.specs.System.{System, Function, IsSystem, Part, Bar, Rom, Window, is_bridge, is_window, register_of}
 use Rattle.pci_spec.specs.Bus.{are_siblings, is_root, IsNested}
 use Rattle.pci_spec.proofs.BusRanges.{all_from, root_means}
 use Rattle.pci_spec.proofs.Members.{in_flat_map_to, IsInPiece, in_map_to, IsMade, in_filter_to}
 use Rattle.pci_spec.proofs.Nesting.{one_function}
+use Rattle.pci_spec.proofs.SameSlot.{slot_itself, slots_same}
 use Rattle.plan_spec.specs.Planning.Layout.{AreBeside, AreTwo, LieApart}
 use Rattle.plan_spec.proofs.Planning.LaidOut.{opening}
-use Rattle.plan_spec.proofs.Planning.Writes.{same_fields}
 use Rattle.settle_spec.specs.FirstPlace.{ranges_are_apart}
 use Rattle.settle_spec.specs.Lists.{Request}
 use Rattle.settle_spec.specs.Parts.{FunctionPart, system_parts, function_parts, parts_of, header_parts, addresses, is_part}
@@ -21,10 +21,6 @@ use Rattle.settle_laws.specs.Standing.{IsStanding}
 use Rattle.settle_laws.proofs.Order.{precedes_itself}
 use Rattle.settle_laws.proofs.Standing.{stands_alone}
 use Rattle.settle_laws.proofs.HeaderParts.{IsPart, one_part, register_low}
-
-same_slot_itself : (s : Slot) → same_slot s s ≡ true
-same_slot_itself s = and_from (s.bus == s.bus && s.device == s.device) (s.function == s.function)
-    (and_from (s.bus == s.bus) (s.device == s.device) (eq-eqb s.bus s.bus refl) (eq-eqb s.device s.device refl)) (eq-eqb s.function s.function refl)
 
 -- what lies apart is apart
 pub apart_from : (r t : Range) → LieApart r t → ranges_are_apart r t ≡ true
@@ -36,7 +32,7 @@ pub two_of : (r t : FunctionPart) → (rank r ≡ rank t → ⊥) → AreTwo r.f
 two_of r t differ = elim (cases_Bool (same_slot r.function.slot t.function.slot)) [
   | inr other ↦ inl other
   | inl same ↦
-      let slot = same_fields r.function.slot t.function.slot same in
+      let slot = slots_same r.function.slot t.function.slot same in
       inr (λ register. differ (λ i. slot_number (slot i) * 256 + register i))
 ]
 
@@ -93,7 +89,7 @@ module _ (q : Request) (s : System) where
     pub two_ranks : (r t : FunctionPart) → IsLookedAt r → IsLookedAt t → AreTwo r.function r.part t.function t.part → rank r ≡ rank t → ⊥
     two_ranks r t is_r is_t (inl slots) same =
         both_ways (same_slot r.function.slot t.function.slot) slots
-        (ap (λ f. same_slot r.function.slot f.slot) (sym (one_rank r t is_r is_t same).function) ∙ same_slot_itself r.function.slot)
+        (ap (λ f. same_slot r.function.slot f.slot) (sym (one_rank r t is_r is_t same).function) ∙ slot_itself r.function.slot)
     two_ranks r t is_r is_t (inr registers) same = registers (one_rank r t is_r is_t same).register
 
     one_region : (r t : FunctionPart) → IsLookedAt r → IsLookedAt t → rank r ≡ rank t → r ≡ t

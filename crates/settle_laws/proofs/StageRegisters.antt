@@ -12,12 +12,13 @@ use Rattle.pci_spec.specs.Header.{bar_register, registers_by, is_in_register}
 use Rattle.pci_spec.specs.System.{Function, is_bridge}
 use Rattle.pci_spec.specs.Machine.{Write}
 use Rattle.pci_spec.proofs.Members.{in_nil, in_cons_cases, in_head, IsInPiece, in_flat_map_to, in_flat_map_from, pairs_nil, pairs_cons}
+use Rattle.pci_spec.proofs.SameSlot.{slot_itself}
 use Rattle.plan_spec.specs.Plan.{IsMoved}
 use Rattle.plan_spec.specs.Planning.Fitting.{IsFitting, FitsByNumber}
 use Rattle.plan_spec.specs.Planning.PlanWrites.{Change, register_write}
 use Rattle.plan_spec.proofs.Planning.Behind.{Passes, all_gives, any_gives}
 use Rattle.plan_spec.proofs.Planning.OtherRules.{byte_number}
-use Rattle.plan_spec.proofs.Planning.Reached.{byte_of_number, slot_itself, two_of}
+use Rattle.plan_spec.proofs.Planning.Reached.{byte_of_number, two_of}
 use Rattle.plan_spec.proofs.Planning.Registers.{fits_by_number, number_below}
 use Rattle.plan_spec.proofs.Planning.Settled.{IsQuiet, IsSetting, function_after, function_moved, settled, untouched}
 use Rattle.plan_spec.proofs.Planning.Staging.{number_fits, number_write}

@@ -10,6 +10,7 @@ use Rattle.pci_spec.specs.Header.{command, layout, address_registers, is_in_regi
 use Rattle.pci_spec.specs.System.{System, Function, Io, Memory}
 use Rattle.pci_spec.specs.Machine.{Write, system_after}
 use Rattle.pci_spec.proofs.Members.{in_map_from}
+use Rattle.pci_spec.proofs.SameSlot.{slots_same}
 use Rattle.plan_spec.proofs.Planning.Behind.{Passes, any_gives}
 use Rattle.plan_spec.specs.Plan.{IsMoved}
 use Rattle.plan_spec.specs.Planning.Building.{command_write}
@@ -23,7 +24,7 @@ use Rattle.plan_spec.proofs.Planning.OtherRules.{byte_number}
 use Rattle.plan_spec.proofs.Planning.Reached.{byte_of_number}
 use Rattle.plan_spec.proofs.Planning.Registers.{fits_by_number}
 use Rattle.plan_spec.proofs.Planning.Settled.{IsQuiet, IsSetting, function_after, function_moved, settled, system_by_function, untouched}
-use Rattle.plan_spec.proofs.Planning.Writes.{same_fields, write_elsewhere}
+use Rattle.plan_spec.proofs.Planning.Writes.{write_elsewhere}
 use Rattle.settle_spec.specs.Lists.{Request}
 use Rattle.settle_spec.specs.Keeping.Registers.{settled_function, settled_command, is_enabled_in}
 use Rattle.settle_spec.specs.Keeping.Writes.{settle_writes}
@@ -50,7 +51,7 @@ module _ (q : Request) (s : System) (k : Kept) (are : AreSettling q s k) (f : Fu
   module _ (p : List Write) (sub : (x : Write) → Contains p x → Contains (settle_writes q s k) x) where
     -- each write to its slot switches it on
     switched : (x : Write) → Contains p x → same_slot f.slot x.slot ≡ true → x ≡ command_write f (settled_command q s k f)
-    switched x has here = only_opened q s k are.system f listed keeps x (sub x has) (sym (same_fields f.slot x.slot here))
+    switched x has here = only_opened q s k are.system f listed keeps x (sub x has) (sym (slots_same f.slot x.slot here))
 
     fit_here : (x : Write) → Contains p x → same_slot f.slot x.slot ≡ true → IsFitting x f
     fit_here x has here = subst (λ w. IsFitting w f) (sym (switched x has here)) opening_fits

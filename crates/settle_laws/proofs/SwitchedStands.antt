@@ -12,13 +12,13 @@ use Rattle.pci_spec.specs.Bus.{secondary, are_siblings, is_root, IsNested, Leads
 use Rattle.pci_spec.proofs.BusRanges.{all_from, all_gives, root_means}
 use Rattle.pci_spec.proofs.Members.{in_flat_map_from, in_map_to, IsMade}
 use Rattle.pci_spec.proofs.Pairs.{member_back}
+use Rattle.pci_spec.proofs.SameSlot.{slots_same}
 use Rattle.plan_spec.specs.Plan.{IsMoved, bridges_above, is_served}
 use Rattle.plan_spec.specs.Planning.Layout.{range_of}
 use Rattle.plan_spec.proofs.PlanningLaws.{moved_has_chains, moved_is_in_profile, moved_is_nested, moved_is_system}
 use Rattle.plan_spec.proofs.Planning.AboveBuses.{above_to, all_above as all_over, all_above_root, root_or_led}
 use Rattle.plan_spec.proofs.Planning.Behind.{Passes, any_gives}
 use Rattle.plan_spec.proofs.Planning.ShownSystem.{zip_by}
-use Rattle.plan_spec.proofs.Planning.Writes.{same_fields}
 use Rattle.judge_spec.specs.ToldRegion.{ToldRegion, told_regions}
 use Rattle.settle_spec.specs.FirstPlace.{ranges_are_apart}
 use Rattle.settle_spec.specs.Lines.{line_bus, line_range, is_command_line}
@@ -264,7 +264,7 @@ module _ (q : Request) (s : System) (standing : IsStandingSystem q s) (on : (r :
             let x = found.x in
             let three = and_parts (is_command_line x && same_slot x.told.slot f.slot && are_same_space space x.told.space) (range_stands q s x) found.is in
             let two = and_parts (is_command_line x && same_slot x.told.slot f.slot) (are_same_space space x.told.space) three.0 in
-            let slot = same_fields x.told.slot f.slot (and_parts (is_command_line x) (same_slot x.told.slot f.slot) two.0).1 in
+            let slot = slots_same x.told.slot f.slot (and_parts (is_command_line x) (same_slot x.told.slot f.slot) two.0).1 in
             subst (λ y. are_bridges_on s y f.slot.bus ≡ true) (sym (one_space space x.told.space two.1))
             (subst (λ (y : Slot). are_bridges_on s x.told.space y.bus ≡ true) slot (bridges_on x three.1))
         | inr part ↦

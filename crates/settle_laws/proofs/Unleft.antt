@@ -18,8 +18,8 @@ use Rattle.settle_laws.proofs.HeaderParts.{part_cases}
 use Rattle.settle_laws.proofs.Held.{and_second_false, left_behind}
 use Rattle.settle_laws.proofs.Kept.{one_space}
 use Rattle.settle_laws.proofs.Told.Reached.{range_unleft}
-use Rattle.plan_spec.proofs.Planning.Writes.{same_fields}
 use Rattle.pci_spec.specs.Slot.{Slot, same_slot}
+use Rattle.pci_spec.proofs.SameSlot.{slots_same}
 use Rattle.judge_spec.specs.ToldRegion.{told_regions}
 use Rattle.settle_spec.specs.Lines.{is_command_line}
 
@@ -60,7 +60,7 @@ module _ (q : Request) (s : System) (system : IsSystem s) (nested : IsNested q.r
         let x : Passes (is_answered_by q s Io f) (told_regions q.told) = any_gives (is_answered_by q s Io f) (told_regions q.told) told in
         let three = and_parts (is_command_line x.x && same_slot x.x.told.slot f.slot && are_same_space Io x.x.told.space) (range_stands q s x.x) x.is in
         let two = and_parts (is_command_line x.x && same_slot x.x.told.slot f.slot) (are_same_space Io x.x.told.space) three.0 in
-        let slot = same_fields x.x.told.slot f.slot (and_parts (is_command_line x.x) (same_slot x.x.told.slot f.slot) two.0).1 in
+        let slot = slots_same x.x.told.slot f.slot (and_parts (is_command_line x.x) (same_slot x.x.told.slot f.slot) two.0).1 in
         range_unleft q s system nested f x.x three.1 (sym (one_space Io x.x.told.space two.1)) (ap (λ (t : Slot). t.bus) slot) b above
     | inr plain ↦ false_from_ne_true (has_left q s b) (λ left. both_ways (cause f) (no_cause f plain) (left_behind q s system nested f b above left))
   ])

@@ -8,13 +8,14 @@ use Rattle.pci_spec.specs.Header.{layout, address_registers, registers_by}
 use Rattle.pci_spec.specs.System.{Function, is_bridge}
 use Rattle.pci_spec.specs.Machine.{Write}
 use Rattle.pci_spec.proofs.Members.{in_nil, in_cons_cases, in_head, in_map_to, in_map_from, IsMade}
+use Rattle.pci_spec.proofs.SameSlot.{slot_itself}
 use Rattle.plan_spec.specs.Planning.Fitting.{IsFitting}
 use Rattle.plan_spec.specs.Planning.Building.{write_of, command_write, built, AreFitting, IsBuilt}
 use Rattle.plan_spec.proofs.Planning.Registers.{fits_by_number}
 use Rattle.plan_spec.proofs.Planning.Fit.{moved_itself}
 use Rattle.plan_spec.proofs.Planning.Staging.{is_register, pairs_in_order, registers_in_order}
 use Rattle.plan_spec.proofs.Planning.Settled.{IsSetting, function_moved, settled}
-use Rattle.plan_spec.proofs.Planning.Reached.{two_of, slot_itself}
+use Rattle.plan_spec.proofs.Planning.Reached.{two_of}
 
 module _ (f : Function) (is : IsImage f.image) (value : ℕ × ℕ → ℕ) (new_command : ℕ) (fitting : AreFitting f value new_command) where
   abbrev registers : List Write

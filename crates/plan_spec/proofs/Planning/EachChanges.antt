@@ -13,16 +13,17 @@ use Rattle.pci_spec.specs.System.{System, Function, IsSystem, is_bridge}
 use Rattle.pci_spec.specs.Machine.{Write, write_function, write_system, system_after}
 use Rattle.plan_spec.specs.Plan.{IsMoved}
 use Rattle.pci_spec.proofs.Members.{in_head, in_tail, in_map_from, pairs_head, pairs_tail}
+use Rattle.pci_spec.proofs.SameSlot.{slot_itself, slots_same}
 use Rattle.plan_spec.specs.Planning.Safety.{is_on}
 use Rattle.plan_spec.specs.Planning.Fitting.{FitsAt}
 use Rattle.plan_spec.specs.Planning.PlanWrites.{Change, olds, closed_command, closing_of, register_write, registers_of, opening_of, closing_writes, register_writes, opening_writes, plan_writes, most_writes}
 use Rattle.plan_spec.proofs.Planning.Kept.{images_of}
 use Rattle.plan_spec.proofs.Planning.Registers.{number_below}
 use Rattle.plan_spec.proofs.Planning.Fit.{moved_itself, fitting_later}
-use Rattle.plan_spec.proofs.Planning.Writes.{listed_after, same_fields, other_number}
+use Rattle.plan_spec.proofs.Planning.Writes.{listed_after, other_number}
 use Rattle.plan_spec.proofs.Planning.Staging.{Rise, changes_rise, closing_falls, opening_rises, IsApart, registers_apart, is_register, low_clear, fits, closing_to, register_to, opening_to, closing_write, number_write, opening_write}
 use Rattle.plan_spec.proofs.Planning.Stop.{after_parts}
-use Rattle.plan_spec.proofs.Planning.Reached.{moves, old_listed, image_of, all_fit, in_closing, in_later, closing_quiet, register_quiet, moved_closed, closed_then, slot_itself, closed_le}
+use Rattle.plan_spec.proofs.Planning.Reached.{moves, old_listed, image_of, all_fit, in_closing, in_later, closing_quiet, register_quiet, moved_closed, closed_then, closed_le}
 use Rattle.plan_spec.proofs.Planning.Settled.{moved_step, IsQuiet, function_after, system_by_function, function_parts, function_moved, quiet_keeps, untouched, write_shows}
 
 -- each write of a list changes what the ones before it leave
@@ -75,7 +76,7 @@ module _ (start : System) (images : (f : Function) → Contains start f → IsIm
         | inl at_x ↦ elim apart [
           | inl differ ↦
               let at_y : same_slot f.slot y.slot ≡ true = ap (λ slot. same_slot slot y.slot) h.moved.slot ∙ h.here in
-              absurd (both_ways (same_slot x.slot y.slot) differ (ap (λ slot. same_slot slot y.slot) (sym (same_fields f.slot x.slot at_x)) ∙ at_y))
+              absurd (both_ways (same_slot x.slot y.slot) differ (ap (λ slot. same_slot slot y.slot) (sym (slots_same f.slot x.slot at_x)) ∙ at_y))
           | inr (inl before) ↦ inr (inr before)
           | inr (inr after) ↦ inr (inl after)
         ]

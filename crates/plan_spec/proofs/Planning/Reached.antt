@@ -3,7 +3,7 @@ use Rattle.std.proofs.Common.{◌≡◌, ℕ, suc, ◌+◌, ◌-◌, ◌*◌, �
 use Rattle.std.specs.Bool.{IsFalse, nat_lt, nat_le, ◌==◌}
 use Rattle.std.specs.List.{All, AllPairs, Contains, list_any}
 use Rattle.std.specs.Int.{bit_at}
-use Rattle.std.proofs.lemmas.Bool.{and_parts, and_from, and_left, cases_Bool, cases_eq, cases_order, both_ways, eqb-true, leb-true, ltb-true, ne_eqb, eq-eqb}
+use Rattle.std.proofs.lemmas.Bool.{and_parts, and_left, cases_Bool, cases_eq, cases_order, both_ways, eqb-true, leb-true, ltb-true, ne_eqb}
 use Rattle.std.proofs.lemmas.Nat.Bits.{same_from_bits_below}
 use Rattle.std.proofs.lemmas.List.{ext_get_or, get_or_default}
 use Rattle.std.proofs.lemmas.List.Elements.{All-contains, Contains-append_cases, Contains-append_left, Contains-append_right}
@@ -17,6 +17,7 @@ use Rattle.plan_spec.specs.Plan.{IsMoved}
 use Rattle.pci_spec.proofs.Bits.{bit_of_false}
 use Rattle.pci_spec.proofs.Members.{in_map_from}
 use Rattle.pci_spec.proofs.KeptBits.{field_passes, are_within}
+use Rattle.pci_spec.proofs.SameSlot.{slot_itself}
 use Rattle.plan_spec.specs.Planning.Safety.{is_on}
 use Rattle.plan_spec.specs.Planning.Fitting.{IsFitting, FitsAt}
 use Rattle.plan_spec.specs.Planning.Building.{command_write}
@@ -83,10 +84,6 @@ same_image f g h m n registers commands = ext_get_or 0 h.image g.image (n.image.
 
 same_function : (g h : Function) → h.slot ≡ g.slot → h.image ≡ g.image → h.probe ≡ g.probe → h ≡ g
 same_function g h slot image probe = λ i. record { slot = slot i; image = image i; probe = probe i }
-
-pub slot_itself : (s : Slot) → same_slot s s ≡ true
-slot_itself s = and_from (s.bus == s.bus && s.device == s.device) (s.function == s.function)
-    (and_from (s.bus == s.bus) (s.device == s.device) (eq-eqb s.bus s.bus refl) (eq-eqb s.device s.device refl)) (eq-eqb s.function s.function refl)
 
 or_false_left : (x y : Bool) → (x || y) ≡ false → x ≡ false
 or_false_left true y e = e

@@ -5,8 +5,8 @@ use Rattle.pci_spec.specs.Slot.{same_slot}
 use Rattle.std.specs.List.{Contains}
 use Rattle.pci_spec.specs.System.{System, Function, Part, Space, Claims, register_of}
 use Rattle.pci_spec.specs.Sound.{IsSingle, IsSameRegion}
+use Rattle.pci_spec.proofs.SameSlot.{slots_same}
 use Rattle.plan_spec.specs.Planning.Ranges.{Ranges, HoldsClaims, AreApart}
-use Rattle.plan_spec.proofs.Planning.Writes.{same_fields}
 
 -- two regions that claim an address, on one bus or on two roots, are one
 module _ (roots : List ℕ) (s : System) (r : Ranges) (holds : HoldsClaims s r) (apart : AreApart roots s r) where
@@ -22,7 +22,7 @@ module _ (roots : List ℕ) (s : System) (r : Ranges) (holds : HoldsClaims s r) 
       elim (cases_Bool (same_slot f.slot g.slot)) [
         | inr other ↦ absurd (clash (apart f g p q space a in_f in_g side claim_f claim_g (inl other)))
         | inl same ↦ elim (cases_eq (register_of f p) (register_of g q)) [
-          | inl e ↦ (same_fields f.slot g.slot same, e)
+          | inl e ↦ (slots_same f.slot g.slot same, e)
           | inr differ ↦ absurd (clash (apart f g p q space a in_f in_g side claim_f claim_g (inr differ)))
         ]
       ]

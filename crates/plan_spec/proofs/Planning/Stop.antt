@@ -8,10 +8,11 @@ use Rattle.pci_spec.specs.Slot.{Slot, IsSlot, same_slot, slot_number}
 use Rattle.pci_spec.specs.System.{System, Function, IsSystem, Part, Space, Claims}
 use Rattle.pci_spec.specs.Bus.{IsNested}
 use Rattle.pci_spec.specs.Machine.{Write, write_function, write_system, system_after}
+use Rattle.pci_spec.proofs.SameSlot.{slots_same}
 use Rattle.plan_spec.specs.Planning.Safety.{is_on, IsCutAt, IsSafe}
 use Rattle.plan_spec.specs.Planning.Stops.{IsClosing, IsAside, Closes, Rises, IsOffFrom, IsStaged}
 use Rattle.plan_spec.proofs.Planning.Safe.{on_by_claim, safe_below, off_safe, slots_of}
-use Rattle.plan_spec.proofs.Planning.Writes.{same_fields, write_elsewhere, other_number, listed_before, listed_after, off_by_write, on_kept}
+use Rattle.plan_spec.proofs.Planning.Writes.{write_elsewhere, other_number, listed_before, listed_after, off_by_write, on_kept}
 
 one_slot : (s t : Slot) → IsSlot s → IsSlot t → slot_number s ≡ slot_number t → same_slot s t ≡ true
 one_slot s t hs ht e =
@@ -197,7 +198,7 @@ off_claims_nothing s w aside off f p space a in_f claim =
     let h = found.0 in
     elim (cases_Bool (same_slot h.slot w.slot)) [
       | inl here ↦
-          let dark : is_on f ≡ false = ap is_on (sym found.2) ∙ on_kept w h aside ∙ off h found.1 (same_fields h.slot w.slot here) in
+          let dark : is_on f ≡ false = ap is_on (sym found.2) ∙ on_kept w h aside ∙ off h found.1 (slots_same h.slot w.slot here) in
           absurd (both_ways (is_on f) dark (on_by_claim f p space a claim))
       | inr other ↦
           let same : h ≡ f = sym (write_elsewhere w h other) ∙ found.2 in

@@ -1,8 +1,8 @@
 -- Registers that show the places of a table have everything in its place.
 use Rattle.std.proofs.Common.{◌≡◌, ℕ, ◌+◌, ◌-◌, ◌%◌, ◌^◌, ◌<◌, ◌≤◌, ◌⊎◌, inl, inr, List, refl, true, ◌&&◌, arith, sym, ◌∙◌, ap, subst, map, length, get_or}
-use Rattle.std.specs.Bool.{nat_lt, ◌==◌, if◌then◌else◌}
+use Rattle.std.specs.Bool.{nat_lt, if◌then◌else◌}
 use Rattle.std.specs.List.{Contains, AllZip, sum}
-use Rattle.std.proofs.lemmas.Bool.{and_parts, and_from, cases_Bool, cases_order, both_ways, lt-ltb, eq-eqb}
+use Rattle.std.proofs.lemmas.Bool.{and_parts, and_from, cases_Bool, cases_order, both_ways, lt-ltb}
 use Rattle.std.proofs.lemmas.List.{get_or-map, length-map}
 use Rattle.std.proofs.lemmas.Nat.{pow_pos}
 use Rattle.pci_spec.specs.Number.{lowest_one}
@@ -21,13 +21,10 @@ use Rattle.plan_spec.specs.Planning.Room.{root_items}
 use Rattle.plan_spec.specs.Planning.Table.{Item, need_behind, is_placed, size_in, size_at, IsOnSide, IsPlacedOn, IsTable, IsShown}
 use Rattle.plan_spec.proofs.Planning.Kept.{images_of}
 use Rattle.pci_spec.proofs.Pairs.{member_back}
+use Rattle.pci_spec.proofs.SameSlot.{slot_itself}
 use Rattle.plan_spec.proofs.Planning.Moved.{bridge_same, secondary_same, layout_same}
 use Rattle.plan_spec.proofs.Planning.Placement.{placed, power_pos, window_least}
 use Rattle.plan_spec.proofs.Planning.Needed.{needed, size_power}
-
-same_slot_itself : (s : Slot) → same_slot s s ≡ true
-same_slot_itself s = and_from (s.bus == s.bus && s.device == s.device) (s.function == s.function)
-    (and_from (s.bus == s.bus) (s.device == s.device) (eq-eqb s.bus s.bus refl) (eq-eqb s.device s.device refl)) (eq-eqb s.function s.function refl)
 
 pub class_itself : (c : WindowKind) → same_class c c ≡ true
 class_itself IoWindow = refl
@@ -111,7 +108,7 @@ module _ (s : System) (pools : Pools) (c : WindowKind) (first : Function → Par
             let item : Item = record { function = f; part = p } in
             let one : record { function = g; part = q } ≡ item = sym (b.is item) ∙ ap (λ k. get_or items k item) (sym same) ∙ a.is item in
             absurd (elim two [
-              | inl slots ↦ both_ways (same_slot f.slot g.slot) slots (ap (λ (i : Item). same_slot f.slot i.function.slot) one ∙ same_slot_itself f.slot)
+              | inl slots ↦ both_ways (same_slot f.slot g.slot) slots (ap (λ (i : Item). same_slot f.slot i.function.slot) one ∙ slot_itself f.slot)
               | inr registers ↦ registers (sym (ap (λ (i : Item). register_of i.function i.part) one))
             ])
         | inr (inl less) ↦ let apart = all_placed.apart a.k b.k less (within_sizes g q b) in inl (omega (arith, apart, ea, fa, fb))

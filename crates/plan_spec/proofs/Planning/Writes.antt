@@ -24,14 +24,6 @@ write_elsewhere w f e = ap (λ b. record f { image = (cond b (record (target_of 
 pub write_here : (w : Write) (f : Function) → same_slot f.slot w.slot ≡ true → write_function w f ≡ record f { image = written (target_of f) w.offset w.width w.value }
 write_here w f e = ap (λ b. record f { image = (cond b (record (target_of f) { image = written (target_of f) w.offset w.width w.value }) (target_of f)).image }) e
 
-pub same_fields : (s t : Slot) → same_slot s t ≡ true → s ≡ t
-same_fields s t e =
-    let two = and_parts (s.bus == t.bus && s.device == t.device) (s.function == t.function) e in
-    let one = and_parts (s.bus == t.bus) (s.device == t.device) two.0 in
-    ap (λ b. record s { bus = b }) (eqb-true s.bus t.bus one.0)
-    ∙ ap (λ d. record { bus = t.bus; device = d; function = s.function }) (eqb-true s.device t.device one.1)
-    ∙ ap (λ n. record { bus = t.bus; device = t.device; function = n }) (eqb-true s.function t.function two.1)
-
 pub same_number : (s t : Slot) → same_slot s t ≡ true → slot_number s ≡ slot_number t
 same_number s t e =
     let two = and_parts (s.bus == t.bus && s.device == t.device) (s.function == t.function) e in

@@ -6,8 +6,8 @@ use Rattle.pci_spec.specs.Slot.{Slot, same_slot}
 use Rattle.pci_spec.specs.Machine.{Write}
 use Rattle.pci_spec.specs.System.{System, Function}
 use Rattle.pci_spec.proofs.Members.{in_nil, in_cons_cases}
+use Rattle.pci_spec.proofs.SameSlot.{slots_same}
 use Rattle.plan_spec.proofs.Planning.Settled.{function_after, system_by_function}
-use Rattle.plan_spec.proofs.Planning.Writes.{same_fields}
 use Rattle.settle_spec.specs.Lists.{Request}
 use Rattle.settle_spec.specs.Writes.{fixed_write}
 use Rattle.settle_spec.specs.Kept.{Kept}
@@ -45,7 +45,7 @@ module _ (q : Request) (s : System) (k : Kept) (can : CanSettle q s k) (unwritte
   elsewhere : (f : Function) → list_any (same_slot f.slot) q.fixed ≡ true → (x : Write) → Contains (settle_writes q s k) x → same_slot f.slot x.slot ≡ false
   elsewhere f fixed x has = false_from_ne_true (same_slot f.slot x.slot) (λ here.
       both_ways (list_any (same_slot x.slot) q.fixed) (not_found (λ (w : Write). list_any (same_slot w.slot) q.fixed) (settle_writes q s k) unwritten x has)
-      (ap (λ (z : Slot). list_any (same_slot z) q.fixed) (sym (same_fields f.slot x.slot here)) ∙ fixed))
+      (ap (λ (z : Slot). list_any (same_slot z) q.fixed) (sym (slots_same f.slot x.slot here)) ∙ fixed))
 
   -- so what is fixed is as it was
   pub fixed_rests : (f : Function) → Contains s f → list_any (same_slot f.slot) q.fixed ≡ true → settled_function q s k f ≡ f

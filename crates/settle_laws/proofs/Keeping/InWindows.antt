@@ -11,8 +11,8 @@ use Rattle.pci_spec.specs.Bus.{are_siblings, is_root, secondary, LeadsTo}
 use Rattle.pci_spec.proofs.BusRanges.{root_means}
 use Rattle.pci_spec.proofs.Nesting.{one_function}
 use Rattle.pci_spec.proofs.Regions.{register_of-lt}
+use Rattle.pci_spec.proofs.SameSlot.{slot_itself}
 use Rattle.plan_spec.specs.Planning.Layout.{IsInside, LieApart, AreBeside, AreTwo}
-use Rattle.plan_spec.proofs.Planning.Reached.{slot_itself}
 use Rattle.settle_spec.specs.Lists.{Request}
 use Rattle.settle_spec.specs.Parts.{FunctionPart, class_in}
 use Rattle.settle_spec.specs.Stands.{rank, window_part}

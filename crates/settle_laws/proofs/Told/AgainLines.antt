@@ -7,10 +7,10 @@ use Rattle.pci_spec.specs.Rom.{rom_is_on}
 use Rattle.pci_spec.specs.System.{System, Function, Space, Io, Memory, Part, Bar, Rom, Window, has_part, is_bridge, is_enabled, is_space_on, space_of, window_space}
 use Rattle.pci_spec.specs.Bus.{is_behind, is_root}
 use Rattle.pci_spec.proofs.Members.{in_map_from}
+use Rattle.pci_spec.proofs.SameSlot.{slots_same}
 use Rattle.plan_spec.specs.Plan.{is_open, same_class}
 use Rattle.plan_spec.specs.Planning.Layout.{range_of}
 use Rattle.plan_spec.proofs.Planning.Behind.{Passes, any_from, any_gives}
-use Rattle.plan_spec.proofs.Planning.Writes.{same_fields}
 use Rattle.judge_spec.specs.Told.{Mark, Command, Always, Held}
 use Rattle.judge_spec.specs.ToldClaims.{is_asleep, is_enabled_at, is_on_by}
 use Rattle.judge_spec.specs.ToldRegion.{ToldRegion, told_regions}
@@ -97,7 +97,7 @@ module _ (q : Request) (s : System) (k : Kept) (can : CanSettle q s k) (keeps : 
           let found : Passes test s = any_gives test s was in
           let f = found.x in
           let parts = and_parts (same_slot f.slot x.told.slot) (is_space_on f x.told.space) found.is in
-          let at : line_bus x ≡ f.slot.bus = ap (λ (slot : Slot). slot.bus) (sym (same_fields f.slot x.told.slot parts.0)) in
+          let at : line_bus x ≡ f.slot.bus = ap (λ (slot : Slot). slot.bus) (sym (slots_same f.slot x.told.slot parts.0)) in
           any_from test t (now f) (in_map_from now s f found.listed)
           (and_from (same_slot f.slot x.told.slot) (is_space_on (now f) x.told.space) parts.0
           (space_stays f found.listed x.told.space

@@ -6,8 +6,8 @@ use Rattle.pci_spec.specs.Slot.{same_slot}
 use Rattle.pci_spec.specs.System.{System, Function, IsSystem, Space, Io, is_space_on, is_window}
 use Rattle.pci_spec.specs.Bus.{IsNested}
 use Rattle.pci_spec.proofs.Members.{in_map_from, in_map_to, IsMade}
+use Rattle.pci_spec.proofs.SameSlot.{slots_same}
 use Rattle.plan_spec.proofs.Planning.Behind.{Passes, any_from, any_gives}
-use Rattle.plan_spec.proofs.Planning.Writes.{same_fields}
 use Rattle.judge_spec.specs.ToldClaims.{is_enabled_at}
 use Rattle.judge_spec.specs.ToldRegion.{told_regions}
 use Rattle.settle_spec.specs.Items.{stays}
@@ -65,7 +65,7 @@ module _ (q : Request) (s : System) (k : Kept) (can : CanSettle q s k) (keeps : 
         let three = and_parts (is_command_line x && same_slot x.told.slot f.slot && are_same_space space x.told.space) (range_stands q t x) found.is in
         let two = and_parts (is_command_line x && same_slot x.told.slot f.slot) (are_same_space space x.told.space) three.0 in
         let one = and_parts (is_command_line x) (same_slot x.told.slot f.slot) two.0 in
-        let slot : x.told.slot ≡ f.slot = same_fields x.told.slot f.slot one.1 in
+        let slot : x.told.slot ≡ f.slot = slots_same x.told.slot f.slot one.1 in
         let at : space ≡ x.told.space = one_space space x.told.space two.1 in
         let itself : same_slot f.slot x.told.slot ≡ true = subst (λ sl. same_slot sl x.told.slot ≡ true) slot (subst (λ sl. same_slot x.told.slot sl ≡ true) (sym slot) one.1) in
         let enabled : is_enabled_at t x.told.slot x.told.space ≡ true =

@@ -11,12 +11,12 @@ use Rattle.pci_spec.specs.System.{System, Function, IsSystem, Space, Io, Memory,
 use Rattle.pci_spec.specs.Bus.{secondary, is_root, IsNested}
 use Rattle.pci_spec.proofs.BusRanges.{root_means}
 use Rattle.pci_spec.proofs.Members.{in_filter_to, IsMade, in_map_to}
+use Rattle.pci_spec.proofs.SameSlot.{slots_same}
 use Rattle.plan_spec.specs.Plan.{bridges_above, is_io_part}
 use Rattle.plan_spec.proofs.Planning.AboveBuses.{above_to, all_above, all_above_root, root_or_led}
 use Rattle.plan_spec.proofs.Planning.Behind.{Passes, all_gives, any_gives}
 use Rattle.plan_spec.proofs.Planning.LaidOut.{opening}
 use Rattle.plan_spec.proofs.Planning.Safe.{order_of}
-use Rattle.plan_spec.proofs.Planning.Writes.{same_fields}
 use Rattle.judge_spec.specs.ToldRegion.{ToldRegion, told_regions}
 use Rattle.settle_spec.specs.Lines.{line_bus, is_command_line}
 use Rattle.settle_spec.specs.Lists.{RootRange, Request, is_had_by}
@@ -154,7 +154,7 @@ module _ (q : Request) (s : System) (system : IsSystem s) (nested : IsNested q.r
         let x = found.x in
         let three = and_parts (is_command_line x && same_slot x.told.slot f.slot && are_same_space Io x.told.space) (range_stands q s x) found.is in
         let two = and_parts (is_command_line x && same_slot x.told.slot f.slot) (are_same_space Io x.told.space) three.0 in
-        let slot : x.told.slot ≡ f.slot = same_fields x.told.slot f.slot (and_parts (is_command_line x) (same_slot x.told.slot f.slot) two.0).1 in
+        let slot : x.told.slot ≡ f.slot = slots_same x.told.slot f.slot (and_parts (is_command_line x) (same_slot x.told.slot f.slot) two.0).1 in
         let at : line_bus x ≡ f.slot.bus = ap (λ (y : Slot). y.bus) slot in
         no_cause f.slot.bus (subst IsReached at (range_reached x three.1 (sym (one_space Io x.told.space two.1)) (subst (λ n. is_root q.roots n ≡ false) (sym at) off)))
   ]

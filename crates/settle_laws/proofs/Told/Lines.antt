@@ -10,14 +10,14 @@ use Rattle.pci_spec.specs.System.{System, Function, is_bridge}
 use Rattle.pci_spec.specs.Bus.{secondary, is_root, is_led_to}
 use Rattle.pci_spec.specs.Fault.{RegionName}
 use Rattle.pci_spec.proofs.Members.{in_nil, in_cons_cases, in_map_to, in_map_from, IsMade}
+use Rattle.pci_spec.proofs.SameSlot.{slot_itself, slots_same}
 use Rattle.plan_spec.specs.Plan.{IsMoved}
 use Rattle.plan_spec.proofs.Planning.Moved.{bridge_same, secondary_same}
 use Rattle.plan_spec.proofs.Planning.Behind.{Passes, any_gives, any_from}
-use Rattle.plan_spec.proofs.Planning.Writes.{same_fields}
 use Rattle.judge_spec.specs.Told.{ToldRange, IsTold}
 use Rattle.judge_spec.specs.ToldClaims.{Told, told_register, IsRangeAt, is_marked_held, is_held_from, is_held}
 use Rattle.judge_spec.specs.ToldRegion.{ToldRegion, regions_from, told_regions}
-use Rattle.judge_spec.proofs.ToldNumbering.{regions_are_numbered, slot_itself}
+use Rattle.judge_spec.proofs.ToldNumbering.{regions_are_numbered}
 use Rattle.settle_spec.specs.Lines.{is_held_line}
 use Rattle.settle_spec.specs.Lists.{Request}
 use Rattle.settle_laws.specs.ToldSoundLaws.{IsToldOf}
@@ -55,7 +55,7 @@ pub record IsAtSlot (s : System) (slot : Slot) : Type 0 where
 -- that of a range that isn't held is listed
 pub at_slot : (q : Request) (s : System) → IsToldOf q s → (region : RegionName) (r : ToldRange) → IsRangeAt q.told region r → is_marked_held r.mark ≡ false → IsAtSlot s r.slot
 at_slot q s told region r named not_held = elim (cases_Bool (list_any test s)) [
-  | inl is ↦ (let f : Passes test s = any_gives test s is in record { f = f.x; listed = f.listed; slot_is = same_fields f.x.slot r.slot f.is })
+  | inl is ↦ (let f : Passes test s = any_gives test s is in record { f = f.x; listed = f.listed; slot_is = slots_same f.x.slot r.slot f.is })
   | inr none ↦ absurd (told.listed r.slot record {
     r = r;
     is_told = ranged;

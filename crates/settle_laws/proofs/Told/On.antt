@@ -5,14 +5,13 @@ use Rattle.std.proofs.lemmas.Bool.{and_parts, and_from, both_ways, not_from_fals
 use Rattle.pci_spec.specs.Slot.{Slot, same_slot}
 use Rattle.pci_spec.specs.System.{System, Function, Space, Io, Memory, is_space_on}
 use Rattle.pci_spec.proofs.Members.{in_map_to, in_map_from, IsMade}
+use Rattle.pci_spec.proofs.SameSlot.{slot_itself, slots_same}
 use Rattle.plan_spec.specs.Plan.{IsMoved, bridges_above}
 use Rattle.plan_spec.proofs.Planning.AboveBuses.{above_to}
 use Rattle.plan_spec.proofs.Planning.Behind.{Passes, any_gives, any_from}
-use Rattle.plan_spec.proofs.Planning.Writes.{same_fields}
 use Rattle.judge_spec.specs.Told.{ToldRange, Mark, Command, Always, Held}
 use Rattle.judge_spec.specs.ToldClaims.{Told, is_asleep, is_enabled_at, is_on_by, is_range_on}
 use Rattle.judge_spec.specs.ToldRegion.{ToldRegion, told_regions}
-use Rattle.judge_spec.proofs.ToldNumbering.{slot_itself}
 use Rattle.settle_spec.specs.Lines.{line_bus, is_held_line, is_marked_command, is_marked_always, is_command_line, is_always_line}
 use Rattle.settle_spec.specs.Lists.{Request}
 use Rattle.settle_spec.specs.LiveLaws.{is_live, has_live_behind}
@@ -53,7 +52,7 @@ module _ (s : System) (h : Function → Function) (moved : (f : Function) → Co
       record {
         f = f;
         listed = made.has;
-        slot_is = sym (moved f made.has).slot ∙ ap (λ (x : Function). x.slot) made.is ∙ same_fields g.x.slot slot parts.0;
+        slot_is = sym (moved f made.has).slot ∙ ap (λ (x : Function). x.slot) made.is ∙ slots_same g.x.slot slot parts.0;
         on = subst (λ x. is_space_on x space ≡ true) (sym made.is) parts.1;
       }
 

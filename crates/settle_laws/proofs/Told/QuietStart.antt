@@ -7,14 +7,14 @@ use Rattle.pci_spec.specs.Fault.{address_in}
 use Rattle.pci_spec.specs.System.{System, Function, Space, is_space_on}
 use Rattle.pci_spec.specs.Bus.{is_root}
 use Rattle.pci_spec.proofs.BusRanges.{all_from}
+use Rattle.pci_spec.proofs.SameSlot.{slot_itself, slots_same}
 use Rattle.plan_spec.specs.Plan.{bridges_above}
 use Rattle.plan_spec.proofs.Planning.Behind.{Passes, any_from, any_gives}
-use Rattle.plan_spec.proofs.Planning.Writes.{same_fields}
 use Rattle.judge_spec.specs.Told.{Mark, Command, Always, Held}
 use Rattle.judge_spec.specs.ToldClaims.{is_asleep, is_enabled_at, is_on_by}
 use Rattle.judge_spec.specs.ToldRegion.{ToldRegion, told_regions, told_name}
 use Rattle.judge_spec.proofs.Nothing.{same_passed_to}
-use Rattle.judge_spec.proofs.ToldNumbering.{regions_are_numbered, slot_itself}
+use Rattle.judge_spec.proofs.ToldNumbering.{regions_are_numbered}
 use Rattle.settle_spec.specs.FirstPlace.{ranges_are_apart}
 use Rattle.settle_spec.specs.Lines.{line_bus, line_range, is_held_line, is_command_line, is_always_line, is_line_of, is_marked_always, keeps_off_part}
 use Rattle.settle_spec.specs.Lists.{Request}
@@ -134,7 +134,7 @@ module _ (q : Request) (s : System) (quiet : IsQuiet q s) where
         let three = and_parts (is_command_line x.x && same_slot x.x.told.slot f.slot && are_same_space space x.x.told.space) (range_stands q s x.x) x.is in
         let two = and_parts (is_command_line x.x && same_slot x.x.told.slot f.slot) (are_same_space space x.x.told.space) three.0 in
         let one = and_parts (is_command_line x.x) (same_slot x.x.told.slot f.slot) two.0 in
-        let slot : x.x.told.slot ≡ f.slot = same_fields x.x.told.slot f.slot one.1 in
+        let slot : x.x.told.slot ≡ f.slot = slots_same x.x.told.slot f.slot one.1 in
         let at : space ≡ x.x.told.space = one_space space x.x.told.space two.1 in
         let enabled : is_enabled_at s x.x.told.slot x.x.told.space ≡ true =
         any_from (λ g. same_slot g.slot x.x.told.slot && is_space_on g x.x.told.space) s f listed

@@ -11,6 +11,7 @@ use Rattle.pci_spec.specs.Bus.{is_root, are_siblings}
 use Rattle.pci_spec.specs.Fault.{RegionName, Address, address_in}
 use Rattle.pci_spec.proofs.BusRanges.{root_means}
 use Rattle.pci_spec.proofs.Members.{in_map_to, IsMade}
+use Rattle.pci_spec.proofs.SameSlot.{slot_itself, slots_same}
 use Rattle.plan_spec.specs.Planning.Layout.{LieApart}
 use Rattle.plan_spec.proofs.Planning.LaidOut.{place_of_claim}
 use Rattle.judge_spec.specs.Given.{nothing_given, starts}
@@ -22,7 +23,6 @@ use Rattle.judge_spec.specs.ToldRegion.{ToldRegion, told_regions}
 use Rattle.judge_spec.specs.ToldSound.{MayBoth, IsSingle}
 use Rattle.judge_spec.proofs.Judging.{same_sound}
 use Rattle.judge_spec.proofs.Nothing.{no_legacy_claims, no_palette_claims}
-use Rattle.judge_spec.proofs.ToldNumbering.{slot_itself}
 use Rattle.settle_spec.specs.Lines.{line_bus, line_range, is_held_line, is_line_of, can_keep_off}
 use Rattle.settle_spec.specs.FirstPlace.{ranges_are_apart}
 use Rattle.settle_spec.specs.Lists.{Request}
@@ -42,7 +42,6 @@ use Rattle.settle_laws.proofs.Keeping.SettledSound.{settled_sound}
 use Rattle.settle_laws.proofs.Told.Ends.{end_off}
 use Rattle.settle_laws.proofs.Told.Lines.{line_at, named_line, held_register, one_line, line_forward}
 use Rattle.settle_laws.proofs.Told.On.{counts, stands_now}
-use Rattle.plan_spec.proofs.Planning.Writes.{same_fields}
 
 -- two ranges that share an address aren't apart
 shares : {P : Type 0} (r t : Range) (a : ℕ) → InRange r a → InRange t a → LieApart r t → P
@@ -180,10 +179,10 @@ module _ (q : Request) (s : System) (k : Kept) (all : CanSettleTold q s k) where
         by true true held also = inr (both_held q.told first.slot second.slot first.register second.register (of_first held) (of_second also))
         by true false held told =
             inr (held_shares q.told first.slot second.slot first.register second.register (of_first held)
-            (sym c.slot ∙ same_fields c.x.told.slot d.x.told.slot (held_and_told first second c d beside held told) ∙ d.slot))
+            (sym c.slot ∙ slots_same c.x.told.slot d.x.told.slot (held_and_told first second c d beside held told) ∙ d.slot))
         by false true told held =
             inr (held_shared q.told first.slot second.slot first.register second.register (of_second held)
-            (sym (sym d.slot ∙ same_fields d.x.told.slot c.x.told.slot (held_and_told second first d c (siblings_back q.roots first.slot.bus second.slot.bus beside) held told) ∙ c.slot)))
+            (sym (sym d.slot ∙ slots_same d.x.told.slot c.x.told.slot (held_and_told second first d c (siblings_back q.roots first.slot.bus second.slot.bus beside) held told) ∙ c.slot)))
         by false false told also = elim (cases_eq c.x.register d.x.register) [
           | inl same ↦
               let one : c.x.told ≡ d.x.told = one_line q.told c.x d.x c.told d.told same in
@@ -227,7 +226,7 @@ module _ (q : Request) (s : System) (k : Kept) (all : CanSettleTold q s k) where
     part_line first second part c beside =
         let both = part_and_line space a part.f part.p part.listed part.claims second c (ap (λ (v : Slot). are_siblings q.roots v.bus second.slot.bus) part.slot ∙ beside) in (
           ap (is_held q.told) (sym c.register) ∙ held_register q.told c.x c.told both.0,
-          sym part.slot ∙ sym (same_fields c.x.told.slot part.f.slot both.1) ∙ c.slot,
+          sym part.slot ∙ sym (slots_same c.x.told.slot part.f.slot both.1) ∙ c.slot,
         )
 
     -- of two that claim an address beside each other, both are parts, or they may share it

@@ -9,11 +9,11 @@ use Rattle.pci_spec.specs.Window.{WindowKind, IoWindow, MemoryWindow, PrefetchWi
 use Rattle.pci_spec.specs.System.{System, Function, IsSystem, has_part, is_bridge, window_space}
 use Rattle.pci_spec.specs.Bus.{are_siblings, is_root, LeadsTo}
 use Rattle.pci_spec.proofs.BusRanges.{root_means}
+use Rattle.pci_spec.proofs.SameSlot.{slots_same}
 use Rattle.plan_spec.specs.Plan.{raised_to}
 use Rattle.plan_spec.specs.Planning.Layout.{IsInside, LieApart, AreBeside, AreTwo}
 use Rattle.plan_spec.proofs.Planning.Behind.{all_gives}
 use Rattle.plan_spec.proofs.Planning.Room.{raised}
-use Rattle.plan_spec.proofs.Planning.Writes.{same_fields}
 use Rattle.judge_spec.specs.ToldRegion.{ToldRegion, told_regions}
 use Rattle.settle_spec.specs.Lines.{line_range, can_keep_off, keeps_off}
 use Rattle.settle_spec.specs.FirstPlace.{ranges_are_apart}
@@ -72,7 +72,7 @@ module _ (q : Request) (s : System) (k : Kept) (can : CanSettle q s k) where
   two_of_ranks : (x y : FunctionPart) → (rank x ≡ rank y → ⊥) → AreTwo x.function x.part y.function y.part
   two_of_ranks x y differ = elim (cases_Bool (same_slot x.function.slot y.function.slot)) [
     | inr other ↦ inl other
-    | inl same ↦ inr (λ e. differ (let slots = ap slot_number (same_fields x.function.slot y.function.slot same) in omega (arith, slots, e)))
+    | inl same ↦ inr (λ e. differ (let slots = ap slot_number (slots_same x.function.slot y.function.slot same) in omega (arith, slots, e)))
   ]
 
   beside_of : (x y : FunctionPart) → are_siblings q.roots x.function.slot.bus y.function.slot.bus ≡ true → AreBeside q.roots x.function y.function
