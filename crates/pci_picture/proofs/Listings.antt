@@ -8,21 +8,23 @@ use Rattle.std.proofs.lemmas.List.Sorted.{IsPermutation-map}
 use Rattle.std.proofs.lemmas.List.Splits.{slice_split_first, slice_split_none}
 use Rattle.std.proofs.lemmas.List.Sums.{fails_before_first}
 use Rattle.pci_picture.specs.Lines.{is_feed, is_slot}
-use Rattle.pci_picture.specs.Listings.{AreFunctionsListed, functions_listed, is_bus_line, is_function_line, list_line, function_of_line, told_secondary, with_secondary}
+use Rattle.pci_picture.specs.Listings.{AreFunctionsListed, bridge_with, functions_listed, is_bus_line, is_function_line, list_line, function_of_line, told_buses, with_buses}
 use Rattle.pci_picture.specs.Roots.{Listed, listed_function, listed_functions}
+use Rattle.pci_picture.specs.declared.function.Buses.{Buses}
 use Rattle.pci_picture.specs.declared.function.Function.{Function}
 
 -- the last function of a list has other buses
-pub last_set : (functions : List Function) (function : Function) (bus : ℕ) → (listed_function function).secondary ≡ Some bus
-    → (0 < length functions → function.number ≡ (get_or functions (length functions - 1) function).number)
-    → listed_functions (set functions (length functions - 1) function) ≡ with_secondary (listed_functions functions) bus
-last_set [] function bus is same = refl
-last_set (one ∷ []) function bus is same = rw (is, same (omega arith)) refl
-last_set (one ∷ next ∷ functions) function bus is same =
+pub last_set : (functions : List Function) (function : Function) (buses : Buses)
+    → (0 < length functions → listed_function function ≡ bridge_with (listed_function (get_or functions (length functions - 1) function)) buses)
+    → listed_functions (set functions (length functions - 1) function) ≡ with_buses (listed_functions functions) buses
+last_set [] function buses same = refl
+last_set (one ∷ []) function buses same = ap (λ f. f ∷ []) (same (omega arith))
+last_set (one ∷ next ∷ functions) function buses same =
     let more : length (one ∷ next ∷ functions) - 1 ≡ suc (length (next ∷ functions) - 1) = omega arith in
     ap (λ n. listed_functions (set (one ∷ next ∷ functions) n function)) more
     ∙ ap (λ l. listed_function one ∷ l)
-    (last_set (next ∷ functions) function bus is (λ some. same (omega arith) ∙ ap (λ n. (get_or (one ∷ next ∷ functions) n function).number) more))
+    (last_set (next ∷ functions) function buses
+    (λ some. same (omega arith) ∙ ap (λ n. bridge_with (listed_function (get_or (one ∷ next ∷ functions) n function)) buses) more))
 
 -- an empty line lists nothing
 empty_line : (functions : List Listed) → list_line functions [] ≡ functions
@@ -89,15 +91,16 @@ line_function functions after function line new is told =
     ∙ rw is refl
 
 pub line_buses : (functions after : List Function) (function old : Function) (at : ℕ) (line : List ℕ) → after ≡ set functions at function
-    → at + 1 ≡ length functions → old ≡ get_or functions at old → function.number ≡ old.number
-    → is_function_line line ≡ false → is_bus_line line ≡ true → (listed_function function).secondary ≡ Some (told_secondary line)
+    → at + 1 ≡ length functions → old ≡ get_or functions at old → listed_function function ≡ bridge_with (listed_function old) (told_buses line)
+    → is_function_line line ≡ false → is_bus_line line ≡ true
     → listed_functions after ≡ list_line (listed_functions functions) line
-line_buses functions after function old at line new last found same none is told =
+line_buses functions after function old at line new last found same none is =
     let place : at ≡ length functions - 1 = omega (arith, last) in
+    let with_them : Function → Listed = λ f. bridge_with (listed_function f) (told_buses line) in
     ap listed_functions (new ∙ ap (λ n. set functions n function) place)
-    ∙ last_set functions function (told_secondary line) told
-    (λ some. same ∙ ap (λ f. f.number) found ∙ ap (λ f. f.number) (get_or_default functions at old function (omega (arith, last)))
-    ∙ ap (λ n. (get_or functions n function).number) place)
+    ∙ last_set functions function (told_buses line)
+    (λ some. same ∙ ap with_them (found ∙ get_or_default functions at old function (omega (arith, last))
+    ∙ ap (λ n. get_or functions n function) place))
     ∙ rw (none, is) refl
 
 -- ---- what is written beside the slots and buses

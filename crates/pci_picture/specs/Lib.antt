@@ -21,6 +21,7 @@ pub mod Slots
 pub mod Roots
 pub mod Bits
 pub mod Listings
+pub mod Named
 pub mod ByRoots
 pub mod Lanes
 pub mod Seats

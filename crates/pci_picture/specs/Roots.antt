@@ -8,10 +8,25 @@ use Rattle.pci_picture.specs.declared.function.Buses.{Buses}
 use Rattle.pci_picture.specs.declared.function.Function.{Function}
 use Rattle.pci_picture.specs.declared.plan.Member.{Member}
 
--- a function that is listed: the number of its slot, and the secondary bus of a bridge
+-- a function that is listed
 pub record Listed : Type 0 where
+  -- the number of its slot, and the word of it
   pub slot : ℕ
-  pub secondary : Option ℕ
+  pub word : List ℕ
+  -- the words of its identifiers and of its class
+  pub vendor : List ℕ
+  pub device : List ℕ
+  pub class : List ℕ
+  -- whether Command enables I/O or memory space
+  pub is_on : Bool
+  -- the buses of a bridge
+  pub buses : Option Buses
+  -- its title, or nothing
+  pub title : List ℕ
+
+abbrev pub secondary_of : Option Buses → Option ℕ
+secondary_of None = None
+secondary_of (Some buses) = Some buses.secondary
 
 abbrev pub is_bus : ℕ → Option ℕ → Bool
 is_bus bus None = false
@@ -19,7 +34,7 @@ is_bus bus (Some number) = number == bus
 
 -- a function is a bridge with this secondary bus
 abbrev pub is_bridge_to : ℕ → Listed → Bool
-is_bridge_to bus function = is_bus bus function.secondary
+is_bridge_to bus function = is_bus bus (secondary_of function.buses)
 
 abbrev pub first_bus : List Listed → Option ℕ
 first_bus [] = None
@@ -56,12 +71,17 @@ IsLostByRoot functions member = IsTrue member.is_lost → member.section ≡ sec
 
 -- ---- the functions of a board
 
-abbrev pub secondary_of : Option Buses → Option ℕ
-secondary_of None = None
-secondary_of (Some buses) = Some buses.secondary
-
 abbrev pub listed_function : Function → Listed
-listed_function function = record { slot = function.number; secondary = secondary_of function.buses }
+listed_function function = record {
+  slot = function.number;
+  word = function.slot.now;
+  vendor = function.vendor.now;
+  device = function.device.now;
+  class = function.class.now;
+  is_on = function.is_on;
+  buses = function.buses;
+  title = function.title.now;
+}
 
 abbrev pub listed_functions : List Function → List Listed
 listed_functions functions = map listed_function functions

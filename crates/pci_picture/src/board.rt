@@ -4,7 +4,7 @@ ghost use Rattle.std.specs.List.{slice_split};
 ghost use Rattle.pci_picture.specs.Boxes.{titled_line};
 ghost use Rattle.pci_picture.specs.Depths.{AreChained};
 ghost use Rattle.pci_picture.specs.Lines.{is_feed};
-ghost use Rattle.pci_picture.specs.Listings.{AreFunctionsListed};
+ghost use Rattle.pci_picture.specs.Named.{AreFunctionsTitled};
 ghost use Rattle.pci_picture.specs.Maps.{IsReadOf};
 ghost use Rattle.pci_picture.specs.Marks.{AreFaultsOf};
 ghost use Rattle.pci_picture.specs.Roots.{AreBusesAbove, AreRoots, go_up, listed_functions};
@@ -124,7 +124,8 @@ impl<'a, A: Allocator + Copy> Board<'a, A> {
         ensures faults { IfOk result (λ board. AreFaultsOf texts.entry.now.faults.now board.faults) }
         ensures said { IfOk result (λ board. AreSaidOf texts.entry.now.faults.now board.faults) }
         ensures lines { IfOk result (λ board. faults_read board.faults ≡ faults_said texts.entry.now.faults.now) }
-        ensures show { IfOk result (λ board. AreFunctionsListed texts.entry.now.show.now (listed_functions board.functions.items)) }
+        ensures show { IfOk result (λ board. AreFunctionsTitled texts.entry.now.show.now texts.entry.now.titles.now
+            (listed_functions board.functions.items)) }
     {
         let mut functions = read_functions(alloc, texts.show)?;
         give_titles(&mut functions, texts.titles);

@@ -1,7 +1,9 @@
 //! The functions that the text of `show` lists.
-ghost use Rattle.std.specs.Prelude.{◌≡◌, is_some, IfOk, IfSome, OnOk};
-ghost use Rattle.pci_picture.specs.Listings.{AreFunctionsListed, functions_listed, is_bus_line, is_function_line, list_line, function_of_line, told_secondary};
-ghost use Rattle.pci_picture.specs.Lines.{nth_word, words_in_line};
+ghost use Rattle.std.specs.Prelude.{◌≡◌, is_some, IfOk, IfSome, IsTrue, OnOk};
+ghost use Rattle.std.specs.List.Sorted.{IsNonDecreasingBy};
+ghost use Rattle.pci_picture.specs.Listings.{AreFunctionsListed, AreIdentifiers, functions_listed, is_bus_line, is_function_line, list_line, function_of_line, told_buses};
+ghost use Rattle.pci_picture.specs.Lines.{is_nonempty_word, nth_word, words_in_line};
+ghost use Rattle.pci_picture.specs.Named.{with_titles};
 ghost use Rattle.pci_picture.specs.Roots.{listed_function, listed_functions};
 
 use super::function::{Buses, Function, Span};
@@ -29,7 +31,9 @@ const NO_VALUES: Values<'static> = Values {
 /// The values of a line, from one pass over its words.
 #[tactic(auto, unfolding(crate::specs::Lines::words_in_line))]
 fn values_of(line: &[u8]) -> Values<'_>
-    ensures { result.command.now ≡ nth_word (words_in_line line.now) 10 }
+    ensures command { result.command.now ≡ nth_word (words_in_line line.now) 10 }
+    ensures others { IsTrue (is_nonempty_word result.command.now) → AreIdentifiers (words_in_line line.now)
+        result.vendor.now result.device.now result.class.now }
 {
     let mut words = line
         .split(|byte| *byte == b' ')
@@ -55,7 +59,7 @@ fn values_of(line: &[u8]) -> Values<'_>
 }
 
 /// The function of a line `S type T vendor V device D class C command X status X`.
-#[tactic(auto, unfolding(crate::specs::Listings::is_function_line))]
+#[tactic(auto, unfolding(crate::specs::Listings::is_function_line, crate::specs::Listings::function_of_line))]
 fn function_of(line: &[u8]) -> Option<Function<'_>>
     ensures some { is_some result ≡ is_function_line line.now }
     ensures told { IfSome result (λ function. listed_function function ≡ function_of_line line.now) }
@@ -81,7 +85,7 @@ fn function_of(line: &[u8]) -> Option<Function<'_>>
 #[tactic(auto, unfolding(crate::specs::Listings::is_bus_line))]
 fn buses_of(line: &[u8]) -> Option<Buses>
     ensures some { is_some result ≡ is_bus_line line.now }
-    ensures told { IfSome result (λ buses. buses.secondary ≡ told_secondary line.now) }
+    ensures told { IfSome result (λ buses. buses ≡ told_buses line.now) }
 {
     if !stripped(line).starts_with(b"bus ") {
         return None;
@@ -141,7 +145,8 @@ pub fn read_functions<'a, A: Allocator + Copy>(
 
 /// Gives functions their titles: what stands behind the slot of each slot line.
 pub fn give_titles<'a>(functions: &mut [Function<'a>], titles: &'a [u8])
-    ensures { listed_functions functions.new ≡ listed_functions functions.old }
+    requires { IsNonDecreasingBy (λ function. function.slot) (listed_functions functions.old) }
+    ensures { listed_functions functions.new ≡ with_titles titles.entry.now (listed_functions functions.old) }
 {
     for line in titles.split(|byte| *byte == b'\n') {
         if line.len() < 9 || line[7] != b' ' {
