@@ -30,6 +30,7 @@ pub mod Groups
 pub mod Once
 pub mod Sections
 pub mod Listings
+pub mod Named
 pub mod Feeds
 pub mod Pictured
 pub mod Roots

@@ -31,28 +31,39 @@ empty_line : (functions : List Listed) → list_line functions [] ≡ functions
 unfolding is_function_line is_bus_line is_slot
 empty_line functions = refl
 
+-- lines that are read one behind the other, where an empty line changes nothing
+module _ (take_line : List Listed → List ℕ → List Listed) (empty : (functions : List Listed) → take_line functions [] ≡ functions) where
+  pub all_taken : (functions all : List Listed) (rest : List ℕ) → length rest ≤ 0 → fold take_line functions (slice_split is_feed rest) ≡ all
+      → functions ≡ all
+  all_taken functions all [] none is = sym (empty functions) ∙ is
+  all_taken functions all (b ∷ rest) none is = absurd (omega (arith, none))
+
+  pub line_taken : (before after all : List Listed) (rest line behind : List ℕ) → line ≡ before_first is_feed rest → behind ≡ after_first is_feed rest
+      → after ≡ take_line before line → fold take_line before (slice_split is_feed rest) ≡ all
+      → fold take_line after (slice_split is_feed behind) ≡ all
+  line_taken before after all rest line behind is_line is_behind step was = elim (cases_lt (position_or_len is_feed rest) (length rest)) [
+    | inl found ↦
+        ap (λ f. fold take_line f (slice_split is_feed behind)) (step ∙ ap (take_line before) is_line)
+        ∙ ap (λ l. fold take_line (take_line before (before_first is_feed rest)) (slice_split is_feed l)) is_behind
+        ∙ sym (ap (fold take_line before) (slice_split_first is_feed rest 0 found))
+        ∙ was
+    | inr none ↦
+        let whole : line ≡ rest = is_line ∙ take_all (position_or_len is_feed rest) rest none in
+        let nothing : behind ≡ [] = is_behind ∙ drop_all (position_or_len is_feed rest + 1) rest (omega (arith, none)) in
+        ap (λ l. fold take_line after (slice_split is_feed l)) nothing
+        ∙ empty after ∙ step ∙ ap (take_line before) whole
+        ∙ sym (ap (fold take_line before) (slice_split_none is_feed rest (λ k d inside. fails_before_first is_feed rest k d (omega (arith, inside, none)))))
+        ∙ was
+  ]
+
 pub all_read : (functions : List Listed) (rest show : List ℕ) → length rest ≤ 0 → fold list_line functions (slice_split is_feed rest) ≡ functions_listed show
     → functions ≡ functions_listed show
-all_read functions [] show none is = sym (empty_line functions) ∙ is
-all_read functions (b ∷ rest) show none is = absurd (omega (arith, none))
+all_read functions rest show none is = all_taken list_line empty_line functions (functions_listed show) rest none is
 
 pub line_read : (before after : List Listed) (rest line behind show : List ℕ) → line ≡ before_first is_feed rest → behind ≡ after_first is_feed rest
     → after ≡ list_line before line → fold list_line before (slice_split is_feed rest) ≡ functions_listed show
     → fold list_line after (slice_split is_feed behind) ≡ functions_listed show
-line_read before after rest line behind show is_line is_behind step was = elim (cases_lt (position_or_len is_feed rest) (length rest)) [
-  | inl found ↦
-      ap (λ f. fold list_line f (slice_split is_feed behind)) (step ∙ ap (list_line before) is_line)
-      ∙ ap (λ l. fold list_line (list_line before (before_first is_feed rest)) (slice_split is_feed l)) is_behind
-      ∙ sym (ap (fold list_line before) (slice_split_first is_feed rest 0 found))
-      ∙ was
-  | inr none ↦
-      let whole : line ≡ rest = is_line ∙ take_all (position_or_len is_feed rest) rest none in
-      let nothing : behind ≡ [] = is_behind ∙ drop_all (position_or_len is_feed rest + 1) rest (omega (arith, none)) in
-      ap (λ l. fold list_line after (slice_split is_feed l)) nothing
-      ∙ empty_line after ∙ step ∙ ap (list_line before) whole
-      ∙ sym (ap (fold list_line before) (slice_split_none is_feed rest (λ k d inside. fails_before_first is_feed rest k d (omega (arith, inside, none)))))
-      ∙ was
-]
+line_read before after rest line behind show = line_taken list_line empty_line before after (functions_listed show) rest line behind
 
 -- it is shorter than what is left
 pub behind_shorter : (rest behind : List ℕ) → behind ≡ after_first is_feed rest → 0 < length rest → length behind < length rest

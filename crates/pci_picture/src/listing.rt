@@ -3,7 +3,7 @@ ghost use Rattle.std.specs.Prelude.{◌≡◌, is_some, IfOk, IfSome, IsTrue, On
 ghost use Rattle.std.specs.List.Sorted.{IsNonDecreasingBy};
 ghost use Rattle.pci_picture.specs.Listings.{AreFunctionsListed, AreIdentifiers, functions_listed, is_bus_line, is_function_line, list_line, function_of_line, told_buses};
 ghost use Rattle.pci_picture.specs.Lines.{is_nonempty_word, nth_word, words_in_line};
-ghost use Rattle.pci_picture.specs.Named.{with_titles};
+ghost use Rattle.pci_picture.specs.Named.{title_from_line, with_titles};
 ghost use Rattle.pci_picture.specs.Roots.{listed_function, listed_functions};
 
 use super::function::{Buses, Function, Span};
@@ -143,20 +143,32 @@ pub fn read_functions<'a, A: Allocator + Copy>(
     Ok(functions)
 }
 
+/// Gives the function of a line `bb:dd.f TITLE` its title. Other lines give none.
+#[tactic(auto, unfolding(crate::specs::Named::is_title_line))]
+fn give_title<'a>(functions: &mut [Function<'a>], line: &'a [u8])
+    requires { IsNonDecreasingBy (λ function. function.slot) (listed_functions functions.old) }
+    ensures { listed_functions functions.new ≡ title_from_line (listed_functions functions.old) line.entry.now }
+{
+    if line.len() < 9 || line[7] != b' ' {
+        return;
+    }
+    if let Some(number) = slot_number(&line[..7]) {
+        let index = functions.partition_point(|function| function.number < number);
+        if index < functions.len() && functions[index].number == number {
+            functions[index].title = &line[8..];
+        }
+    }
+}
+
 /// Gives functions their titles: what stands behind the slot of each slot line.
 pub fn give_titles<'a>(functions: &mut [Function<'a>], titles: &'a [u8])
     requires { IsNonDecreasingBy (λ function. function.slot) (listed_functions functions.old) }
     ensures { listed_functions functions.new ≡ with_titles titles.entry.now (listed_functions functions.old) }
 {
-    for line in titles.split(|byte| *byte == b'\n') {
-        if line.len() < 9 || line[7] != b' ' {
-            continue;
-        }
-        if let Some(number) = slot_number(&line[..7]) {
-            let index = functions.partition_point(|function| function.number < number);
-            if index < functions.len() && functions[index].number == number {
-                functions[index].title = &line[8..];
-            }
-        }
+    let mut rest = titles;
+    while !rest.is_empty() {
+        let (line, behind) = cut_line(rest);
+        give_title(functions, line);
+        rest = behind;
     }
 }
