@@ -1,12 +1,15 @@
 -- What functions are called, while their titles and names are written.
-use Rattle.std.proofs.Common.{◌≡◌, ◌≤◌, ◌<◌, ◌+◌, ◌-◌, ◌==◌, ℕ, zero, suc, Bool, true, false, Some, List, [], ◌∷◌, ◌++◌, fold, length, ltb, get_or, map, set, take, drop, refl, sym, ap, subst, ◌∙◌, arith, ◌⊎◌, inl, inr, if◌then◌else◌}
-use Rattle.std.specs.List.{before_first, after_first, slice_split}
+use Rattle.std.proofs.Common.{◌≡◌, ◌≤◌, ◌<◌, ◌+◌, ◌-◌, ◌==◌, ℕ, zero, suc, Bool, true, false, cond, Option, Some, None, unwrap_or, List, [], ◌∷◌, ◌++◌, fold, length, ltb, get_or, map, set, take, drop, refl, sym, ap, subst, ◌∙◌, arith, ◌⊎◌, inl, inr, if◌then◌else◌}
+use Rattle.std.specs.List.{All, before_first, after_first, filter, slice_split}
 use Rattle.std.specs.List.Sorted.{IsNonDecreasingBy, IsPartitionPoint}
 use Rattle.std.proofs.lemmas.Bool.{cases_lt, eq-eqb, le-leb, ne_eqb, ltb-true, ltb-false}
-use Rattle.std.proofs.lemmas.List.{get_or-map, length-map, map-set}
+use Rattle.std.proofs.lemmas.List.{append-nil, drop_all, get_or-map, length-map, map-set, take_all}
 use Rattle.pci_picture.specs.Lines.{is_feed, is_slot, slot_number_of}
 use Rattle.pci_picture.specs.Named.{is_title_line, title_from_line, titled, with_title, with_titles}
-use Rattle.pci_picture.specs.Roots.{Listed, listed_function, listed_functions}
+use Rattle.pci_picture.specs.Headings.{number_of_section}
+use Rattle.pci_picture.specs.Roots.{AreLostByRoot, Listed, bus_above, bus_of_bridge, first_bus, go_up, is_bridge_to, listed_function, listed_functions, root_bus_of, section_by_root}
+use Rattle.pci_picture.specs.Slots.{bus_of_line, is_io_line}
+use Rattle.pci_picture.specs.Spots.{Section}
 use Rattle.pci_picture.specs.declared.function.Function.{Function}
 use Rattle.pci_picture.proofs.Listings.{all_taken, line_taken}
 
@@ -136,3 +139,106 @@ title_missed functions line i slot is_line slot_is parted rise apart =
 pub is_titled : (line : List ℕ) → 9 ≤ length line → get_or line 7 0 ≡ 32 → is_slot (take 7 line) ≡ true → is_title_line line ≡ true
 unfolding is_title_line
 is_titled line long blank is = rw (le-leb 9 (length line) long, eq-eqb (get_or line 7 0) 32 blank, is) refl
+
+-- ---- titles leave the buses
+
+bridge_titled : (slot : ℕ) (title : List ℕ) (functions : List Listed) (bus : ℕ)
+    → bus_of_bridge (with_title slot title functions) bus ≡ bus_of_bridge functions bus
+bridge_titled slot title [] bus = refl
+bridge_titled slot title (function ∷ functions) bus =
+    elim (function.slot == slot) as (λ b. bus_of_bridge (if b then titled function title ∷ functions else function ∷ with_title slot title functions) bus
+    ≡ bus_of_bridge (function ∷ functions) bus) [
+      | true ↦
+          elim (is_bridge_to bus function) as (λ b. first_bus (cond b (titled function title ∷ filter (is_bridge_to bus) functions) (filter (is_bridge_to bus) functions))
+          ≡ first_bus (cond b (function ∷ filter (is_bridge_to bus) functions) (filter (is_bridge_to bus) functions))) [
+            | true ↦ refl
+            | false ↦ refl
+          ]
+      | false ↦
+          elim (is_bridge_to bus function) as (λ b.
+          first_bus (cond b (function ∷ filter (is_bridge_to bus) (with_title slot title functions)) (filter (is_bridge_to bus) (with_title slot title functions)))
+          ≡ first_bus (cond b (function ∷ filter (is_bridge_to bus) functions) (filter (is_bridge_to bus) functions))) [
+            | true ↦ refl
+            | false ↦ bridge_titled slot title functions bus
+          ]
+    ]
+
+bridge_of_line : (functions : List Listed) (line : List ℕ) (bus : ℕ) → bus_of_bridge (title_from_line functions line) bus ≡ bus_of_bridge functions bus
+bridge_of_line functions line bus =
+    elim (is_title_line line) as (λ b. bus_of_bridge (if b then with_title (slot_number_of (take 7 line)) (drop 8 line) functions else functions) bus
+    ≡ bus_of_bridge functions bus) [
+      | true ↦ bridge_titled (slot_number_of (take 7 line)) (drop 8 line) functions bus
+      | false ↦ refl
+    ]
+
+bridge_of_lines : (lines : List (List ℕ)) (functions : List Listed) (bus : ℕ) → bus_of_bridge (fold title_from_line functions lines) bus ≡ bus_of_bridge functions bus
+bridge_of_lines [] functions bus = refl
+bridge_of_lines (line ∷ lines) functions bus = bridge_of_lines lines (title_from_line functions line) bus ∙ bridge_of_line functions line bus
+
+same_above : (titles : List ℕ) (functions : List Listed) (bus : ℕ) → bus_above (with_titles titles functions) bus ≡ bus_above functions bus
+same_above titles functions bus = ap (λ o. if bus == 0 then None else o) (bridge_of_lines (slice_split is_feed titles) functions bus)
+
+same_up : (above other : ℕ → Option ℕ) → ((bus : ℕ) → above bus ≡ other bus) → (n bus : ℕ) → go_up above n bus ≡ go_up other n bus
+unfolding go_up
+same_up above other same zero bus = refl
+same_up above other same (suc n) bus =
+    ap (λ o. go_up above n (unwrap_or o bus)) (same bus) ∙ same_up above other same n (unwrap_or (other bus) bus)
+
+same_root : (titles : List ℕ) (functions : List Listed) (bus : ℕ) → root_bus_of (with_titles titles functions) bus ≡ root_bus_of functions bus
+unfolding root_bus_of
+same_root titles functions bus = same_up (bus_above (with_titles titles functions)) (bus_above functions) (same_above titles functions) 256 bus
+
+lost_same : (titles : List ℕ) (functions : List Listed) (number : ℕ) (lost : List (List ℕ))
+    → All (λ line. number ≡ section_by_root (with_titles titles functions) line) lost → All (λ line. number ≡ section_by_root functions line) lost
+lost_same titles functions number lost all k d inside =
+    let line = get_or lost k d in
+    all k d inside ∙ ap (λ bus. number_of_section bus (is_io_line line)) (same_root titles functions (bus_of_line line))
+
+pub by_root_untitled : (titles : List ℕ) (functions : List Listed) (sections : List Section)
+    → All (AreLostByRoot (with_titles titles functions)) sections → All (AreLostByRoot functions) sections
+by_root_untitled titles functions sections all k d inside =
+    let section = get_or sections k d in
+    lost_same titles functions section.number section.lost (all k d inside)
+
+-- ---- a slice of functions that is written back
+
+count_of_lines : (lines : List (List ℕ)) (functions : List Listed) → length (fold title_from_line functions lines) ≡ length functions
+count_of_lines [] functions = refl
+count_of_lines (line ∷ lines) functions =
+    count_of_lines lines (title_from_line functions line)
+    ∙ sym (length-map (title_from_line functions line) (λ f. f.slot)) ∙ ap length (slots_of_line functions line) ∙ length-map functions (λ f. f.slot)
+
+count_with_titles : (titles : List ℕ) (before after : List Function) → listed_functions after ≡ with_titles titles (listed_functions before)
+    → length after ≡ length before
+count_with_titles titles before after is =
+    sym (length-map after listed_function) ∙ ap length is ∙ count_of_lines (slice_split is_feed titles) (listed_functions before)
+    ∙ length-map before listed_function
+
+count_listed : (before after : List Function) → listed_functions after ≡ listed_functions before → length after ≡ length before
+count_listed before after is = sym (length-map after listed_function) ∙ ap length is ∙ length-map before listed_function
+
+written_back : (new old : List Function) (count : ℕ) → count ≡ length old → length new ≡ length old → take count (new ++ drop (length new) old) ≡ new
+written_back new old count is same =
+    ap (λ l. take count (new ++ l)) (drop_all (length new) old (omega (arith, same)))
+    ∙ ap (take count) (append-nil new)
+    ∙ take_all count new (omega (arith, is, same))
+
+-- functions that are listed, get their titles, and then get their names
+module _ (titles : List ℕ) (items lent titled again named : List Function) (count : ℕ) (long : count ≡ length items) (first : lent ≡ items)
+    (is_titled : listed_functions titled ≡ with_titles titles (listed_functions lent))
+    (second : again ≡ take count (titled ++ drop (length titled) items)) (is_named : listed_functions named ≡ listed_functions again) where
+  titled_back : take count (titled ++ drop (length titled) items) ≡ titled
+  titled_back = written_back titled items count long (count_with_titles titles lent titled is_titled ∙ ap length first)
+
+  pub named_back : take count (named ++ drop (length named) (take count (titled ++ drop (length titled) items))) ≡ named
+  named_back =
+      let same : again ≡ titled = second ∙ titled_back in
+      ap (λ l. take count (named ++ drop (length named) l)) titled_back
+      ∙ written_back named titled count (long ∙ sym (count_with_titles titles lent titled is_titled ∙ ap length first))
+      (count_listed again named is_named ∙ ap length same)
+
+  pub listed_back : listed_functions (take count (named ++ drop (length named) (take count (titled ++ drop (length titled) items))))
+      ≡ with_titles titles (listed_functions items)
+  listed_back =
+      ap listed_functions named_back ∙ is_named ∙ ap listed_functions (second ∙ titled_back) ∙ is_titled
+      ∙ ap (λ l. with_titles titles (listed_functions l)) first

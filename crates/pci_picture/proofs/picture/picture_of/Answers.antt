@@ -22,7 +22,7 @@ returns g c =
     record {
       closed = c.finish.ensures.closed;
       drawn = drawn_of functions c.args.texts.now.map.now c.args.texts.now.faults.now c.finish.result (λ text. string_bytes text) whole;
-      by_root = drawn_by_roots functions c.args.texts.now.show.now c.args.texts.now.map.now c.args.texts.now.faults.now c.finish.result (λ text. string_bytes text) c.in_ok-board.ensures.show whole;
+      by_root = drawn_by_roots functions c.args.texts.now.show.now c.args.texts.now.titles.now c.args.texts.now.map.now c.args.texts.now.faults.now c.finish.result (λ text. string_bytes text) c.in_ok-board.ensures.show whole;
       listed =
           has_fault_list c.args.texts.now.faults.now c.in_ok-board.board.faults c.draw_legend.new.canvas c.write_faults.new.canvas c.draw_tree.new.canvas c.draw_sections.new.canvas c.draw_off.new.canvas
           c.in_ok-y.ensures.drawn.spots c.in_ok-end.ensures.drawn.spots c.finish.result (λ text. string_bytes text) _ _ _ c.in_ok-board.ensures.lines
