@@ -31,6 +31,7 @@ pub mod Once
 pub mod Sections
 pub mod Listings
 pub mod Named
+pub mod LowDigits
 pub mod Feeds
 pub mod Pictured
 pub mod Roots

@@ -1,15 +1,17 @@
 -- What functions are called, while their titles and names are written.
 use Rattle.std.proofs.Common.{◌≡◌, ◌≤◌, ◌<◌, ◌+◌, ◌-◌, ◌==◌, ℕ, zero, suc, Bool, true, false, cond, Option, Some, None, unwrap_or, List, [], ◌∷◌, ◌++◌, fold, length, ltb, get_or, map, set, take, drop, refl, sym, ap, subst, ◌∙◌, arith, ◌⊎◌, inl, inr, if◌then◌else◌}
+use Rattle.std.specs.Prelude.{codes}
 use Rattle.std.specs.List.{All, before_first, after_first, filter, slice_split}
 use Rattle.std.specs.List.Sorted.{IsNonDecreasingBy, IsPartitionPoint}
-use Rattle.std.proofs.lemmas.Bool.{cases_lt, eq-eqb, le-leb, ne_eqb, ltb-true, ltb-false}
-use Rattle.std.proofs.lemmas.List.{append-nil, drop_all, get_or-map, length-map, map-set, take_all}
-use Rattle.pci_picture.specs.Lines.{is_feed, is_slot, slot_number_of}
-use Rattle.pci_picture.specs.Named.{is_title_line, title_from_line, titled, with_title, with_titles}
+use Rattle.std.proofs.lemmas.Bool.{and_right, cases_lt, eq-eqb, le-leb, ne_eqb, ltb-true, ltb-false}
+use Rattle.std.proofs.lemmas.List.{append-nil, append_assoc, drop_all, get_or-map, length-drop, length-map, length-take, map-set, take_all}
+use Rattle.pci_picture.specs.Lines.{hex_value, is_feed, is_register, is_slot, slot_number_of}
+use Rattle.pci_picture.specs.Named.{is_title_line, low_digits, name_of_class, name_of_numbers, title_from_line, titled, with_title, with_titles, words_of_buses}
 use Rattle.pci_picture.specs.Headings.{number_of_section}
 use Rattle.pci_picture.specs.Roots.{AreLostByRoot, Listed, bus_above, bus_of_bridge, first_bus, go_up, is_bridge_to, listed_function, listed_functions, root_bus_of, section_by_root}
 use Rattle.pci_picture.specs.Slots.{bus_of_line, is_io_line}
 use Rattle.pci_picture.specs.Spots.{Section}
+use Rattle.pci_picture.specs.declared.function.Buses.{Buses}
 use Rattle.pci_picture.specs.declared.function.Function.{Function}
 use Rattle.pci_picture.proofs.Listings.{all_taken, line_taken}
 
@@ -199,6 +201,44 @@ pub by_root_untitled : (titles : List ℕ) (functions : List Listed) (sections :
 by_root_untitled titles functions sections all k d inside =
     let section = get_or sections k d in
     lost_same titles functions section.number section.lost (all k d inside)
+
+-- ---- classes
+
+no_register : (word : List ℕ) → length word < 2 → is_register word ≡ false
+unfolding is_register
+no_register word short = rw (ne_eqb (length word) 2 (λ same. omega (arith, same, short))) refl
+
+-- a word of less than four digits has no name
+short_class : (word : List ℕ) (name : Option (List ℕ)) → name ≡ None → length word < 4 → name ≡ name_of_class word
+unfolding name_of_class
+short_class word name none short =
+    let long : length (take 2 (drop 2 word)) < 2 = omega (arith, length-take 2 (drop 2 word), length-drop 2 word, short) in
+    none
+    ∙ sym (ap (λ b. if b then name_of_numbers (hex_value (take 2 word)) (hex_value (take 2 (drop 2 word))) else None)
+    (and_right (is_register (take 2 word)) (is_register (take 2 (drop 2 word))) (no_register (take 2 (drop 2 word)) long)))
+
+pub cut_class : (word : List ℕ) (name : Option (List ℕ)) (begin end : ℕ) → name ≡ None → begin ≤ end → end ≤ 4
+    → (end < begin) ⊎ (length word < end) → name ≡ name_of_class word
+cut_class word name begin end none up few (inl bad) = absurd (omega (arith, up, bad))
+cut_class word name begin end none up few (inr short) = short_class word name none (omega (arith, few, short))
+
+-- ---- buses
+
+pub buses_put : (old one two three four : List ℕ) (buses : Option Buses) (found : Buses) (first last : ℕ) → buses ≡ Some found
+    → (found.subordinate ≡ 0 → ⊥) → (found.secondary ≡ found.subordinate → ⊥) → first ≡ found.secondary → last ≡ found.subordinate
+    → one ≡ old ++ codes "buses " → two ≡ one ++ low_digits 2 first → three ≡ two ++ codes "-" → four ≡ three ++ low_digits 2 last
+    → four ≡ old ++ words_of_buses buses
+buses_put old one two three four buses found first last is some apart is_first is_last put_one put_two put_three put_four =
+    let low : List ℕ = low_digits 2 first in
+    let high : List ℕ = low_digits 2 last in
+    put_four
+    ∙ ap (λ l. l ++ high) (put_three ∙ ap (λ l. l ++ codes "-") (put_two ∙ ap (λ l. l ++ low) put_one))
+    ∙ ap (λ l. l ++ codes "-" ++ high) (append_assoc old (codes "buses ") low)
+    ∙ ap (λ l. l ++ high) (append_assoc old (codes "buses " ++ low) (codes "-"))
+    ∙ append_assoc old (codes "buses " ++ low ++ codes "-") high
+    ∙ ap (λ n. old ++ (codes "buses " ++ low_digits 2 n ++ codes "-" ++ high)) is_first
+    ∙ ap (λ n. old ++ (codes "buses " ++ low_digits 2 found.secondary ++ codes "-" ++ low_digits 2 n)) is_last
+    ∙ ap (λ l. old ++ l) (sym (ap words_of_buses is ∙ rw (ne_eqb found.subordinate 0 some, ne_eqb found.secondary found.subordinate apart) refl))
 
 -- ---- a slice of functions that is written back
 

@@ -1,9 +1,11 @@
 //! A line of words that is being written.
-ghost use Rattle.std.specs.Prelude.{◌≡◌, ◌++◌, [], IfOk, OnOk};
+ghost use Rattle.std.specs.Prelude.{◌≡◌, ◌++◌, [], Some, min, IfOk, OnOk};
 ghost use Rattle.std.specs.Fmt.{decimal};
 ghost use Rattle.std.specs.List.{flat_map};
+ghost use Rattle.std.specs.Option.{option_map};
 ghost use Rattle.pci_picture.specs.Labels.{cut_words};
-ghost use Rattle.pci_picture.specs.Said.{AddsMore};
+ghost use Rattle.pci_picture.specs.Named.{low_digits, name_of_class, name_of_function, name_of_numbers, words_of_buses};
+ghost use Rattle.pci_picture.specs.Roots.{listed_function};
 
 use super::function::{Buses, Function};
 use super::memory::OutOfMemory;
@@ -14,7 +16,9 @@ use std::alloc::Allocator;
 static DIGITS: [u8; 16] = *b"0123456789abcdef";
 
 /// The 16 hex digits of a number.
-pub fn hex_digits(number: u64) -> [u8; 16] {
+pub fn hex_digits(number: u64) -> [u8; 16]
+    ensures { result ≡ low_digits 16 number }
+{
     let mut digits = [b'0'; 16];
     for index in 0..16u32 {
         let shifted = number >> (60 - 4 * index);
@@ -76,7 +80,7 @@ impl<A: Allocator + Copy> Words<A> {
 
     /// Appends the lowest `digits` hex digits of a number, at most 16.
     pub fn put_hex(&mut self, number: u64, digits: usize) -> Result<(), OutOfMemory>
-        ensures { OnOk result (AddsMore [] self.old.bytes.items self.new.bytes.items) }
+        ensures { OnOk result (self.new.bytes.items ≡ self.old.bytes.items ++ low_digits (min digits 16) number) }
     {
         let all = hex_digits(number);
         self.put(&all[16 - digits.min(16)..])
@@ -101,7 +105,7 @@ impl<A: Allocator + Copy> Words<A> {
 
     /// Appends the buses behind a bridge.
     pub fn put_buses(&mut self, buses: Option<Buses>) -> Result<(), OutOfMemory>
-        ensures { OnOk result (AddsMore [] self.old.bytes.items self.new.bytes.items) }
+        ensures { OnOk result (self.new.bytes.items ≡ self.old.bytes.items ++ words_of_buses buses) }
     {
         match buses {
             Some(buses) if buses.subordinate != 0 => {
@@ -120,7 +124,9 @@ impl<A: Allocator + Copy> Words<A> {
     }
 
     /// Appends the title of a function, else what its class is and its two identifiers.
-    pub fn put_name(&mut self, function: &Function<'_>) -> Result<(), OutOfMemory> {
+    pub fn put_name(&mut self, function: &Function<'_>) -> Result<(), OutOfMemory>
+        ensures { OnOk result (self.new.bytes.items ≡ self.old.bytes.items ++ name_of_function (listed_function function.now)) }
+    {
         if !function.title.is_empty() {
             return self.put(function.title);
         }
@@ -167,7 +173,10 @@ impl<A: Allocator + Copy> Words<A> {
 }
 
 /// The name of a class, by its base class, or by its base class and subclass.
-fn class_name(class: &[u8]) -> Option<&'static str> {
+#[tactic(auto, unfolding(crate::specs::Named::name_of_class, crate::specs::Named::name_of_numbers))]
+fn class_name(class: &[u8]) -> Option<&'static str>
+    ensures { option_map (λ name. name.now) result ≡ name_of_class class.now }
+{
     let base = hex_byte(class.get(..2)?)?;
     let below = hex_byte(class.get(2..4)?)?;
     match (base, below) {
@@ -199,7 +208,10 @@ fn class_name(class: &[u8]) -> Option<&'static str> {
 }
 
 /// The name of a subclass of mass storage.
-fn storage_name(below: u8) -> &'static str {
+#[tactic(auto, unfolding(crate::specs::Named::name_of_numbers))]
+fn storage_name(below: u8) -> &'static str
+    ensures { Some result.now ≡ name_of_numbers 1 below }
+{
     match below {
         0x01 => "IDE controller",
         0x04 => "RAID controller",
@@ -211,7 +223,10 @@ fn storage_name(below: u8) -> &'static str {
 }
 
 /// The name of a subclass of bridges.
-fn bridge_name(below: u8) -> &'static str {
+#[tactic(auto, unfolding(crate::specs::Named::name_of_numbers))]
+fn bridge_name(below: u8) -> &'static str
+    ensures { Some result.now ≡ name_of_numbers 6 below }
+{
     match below {
         0x00 => "host bridge",
         0x01 => "ISA bridge",
