@@ -43,6 +43,7 @@ pub mod Marks
 pub mod Badges
 pub mod BadgeWords
 pub mod Rows
+pub mod Starts
 pub mod FaultLines
 pub mod Examples
 pub mod SideBySide

@@ -41,7 +41,7 @@ slots_titled slot title (function ∷ functions) =
       | false ↦ ap (λ l. function.slot ∷ l) (slots_titled slot title functions)
     ]
 
-slots_of_line : (functions : List Listed) (line : List ℕ) → map (λ f. f.slot) (title_from_line functions line) ≡ map (λ f. f.slot) functions
+pub slots_of_line : (functions : List Listed) (line : List ℕ) → map (λ f. f.slot) (title_from_line functions line) ≡ map (λ f. f.slot) functions
 slots_of_line functions line =
     elim (is_title_line line) as (λ b. map (λ (f : Listed). f.slot)
     (if b then with_title (slot_number_of (take 7 line)) (drop 8 line) functions else functions) ≡ map (λ (f : Listed). f.slot) functions) [

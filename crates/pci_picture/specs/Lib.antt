@@ -18,6 +18,7 @@ pub mod Depths
 pub mod Drawings
 pub mod Cuts
 pub mod Slots
+pub mod Starts
 pub mod Roots
 pub mod Bits
 pub mod Listings

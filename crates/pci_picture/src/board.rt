@@ -10,6 +10,7 @@ ghost use Rattle.pci_picture.specs.Marks.{AreFaultsOf};
 ghost use Rattle.pci_picture.specs.Roots.{AreBusesAbove, AreRoots, go_up, listed_functions};
 ghost use Rattle.pci_picture.specs.Said.{AddsMore, AreSaidOf, IsTitleOf, faults_said, lines_of_fault, said_by, said_lines};
 ghost use Rattle.pci_picture.specs.FaultLines.{faults_read};
+ghost use Rattle.pci_picture.specs.Starts.{AreOnBus, AreStarts, RiseBySlot};
 
 use super::faults::{Fault, Faults};
 use super::function::{Buses, Function, Span, find};
@@ -44,16 +45,21 @@ pub struct Board<'a, A: Allocator> {
     names: Words<A>,
     pub map: Map<'a, A>,
     pub faults: Faults<'a, A>,
+    ghost sorted: { RiseBySlot functions.items },
+    ghost begins: { AreStarts functions.items starts },
 }
 
-/// For each bus how many functions stand on lower buses, of functions by rising slot. The last number counts all functions.
-fn starts_of(functions: &[Function<'_>]) -> [usize; 257] {
+/// For each bus how many functions stand on lower buses. The last number counts all functions.
+fn starts_of(functions: &[Function<'_>]) -> [usize; 257]
+    ensures { AreStarts functions.now result }
+{
     let mut starts = [0usize; 257];
-    for (index, function) in functions.iter().enumerate() {
-        starts[bus_of(function.number) as usize + 1] = index.saturating_add(1);
+    for function in functions {
+        let behind = bus_of(function.number) as usize + 1;
+        starts[behind] = starts[behind].saturating_add(1);
     }
     for bus in 1..257usize {
-        starts[bus] = starts[bus].max(starts[bus - 1]);
+        starts[bus] = starts[bus].saturating_add(starts[bus - 1]);
     }
     starts
 }
@@ -143,7 +149,9 @@ impl<'a, A: Allocator + Copy> Board<'a, A> {
     }
 
     /// The index of the first function on a bus, and the one behind its last.
-    pub fn on_bus(&self, bus: u8) -> (usize, usize) {
+    pub fn on_bus(&self, bus: u8) -> (usize, usize)
+        ensures { AreOnBus self.now.functions.items bus result.0 result.1 }
+    {
         let index = bus as usize;
         (self.starts[index], self.starts[index + 1])
     }

@@ -1,5 +1,5 @@
 //! Functions, as `show` lists them.
-ghost use Rattle.std.specs.Prelude.{IsTrue};
+ghost use Rattle.std.specs.Prelude.{◌<◌, ◌^◌, IsTrue};
 ghost use Rattle.pci_picture.specs.Lines.{is_slot};
 
 /// The secondary and the subordinate bus of a bridge.
@@ -34,6 +34,7 @@ pub struct Function<'a> {
     /// Where its name stands among the names of all functions.
     pub name: Span,
     ghost is_slot: { IsTrue (is_slot slot.now) },
+    ghost is_low: { number < 2 ^ 20 },
 }
 
 /// The function of a slot's number, of functions by rising slot.

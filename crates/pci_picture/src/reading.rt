@@ -1,5 +1,5 @@
 //! Words, numbers and slots of a line.
-ghost use Rattle.std.specs.Prelude.{◌≡◌, ◌≤◌, ◌<◌, ◌+◌, ◌*◌, drop, length, is_some, IfSome};
+ghost use Rattle.std.specs.Prelude.{◌≡◌, ◌≤◌, ◌<◌, ◌+◌, ◌*◌, ◌^◌, drop, length, is_some, IfSome};
 ghost use Rattle.std.specs.List.{after_first, before_first, position_or_len};
 ghost use Rattle.pci_picture.specs.Bits.{lowest_of_16};
 ghost use Rattle.pci_picture.specs.Marks.{is_register_or_told, key_named_at, number_in_slot, number_of_place};
@@ -157,6 +157,7 @@ pub fn slot_number(text: &[u8]) -> Option<u32>
     ensures value { IfSome result (λ number. number ≡ slot_number_of text.now) }
     ensures some { is_some result ≡ is_slot text.now }
     ensures bus { IfSome result (λ number. bus_of_slot number ≡ bus_of_word text.now) }
+    ensures low { IfSome result (λ number. number < 2 ^ 20) }
 {
     if text.len() != 7 || text[2] != b':' || text[5] != b'.' {
         return None;
