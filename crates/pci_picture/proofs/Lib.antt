@@ -44,6 +44,8 @@ pub mod Badges
 pub mod BadgeWords
 pub mod Rows
 pub mod Starts
+pub mod Trees
+pub mod RootRows
 pub mod FaultLines
 pub mod Examples
 pub mod SideBySide

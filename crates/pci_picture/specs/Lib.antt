@@ -31,4 +31,6 @@ pub mod Nested
 pub mod Members
 pub mod Siblings
 pub mod Rows
+pub mod Trees
+pub mod Walks
 pub mod FaultLines

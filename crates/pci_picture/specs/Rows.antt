@@ -2,11 +2,8 @@
 use Rattle.std.specs.Prelude.{◌≡◌, ◌-◌, ◌*◌, ◌==◌, ℕ, List, ◌∷◌, ◌++◌, codes, length}
 use Rattle.std.specs.List.{filter}
 use Rattle.pci_picture.specs.Badges.{ShowBadges}
-use Rattle.pci_picture.specs.Canvases.{WritesBytes}
 use Rattle.pci_picture.specs.Labels.{cut_words, label_text}
 use Rattle.pci_picture.specs.declared.badge.Badge.{Badge}
-use Rattle.pci_picture.specs.declared.canvas.Canvas.{Canvas}
-use Rattle.pci_picture.specs.declared.function.Function.{Function}
 
 -- a row of the tree: the slot of its function and the number of this slot, its words and their look, what stands at its right end,
 -- and where both begin
@@ -34,11 +31,3 @@ pub record IsRow (badges : List Badge) (row : TreeRow) : Type 0 where
   pub more : List ℕ
   pub named : row.words ≡ row.slot ++ 32 ∷ more
   pub shows : ShowBadges (filter (λ badge. badge.slot == row.number) badges) row.beside
-
--- the row of a function is written
-pub record WritesRow {A : Type 0} (badges : List Badge) (function : Function) (before after : Canvas A) : Type 0 where
-  pub row : TreeRow
-  pub slot_is : row.slot ≡ function.slot.now
-  pub number_is : row.number ≡ function.number
-  pub lawful : IsRow badges row
-  pub writes : WritesBytes (tree_row_text row) before after

@@ -84,7 +84,7 @@ fn names_of<A: Allocator + Copy>(
 }
 
 /// For each bus the one above it: that of the first bridge listed whose secondary bus it is. Bus 0 has none.
-fn buses_above(functions: &[Function<'_>]) -> [Option<u8>; 256]
+pub fn buses_above(functions: &[Function<'_>]) -> [Option<u8>; 256]
     ensures { AreBusesAbove (listed_functions functions.entry.now) result }
 {
     let mut above = [None; 256];

@@ -97,7 +97,8 @@ impl<A: Allocator + Copy> Canvas<A> {
 
     /// Writes a line of words among the boxes.
     pub fn add_heading(&mut self, label: Label<'_>, words: &[u8]) -> Result<(), OutOfMemory>
-        ensures { OnOk result (AddsToCanvas [] self.old self.new) }
+        ensures adds { OnOk result (AddsToCanvas [] self.old self.new) }
+        ensures writes { OnOk result (string_bytes self.new.words ≡ string_bytes self.old.words) }
     {
         self.element.clear();
         push_words(&mut self.element, label.x, label.y, label.class, words)?;

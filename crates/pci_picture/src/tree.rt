@@ -1,18 +1,20 @@
 //! The tree of buses.
-ghost use Rattle.std.specs.Prelude.{◌≡◌, ◌++◌, ◌∷◌, [], ℕ, List, IfOk, OnOk};
+ghost use Rattle.std.specs.Prelude.{◌≡◌, ◌++◌, ◌∷◌, [], ℕ, List, Some, None, IfOk, IfSome, OnOk};
 ghost use Rattle.pci_picture.specs.Badges.{ShowBadges, badges_beside};
 ghost use Rattle.pci_picture.specs.Ranks.{badge_word};
 ghost use Rattle.pci_picture.specs.Canvases.{AddsToCanvas, WritesBytes};
-ghost use Rattle.pci_picture.specs.Rows.{WritesRow};
+ghost use Rattle.pci_picture.specs.Roots.{AreBusesAbove, listed_functions};
+ghost use Rattle.pci_picture.specs.Starts.{AreOnBus};
+ghost use Rattle.pci_picture.specs.Trees.{class_of_row, is_tree_root};
+ghost use Rattle.pci_picture.specs.Walks.{AreMarked, IsBegun, IsNext, WritesBus, WritesRoot, WritesRow, WritesTree, left_of, place_of, unmarked_behind};
 
 use super::badge::Badge;
-use super::board::Board;
+use super::board::{Board, buses_above};
 use super::canvas::{Canvas, Label, Shape};
 use super::elements::Frame;
 use super::function::Function;
 use super::heights::LINE;
 use super::memory::OutOfMemory;
-use super::reading::bus_of;
 use super::words::Words;
 use std::alloc::Allocator;
 
@@ -36,7 +38,10 @@ struct Rest {
 }
 
 /// Which functions are on a bus.
-fn on_bus<A: Allocator + Copy>(board: &Board<'_, A>, bus: u8, depth: u64) -> Rest {
+fn on_bus<A: Allocator + Copy>(board: &Board<'_, A>, bus: u8, depth: u64) -> Rest
+    ensures on { AreOnBus board.now.functions.items bus result.next result.end }
+    ensures deep { result.depth ≡ depth }
+{
     let (next, end) = board.on_bus(bus);
     Rest { next, end, depth }
 }
@@ -124,6 +129,19 @@ fn words_of<A: Allocator + Copy>(
     Ok(words)
 }
 
+/// How the words of a row look, by what stands beside them and whether the function is on.
+fn row_class(beside: &[u8], is_on: bool) -> &'static [u8]
+    ensures { result.now ≡ class_of_row beside.now is_on }
+{
+    if !beside.is_empty() {
+        b"alarm"
+    } else if is_on {
+        b""
+    } else {
+        b"quiet"
+    }
+}
+
 /// Draws the row of a function: its box, its words, and at the right the numbers of its faults.
 fn draw_row<A: Allocator + Copy>(
     alloc: A,
@@ -134,24 +152,17 @@ fn draw_row<A: Allocator + Copy>(
     y: u64,
 ) -> Result<(), OutOfMemory>
     ensures adds { OnOk result (AddsToCanvas [] canvas.old canvas.new) }
-    ensures row { OnOk result (WritesRow board.entry.now.faults.badges.items function.entry.now canvas.old canvas.new) }
+    ensures row { OnOk result (WritesRow board.entry.now.faults.badges.items y (place_of function.entry.now depth) canvas.old canvas.new) }
 {
     let x = LEFT + STEP * depth.min(DEEPEST);
     let badges = badges_of(alloc, board, function)?;
     let taken = (badges.bytes.len() as u64).saturating_mul(7);
     draw_function(canvas, function, x, y.saturating_add(2))?;
-    let class: &[u8] = if !badges.bytes.is_empty() {
-        b"alarm"
-    } else if function.is_on {
-        b""
-    } else {
-        b"quiet"
-    };
     let y = y.saturating_add(10);
     let label = Label {
         x: x + 14,
         y,
-        class,
+        class: row_class(badges.bytes.as_slice(), function.is_on),
     };
     let room = (LEFT + TREE - 36).saturating_sub(x).saturating_sub(taken);
     let mut words = words_of(alloc, board, function)?;
@@ -164,6 +175,20 @@ fn draw_row<A: Allocator + Copy>(
     canvas.add_words(beside, badges.bytes.as_slice())
 }
 
+/// The first function that is left of a bus.
+fn next_of<'b, 'a, A: Allocator + Copy>(
+    board: &'b Board<'a, A>,
+    rest: Rest,
+) -> Option<&'b Function<'a>>
+    ensures none { result ≡ None → left_of board.now.functions.items rest ≡ [] }
+    ensures some { IfSome result (λ function. IsNext board.now.functions.items rest function.now) }
+{
+    if rest.end <= rest.next {
+        return None;
+    }
+    board.functions.get(rest.next)
+}
+
 /// Appends the functions behind a bridge to what is left, so that they are drawn next. A bus that was drawn already is
 /// left out.
 fn push_behind<A: Allocator + Copy>(
@@ -172,7 +197,12 @@ fn push_behind<A: Allocator + Copy>(
     drawn: &mut [bool; 256],
     function: &Function<'_>,
     depth: u64,
-) -> Result<(), OutOfMemory> {
+) -> Result<(), OutOfMemory>
+    ensures none { unmarked_behind drawn.old function.now ≡ None
+        → OnOk result ((rests.new.items ≡ rests.old.items) × (drawn.new ≡ drawn.old)) }
+    ensures some { (bus : ℕ) → unmarked_behind drawn.old function.now ≡ Some bus → OnOk result
+        (IsBegun board.now.functions.items bus depth rests.old.items rests.new.items drawn.old drawn.new) }
+{
     if let Some(buses) = function.buses {
         let behind = buses.secondary as usize;
         if !drawn[behind] {
@@ -192,34 +222,70 @@ fn draw_bus<A: Allocator + Copy>(
     root: u8,
     top: u64,
 ) -> Result<u64, OutOfMemory>
-    ensures { IfOk result (λ _. AddsToCanvas [] canvas.old canvas.new) }
+    ensures adds { IfOk result (λ _. AddsToCanvas [] canvas.old canvas.new) }
+    ensures rows { (before : List ℕ) → AreMarked drawn.old before → IfOk result (λ end.
+        WritesBus (listed_functions board.entry.now.functions.items) board.entry.now.faults.badges.items before root top end
+        drawn.new canvas.old canvas.new) }
 {
     let mut y = top;
     let mut rests = Vec::new(alloc);
     rests.push(on_bus(board, root, 0))?;
     drawn[root as usize] = true;
-    // one step for each function that is drawn, and one for the end of each bus
-    let steps = board.functions.len().saturating_add(256);
-    for _ in 0..steps {
-        let Some(rest) = rests.pop() else {
-            break;
-        };
-        if rest.end <= rest.next {
-            continue;
-        }
-        let Some(function) = board.functions.get(rest.next) else {
+    while let Some(rest) = rests.pop() {
+        let Some(function) = next_of(board, rest) else {
             continue;
         };
         draw_row(alloc, canvas, board, function, rest.depth, y)?;
         y = y.saturating_add(LINE);
         rests.push(Rest {
-            next: rest.next.saturating_add(1),
-            end: rest.end,
-            depth: rest.depth,
+            next: rest.next + 1,
+            ..rest
         })?;
         push_behind(&mut rests, board, drawn, function, rest.depth)?;
     }
     Ok(y)
+}
+
+/// Whether a bus is a root: it has functions, no bus is above it, and it was not drawn yet.
+fn is_root<A: Allocator + Copy>(
+    board: &Board<'_, A>,
+    above: &[Option<u8>; 256],
+    drawn: &[bool; 256],
+    bus: u8,
+) -> bool
+    ensures { AreBusesAbove (listed_functions board.now.functions.items) above.now → (before : List ℕ) → AreMarked drawn.now before
+        → result ≡ is_tree_root (listed_functions board.now.functions.items) before bus }
+{
+    let (begin, end) = board.on_bus(bus);
+    let index = bus as usize;
+    begin < end && above[index].is_none() && !drawn[index]
+}
+
+/// Draws the heading of a root bus, and its rows below. Its answer is where the next root stands.
+fn draw_root<A: Allocator + Copy>(
+    alloc: A,
+    canvas: &mut Canvas<A>,
+    board: &Board<'_, A>,
+    drawn: &mut [bool; 256],
+    root: u8,
+    y: u64,
+) -> Result<u64, OutOfMemory>
+    ensures adds { IfOk result (λ _. AddsToCanvas [] canvas.old canvas.new) }
+    ensures rows { (before : List ℕ) → AreMarked drawn.old before → IfOk result (λ end.
+        WritesRoot (listed_functions board.entry.now.functions.items) board.entry.now.faults.badges.items before root y end
+        drawn.new canvas.old canvas.new) }
+{
+    let mut words = Words::of(alloc, b"bus ")?;
+    words.put_hex(u64::from(root), 2)?;
+    let label = Label {
+        x: LEFT,
+        y: y.saturating_add(11),
+        class: b"bold",
+    };
+    canvas.add_heading(label, words.bytes.as_slice())?;
+    let below = y.saturating_add(LINE + 2);
+    let end = draw_bus(alloc, canvas, board, drawn, root, below)?;
+    Ok(end.saturating_add(8))
 }
 
 /// Draws the functions, each bridge with what is behind it below it. Its answer is where the tree ends.
@@ -229,34 +295,18 @@ pub fn draw_tree<A: Allocator + Copy>(
     board: &Board<'_, A>,
     top: u64,
 ) -> Result<u64, OutOfMemory>
-    ensures { IfOk result (λ _. AddsToCanvas [] canvas.old canvas.new) }
+    ensures adds { IfOk result (λ _. AddsToCanvas [] canvas.old canvas.new) }
+    ensures tree { IfOk result (λ _. WritesTree (listed_functions board.entry.now.functions.items)
+        board.entry.now.faults.badges.items top canvas.old canvas.new) }
 {
-    let mut has_functions = [false; 256];
-    let mut is_behind = [false; 256];
-    for function in &board.functions {
-        has_functions[bus_of(function.number) as usize] = true;
-        if let Some(buses) = function.buses {
-            is_behind[buses.secondary as usize] = buses.secondary != 0;
-        }
-    }
+    let above = buses_above(board.functions.as_slice());
     let mut drawn = [false; 256];
     let mut y = top;
     for bus in 0..256u16 {
-        let index = bus as usize;
-        if !has_functions[index] || is_behind[index] || drawn[index] {
+        if !is_root(board, &above, &drawn, bus as u8) {
             continue;
         }
-        let mut words = Words::of(alloc, b"bus ")?;
-        words.put_hex(u64::from(bus), 2)?;
-        let label = Label {
-            x: LEFT,
-            y: y.saturating_add(11),
-            class: b"bold",
-        };
-        canvas.add_heading(label, words.bytes.as_slice())?;
-        let below = y.saturating_add(LINE + 2);
-        let end = draw_bus(alloc, canvas, board, &mut drawn, bus as u8, below)?;
-        y = end.saturating_add(8);
+        y = draw_root(alloc, canvas, board, &mut drawn, bus as u8, y)?;
     }
     Ok(y)
 }

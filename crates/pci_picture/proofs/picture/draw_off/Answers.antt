@@ -27,6 +27,6 @@ pub returns : goal.returns
 returns g c = record {
   drawn =
       all_rows (look_read c.args.board.now.faults) c.as_slice-off.result.now c.args.board.now.map.off.items c.loop-region.region-index _ _ _ (omega arith)
-      c.as_slice-off.ensures.value c.in_ok-add_heading.ensures c.loop-region.invariant.rows;
+      c.as_slice-off.ensures.value c.in_ok-add_heading.ensures.adds c.loop-region.invariant.rows;
   down = c.loop-region.invariant.down;
 }

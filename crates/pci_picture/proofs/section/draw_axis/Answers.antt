@@ -8,4 +8,4 @@ pub loop-run-preserved : goal.loop-run-preserved
 loop-run-preserved g c = then_draws _ _ _ _ c.loop-run.invariant c.in_ok-draw_run.ensures
 
 pub returns : goal.returns
-returns g c = then_ok c.add_heading.result _ _ _ _ c.loop-run.invariant c.add_heading.ensures
+returns g c = then_ok c.add_heading.result _ _ _ _ c.loop-run.invariant c.add_heading.ensures.adds

@@ -4,6 +4,7 @@ use Rattle.std.specs.String.{string_bytes}
 use Rattle.std.proofs.lemmas.Result.{on_ok_weaker}
 use Rattle.pci_picture.specs.Labels.{label_text}
 use Rattle.pci_picture.specs.Rows.{TreeRow}
+use Rattle.pci_picture.specs.Trees.{class_of_row}
 use Rattle.pci_picture.proofs.Boxes.{then_ok, then_draws}
 use Rattle.pci_picture.proofs.Rows.{cut_off, row_written}
 use Rattle.pci_picture.proofs.tree.draw_row.Goals as goal
@@ -19,7 +20,7 @@ returns-clause-row g c =
     let row : TreeRow = record {
       slot = c.args.function.now.slot.now;
       number = c.args.function.now.number;
-      class = c.if-not-is_empty.class.now;
+      class = c.row_class.result.now;
       words = c.in_ok-words.words.bytes.items;
       beside = c.in_ok-badges.badges.bytes.items;
       left = 16 + 14 * c.min.result + 14;
@@ -30,13 +31,18 @@ returns-clause-row g c =
     on_ok_weaker c.add_words.result
     (λ writes. record {
       row = row;
-      slot_is = refl;
-      number_is = refl;
-      lawful = record { more = c.in_ok-words.ensures.0; named = c.in_ok-words.ensures.1; shows = c.in_ok-badges.ensures };
+      stands = record {
+        slot_is = refl;
+        number_is = refl;
+        lawful = record { more = c.in_ok-words.ensures.0; named = c.in_ok-words.ensures.1; shows = c.in_ok-badges.ensures };
+        left_is = omega (arith, c.min.ensures);
+        base_is = c.saturating_add-y.ensures;
+        class_is = c.row_class.ensures ∙ ap (λ l. class_of_row l c.args.function.now.is_on) c.as_slice.ensures.value;
+      };
       writes =
           row_written row (string_bytes c.args.canvas.now.words) (string_bytes c.draw_function.new.canvas.words) (string_bytes c.add_cut.new.self.words) (string_bytes c.add_words.new.self.words)
           c.saturating_sub-room.result c.saturating_sub-2.result c.in_ok-draw_function.ensures.writes c.in_ok-add_cut.ensures.writes
-          (writes ∙ ap (λ l. string_bytes c.add_cut.new.self.words ++ label_text c.saturating_sub-2.result c.saturating_add-y.result (codes "alarm bold") l) c.as_slice.ensures.value)
+          (writes ∙ ap (λ l. string_bytes c.add_cut.new.self.words ++ label_text c.saturating_sub-2.result c.saturating_add-y.result (codes "alarm bold") l) c.as_slice-2.ensures.value)
           (c.saturating_sub-room.ensures ∙ ap (λ n. n - c.saturating_mul-taken.result) c.saturating_sub.ensures ∙ ap (λ n. 380 - (16 + 14 * c.min.result) - n) wide
           ∙ cut_off (380 - (16 + 14 * c.min.result)) (length row.beside * 7) (omega arith) ∙ omega arith)
           (c.saturating_sub-2.ensures ∙ ap (λ n. 400 - n) wide ∙ cut_off 400 (length row.beside * 7) (omega arith));

@@ -12,8 +12,8 @@ keep_box-requires g c =
     made (string_bytes c.clear.new.self) (string_bytes c.push_words.new.text) (words_text c.args.label.x c.args.label.y c.args.label.class.now c.args.words.now)
     (words_content c.args.label.x c.args.label.y c.args.label.class.now c.args.words.now (omega arith) (omega arith)) c.clear.ensures.bytes c.in_ok-push_words.ensures
 
-pub returns : goal.returns
-returns g c =
+pub returns-clause-adds : goal.returns-clause-adds
+returns-clause-adds g c =
     on_ok_weaker c.keep_box.result
     (λ kept. added_bare (words_text c.args.label.x c.args.label.y c.args.label.class.now c.args.words.now) (words_titles c.args.label.x c.args.label.y c.args.label.class.now c.args.words.now)
     c.args.self.now c.keep_box.new.self (string_bytes c.clear.new.self) (string_bytes c.push_words.new.text) c.clear.ensures.bytes c.in_ok-push_words.ensures kept.0 kept.1)
