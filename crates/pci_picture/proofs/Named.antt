@@ -3,10 +3,10 @@ use Rattle.std.proofs.Common.{◌≡◌, ◌≤◌, ◌<◌, ◌+◌, ◌-◌, �
 use Rattle.std.specs.Prelude.{codes}
 use Rattle.std.specs.List.{All, before_first, after_first, filter, slice_split}
 use Rattle.std.specs.List.Sorted.{IsNonDecreasingBy, IsPartitionPoint}
-use Rattle.std.proofs.lemmas.Bool.{and_right, cases_lt, eq-eqb, le-leb, ne_eqb, ltb-true, ltb-false}
-use Rattle.std.proofs.lemmas.List.{append-nil, append_assoc, drop_all, get_or-map, length-drop, length-map, length-take, map-set, take_all}
+use Rattle.std.proofs.lemmas.Bool.{and_right, cases_eq, cases_lt, eq-eqb, le-leb, ne_eqb, ltb-true, ltb-false}
+use Rattle.std.proofs.lemmas.List.{append-nil, append_assoc, drop_all, get_or-map, get_or-set_same, get_or-set_other, drop-append-le, drop_at, take-append-le, length-append, length-drop, length-map, length-take, map-set, take_all}
 use Rattle.pci_picture.specs.Lines.{hex_value, is_feed, is_register, is_slot, slot_number_of}
-use Rattle.pci_picture.specs.Named.{is_title_line, low_digits, name_of_class, name_of_numbers, title_from_line, titled, with_title, with_titles, words_of_buses}
+use Rattle.pci_picture.specs.Named.{IsNamedIn, is_title_line, low_digits, name_of_function, name_of_class, name_of_numbers, title_from_line, titled, with_title, with_titles, words_of_buses}
 use Rattle.pci_picture.specs.Headings.{number_of_section}
 use Rattle.pci_picture.specs.Roots.{AreLostByRoot, Listed, bus_above, bus_of_bridge, first_bus, go_up, is_bridge_to, listed_function, listed_functions, root_bus_of, section_by_root}
 use Rattle.pci_picture.specs.Slots.{bus_of_line, is_io_line}
@@ -239,6 +239,51 @@ buses_put old one two three four buses found first last is some apart is_first i
     ∙ ap (λ n. old ++ (codes "buses " ++ low_digits 2 n ++ codes "-" ++ high)) is_first
     ∙ ap (λ n. old ++ (codes "buses " ++ low_digits 2 found.secondary ++ codes "-" ++ low_digits 2 n)) is_last
     ∙ ap (λ l. old ++ l) (sym (ap words_of_buses is ∙ rw (ne_eqb found.subordinate 0 some, ne_eqb found.secondary found.subordinate apart) refl))
+
+-- ---- where names stand
+
+named_before : (names more : List ℕ) (function : Function) → IsNamedIn names function → IsNamedIn (names ++ more) function
+named_before names more function named =
+    let begin : ℕ = function.name.begin in
+    let end : ℕ = function.name.end in
+    record {
+      rises = named.rises;
+      inside = omega (arith, named.inside, length-append names more);
+      is =
+          ap (take (end - begin)) (drop-append-le begin names more (omega (arith, named.rises, named.inside)))
+          ∙ take-append-le (end - begin) (drop begin names) more (omega (arith, named.rises, named.inside, length-drop begin names))
+          ∙ named.is;
+    }
+
+pub named_last : (names name : List ℕ) (function : Function) → function.name.begin ≡ length names → function.name.end ≡ length (names ++ name)
+    → name ≡ name_of_function (listed_function function) → IsNamedIn (names ++ name) function
+named_last names name function begins ends is =
+    let long : length (names ++ name) ≡ length names + length name = length-append names name in
+    let count : ℕ = function.name.end - function.name.begin in
+    record {
+      rises = omega (arith, begins, ends, long);
+      inside = omega (arith, ends);
+      is =
+          ap (take count) (drop_at names name function.name.begin (sym begins))
+          ∙ take_all count name (omega (arith, begins, ends, long))
+          ∙ is;
+    }
+
+-- the names of the first functions stand there
+abbrev pub AreFirstNamed : List ℕ → List Function → ℕ → Type 0
+AreFirstNamed names functions i = (k : ℕ) (d : Function) → k < i → IsNamedIn names (get_or functions k d)
+
+pub named_more : (functions : List Function) (function : Function) (names after name : List ℕ) (i : ℕ) → i < length functions → after ≡ names ++ name
+    → IsNamedIn (names ++ name) function → AreFirstNamed names functions i → AreFirstNamed after (set functions i function) (i + 1)
+named_more functions function names after name i inside is last before k d less = elim (cases_eq k i) [
+  | inl same ↦
+      subst (λ n. IsNamedIn n (get_or (set functions i function) k d)) (sym is)
+      (subst (IsNamedIn (names ++ name)) (sym (ap (λ n. get_or (set functions i function) n d) same ∙ get_or-set_same functions i function d inside)) last)
+  | inr apart ↦
+      subst (λ n. IsNamedIn n (get_or (set functions i function) k d)) (sym is)
+      (subst (IsNamedIn (names ++ name)) (sym (get_or-set_other functions i k function d apart))
+      (named_before names name (get_or functions k d) (before k d (omega (arith, less, apart)))))
+]
 
 -- ---- a slice of functions that is written back
 

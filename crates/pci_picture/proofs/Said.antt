@@ -26,6 +26,15 @@ some_more old new bytes is = (bytes, is ∙ ap (λ l. old ++ l) (sym (append-nil
 pub none_more : (old : List ℕ) → AddsMore [] old old
 none_more old = ([], sym (append-nil old))
 
+-- words that begin with a slot and a blank
+pub words_behind : (slot one two three name : List ℕ) → one ≡ slot ++ 32 ∷ [] → AddsMore [] one two → three ≡ two ++ name
+    → (more : List ℕ) × (three ≡ slot ++ 32 ∷ more)
+words_behind slot one two three name begins adds ends = (
+  (adds.0 ++ []) ++ name,
+  ends ∙ ap (λ l. l ++ name) (adds.1 ∙ ap (λ l. l ++ (adds.0 ++ [])) begins)
+      ∙ append_assoc (slot ++ 32 ∷ []) (adds.0 ++ []) name ∙ append_assoc slot (32 ∷ []) ((adds.0 ++ []) ++ name),
+)
+
 pub more_behind : (ending a b c : List ℕ) → AddsMore [] a b → AddsMore ending b c → AddsMore ending a c
 more_behind ending a b c first second = (
   first.0 ++ second.0,

@@ -1,12 +1,13 @@
 -- What functions are called.
-use Rattle.std.specs.Prelude.{◌≡◌, ℕ, zero, suc, Bool, true, false, ◌==◌, ◌&&◌, ◌/◌, ◌%◌, Option, Some, None, unwrap_or, List, [], ◌∷◌, ◌++◌, take, drop, length, fold, slice_index, nat_le, codes, if◌then◌else◌}
+use Rattle.std.specs.Prelude.{◌≡◌, ◌≤◌, ℕ, zero, suc, Bool, true, false, ◌==◌, ◌&&◌, ◌/◌, ◌%◌, Option, Some, None, unwrap_or, List, [], ◌∷◌, ◌++◌, take, drop, length, fold, slice_index, nat_le, codes, if◌then◌else◌}
 use Rattle.std.specs.Fmt.{digit_glyph}
-use Rattle.std.specs.List.{find, slice_split}
+use Rattle.std.specs.List.{All, find, slice_range, slice_split}
 use Rattle.std.specs.Option.{option_map}
 use Rattle.pci_picture.specs.Lines.{hex_value, is_feed, is_nonempty_word, is_register, is_slot, slot_number_of}
 use Rattle.pci_picture.specs.Listings.{AreFunctionsListed}
-use Rattle.pci_picture.specs.Roots.{Listed}
+use Rattle.pci_picture.specs.Roots.{Listed, listed_function}
 use Rattle.pci_picture.specs.declared.function.Buses.{Buses}
+use Rattle.pci_picture.specs.declared.function.Function.{Function}
 
 -- ---- hex digits
 
@@ -102,6 +103,15 @@ name_of_function function =
     if is_nonempty_word function.title
     then function.title
     else class_name function.class ++ codes " " ++ function.vendor ++ codes ":" ++ function.device
+
+-- the name of a function stands among some names where the function tells
+pub record IsNamedIn (names : List ℕ) (function : Function) : Type 0 where
+  pub rises : function.name.begin ≤ function.name.end
+  pub inside : function.name.end ≤ length names
+  pub is : slice_range names function.name.begin function.name.end ≡ name_of_function (listed_function function)
+
+abbrev pub AreNamedIn : List ℕ → List Function → Type 0
+AreNamedIn names functions = All (IsNamedIn names) functions
 
 -- the first function with a slot number
 abbrev pub function_at : List Listed → ℕ → Option Listed

@@ -1,13 +1,13 @@
 //! A board, read from the texts of three commands.
 ghost use Rattle.std.specs.Prelude.{◌≡◌, ◌≤◌, [], ◌∷◌, ◌++◌, Some, None, drop, length, unwrap_or, slice_index_or, IfOk, OnOk};
-ghost use Rattle.std.specs.List.{slice_split};
+ghost use Rattle.std.specs.List.{Contains, slice_split};
 ghost use Rattle.pci_picture.specs.Boxes.{titled_line};
 ghost use Rattle.pci_picture.specs.Depths.{AreChained};
 ghost use Rattle.pci_picture.specs.Lines.{is_feed};
-ghost use Rattle.pci_picture.specs.Named.{AreFunctionsTitled};
+ghost use Rattle.pci_picture.specs.Named.{AreFunctionsTitled, AreNamedIn, name_of_function};
 ghost use Rattle.pci_picture.specs.Maps.{IsReadOf};
 ghost use Rattle.pci_picture.specs.Marks.{AreFaultsOf};
-ghost use Rattle.pci_picture.specs.Roots.{AreBusesAbove, AreRoots, go_up, listed_functions};
+ghost use Rattle.pci_picture.specs.Roots.{AreBusesAbove, AreRoots, go_up, listed_function, listed_functions};
 ghost use Rattle.pci_picture.specs.Said.{AddsMore, AreSaidOf, IsTitleOf, faults_said, lines_of_fault, said_by, said_lines};
 ghost use Rattle.pci_picture.specs.FaultLines.{faults_read};
 ghost use Rattle.pci_picture.specs.Starts.{AreOnBus, AreStarts, RiseBySlot};
@@ -47,6 +47,8 @@ pub struct Board<'a, A: Allocator> {
     pub faults: Faults<'a, A>,
     ghost sorted: { RiseBySlot functions.items },
     ghost begins: { AreStarts functions.items starts },
+    // each function has its name among them
+    ghost named: { AreNamedIn names.bytes.items functions.items },
 }
 
 /// For each bus how many functions stand on lower buses. The last number counts all functions.
@@ -69,7 +71,8 @@ fn names_of<A: Allocator + Copy>(
     alloc: A,
     functions: &mut [Function<'_>],
 ) -> Result<Words<A>, OutOfMemory>
-    ensures { listed_functions functions.new ≡ listed_functions functions.old }
+    ensures same { listed_functions functions.new ≡ listed_functions functions.old }
+    ensures named { IfOk result (λ names. AreNamedIn names.bytes.items functions.new) }
 {
     let mut names = Words::new(alloc);
     for index in 0..functions.len() {
@@ -167,7 +170,9 @@ impl<'a, A: Allocator + Copy> Board<'a, A> {
     }
 
     /// The name of a function: its title, else what its class is and its two identifiers.
-    pub fn name(&self, function: &Function<'_>) -> &[u8] {
+    pub fn name(&self, function: &Function<'_>) -> &[u8]
+        ensures { Contains self.now.functions.items function.now → result.now ≡ name_of_function (listed_function function.now) }
+    {
         let names = self.names.bytes.as_slice();
         let name = function.name;
         names.get(name.begin..name.end).unwrap_or(&[])

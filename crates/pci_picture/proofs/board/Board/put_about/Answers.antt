@@ -13,7 +13,8 @@ loop-naming-init g c =
     elim c.if-eq.branch [
       | then-eq+in_ok-put+in_ok-put_buses w ↦
           subst (AddsMore [] old) (sym (ap (λ s. s.bytes.items) w.words-is))
-          (more_behind [] old w.put.new.self.bytes.items w.put_buses.new.self.bytes.items (some_more old w.put.new.self.bytes.items _ w.in_ok-put.ensures) w.in_ok-put_buses.ensures)
+          (more_behind [] old w.put.new.self.bytes.items w.put_buses.new.self.bytes.items (some_more old w.put.new.self.bytes.items _ w.in_ok-put.ensures)
+          (some_more w.put.new.self.bytes.items w.put_buses.new.self.bytes.items _ w.in_ok-put_buses.ensures))
       | else-eq w ↦ subst (AddsMore [] old) (sym (ap (λ s. s.bytes.items) w.words-is)) (none_more old)
     ]
 
