@@ -10,7 +10,6 @@ use Rattle.pci_picture.specs.Spots.{BoxSpot, spot_at}
 use Rattle.pci_picture.specs.Whole.{picture_text}
 use Rattle.pci_picture.specs.Canvases.{HasDrawn, AddsToCanvas, AddsSome}
 use Rattle.pci_picture.specs.Drawings.{IsBoxOf}
-use Rattle.pci_picture.specs.Said.{IsTitleOf}
 use Rattle.pci_picture.specs.declared.canvas.Canvas.{Canvas}
 
 -- boxes behind boxes
@@ -215,7 +214,7 @@ pub bare_title : (box : Titled) → titled_line box.title ≡ [] → titled_spot
 bare_title box none = ap (map (spot_at box.x box.y box.width box.height box.class box.title)) none
 
 pub one_box : {A : Type 0} (box : Titled) (class said line : List ℕ) (before after : Canvas A) → titled_line box.title ≡ line ∷ [] → box.class ≡ class
-    → IsTitleOf said line box.title → AddsToCanvas (titled_spot box) before after
+    → box.title ≡ line ++ said → AddsToCanvas (titled_spot box) before after
     → AddsSome (IsBoxOf class said line box.x box.y box.width box.height) before after
 one_box box class said line before after own look says adds = record {
   spots = titled_spot box;

@@ -17,6 +17,7 @@ pub mod Taken
 pub mod Headings
 pub mod Depths
 pub mod Filtered
+pub mod Found
 pub mod Members
 pub mod MemberOrder
 pub mod Chained

@@ -1,14 +1,17 @@
 -- The looks of boxes while their regions are placed, and by the faults of a text.
-use Rattle.std.proofs.Common.{◌≡◌, ◌<◌, ◌+◌, ℕ, Bool, true, false, ◌||◌, List, [], ◌∷◌, ◌++◌, take, drop, length, get_or, sym, ap, ap₂, subst, ◌∙◌}
+use Rattle.std.proofs.Common.{◌≡◌, ◌<◌, ◌+◌, ℕ, Bool, true, false, ◌||◌, if◌then◌else◌, List, [], ◌∷◌, ◌++◌, take, drop, length, get_or, sym, ap, ap₂, ◌∙◌}
 use Rattle.std.specs.List.{All}
 use Rattle.std.proofs.lemmas.List.{append_assoc, map-append, map_more}
 use Rattle.std.proofs.lemmas.List.Elements.{All-weaker}
 use Rattle.pci_picture.specs.Lines.{words_in_line}
-use Rattle.pci_picture.specs.Looks.{IsTitled, Look, look_read, look_told, looks_of, looks_placed, looks_up_to}
+use Rattle.pci_picture.specs.BoardLooks.{look_read}
+use Rattle.pci_picture.specs.Looks.{IsTitled, Look, look_told, looks_of, looks_placed, looks_up_to}
 use Rattle.pci_picture.specs.Marks.{AreFaultsOf, key_of_region, look_of_part, look_with}
-use Rattle.pci_picture.specs.Said.{AreSaidOf, IsTitleOf}
+use Rattle.pci_picture.specs.Roots.{listed_functions}
+use Rattle.pci_picture.specs.Said.{AreSaidOf}
 use Rattle.pci_picture.specs.Spots.{BoxSpot}
-use Rattle.pci_picture.specs.declared.faults.Faults.{Faults}
+use Rattle.pci_picture.specs.Titles.{is_free, said_of_function}
+use Rattle.pci_picture.specs.declared.board.Board.{Board}
 use Rattle.pci_picture.specs.declared.plan.Placed.{Placed}
 use Rattle.pci_picture.specs.declared.region.Region.{Region}
 
@@ -40,13 +43,16 @@ pub record SameLooks (one other : Look) : Type 0 where
 
 pub titled_same : (one other : Look) → SameLooks one other → (spots : List BoxSpot) → All (IsTitled one) spots → All (IsTitled other) spots
 titled_same one other same spots titled =
-    All-weaker (IsTitled one) (IsTitled other) (λ spot says. subst (λ said. IsTitleOf said spot.line spot.title) (same.said spot.line) says) spots titled
+    All-weaker (IsTitled one) (IsTitled other) (λ spot says. says ∙ ap (λ said. spot.line ++ said) (same.said spot.line)) spots titled
 
 -- the faults that were read are those of the text
-pub looks_told : {A : Type 0} (faults : Faults A) (text : List ℕ) → AreFaultsOf text faults → AreSaidOf text faults → SameLooks (look_read faults) (look_told text)
-looks_told faults text are say = record {
+pub looks_told : {A : Type 0} (board : Board A) (text : List ℕ) → AreFaultsOf text board.faults → AreSaidOf text board.faults
+    → SameLooks (look_read board) (look_told (listed_functions board.functions.items) text)
+looks_told board text are say = record {
   class = λ is_lost line.
       let words = words_in_line line in
       ap₂ (λ clashes lost. look_with clashes (is_lost || lost) (look_of_part words)) (are 61 62 (key_of_region words)) (are 60 63 (key_of_region words));
-  said = λ line. say (key_of_region (words_in_line line));
+  said = λ line.
+      let words = words_in_line line in
+      ap (λ said. if is_free words then [] else 10 ∷ (said_of_function (listed_functions board.functions.items) words ++ said)) (say (key_of_region words));
 }

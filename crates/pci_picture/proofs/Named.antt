@@ -1,7 +1,7 @@
 -- What functions are called, while their titles and names are written.
-use Rattle.std.proofs.Common.{◌≡◌, ◌≤◌, ◌<◌, ◌+◌, ◌-◌, ◌==◌, ℕ, zero, suc, Bool, true, false, cond, Option, Some, None, unwrap_or, List, [], ◌∷◌, ◌++◌, fold, length, ltb, get_or, map, set, take, drop, refl, sym, ap, subst, ◌∙◌, arith, ◌⊎◌, inl, inr, if◌then◌else◌}
+use Rattle.std.proofs.Common.{◌≡◌, ◌≤◌, ◌<◌, ◌+◌, ◌-◌, ◌==◌, ℕ, zero, suc, Bool, true, false, cond, Option, Some, None, List, [], ◌∷◌, ◌++◌, fold, length, ltb, get_or, map, set, take, drop, refl, sym, ap, ◌∙◌, arith, ◌⊎◌, inl, inr, if◌then◌else◌}
 use Rattle.std.specs.Prelude.{codes}
-use Rattle.std.specs.List.{All, before_first, after_first, filter, slice_split}
+use Rattle.std.specs.List.{before_first, after_first, slice_split}
 use Rattle.std.specs.List.Sorted.{IsNonDecreasingBy, IsPartitionPoint}
 use Rattle.std.proofs.lemmas.Bool.{and_right, cases_eq, cases_lt, eq-eqb, le-leb, ne_eqb, ltb-true, ltb-false}
 use Rattle.std.proofs.lemmas.List.{append-nil, append_assoc, drop_all, get_or-map, get_or-set_same, get_or-set_other, drop-append-le, drop_at, take-append-le, length-append, length-drop, length-map, length-take, map-set, take_all}
@@ -113,8 +113,8 @@ title_given functions after function line i slot d new is_line slot_is inside pa
     ∙ ap (set (listed_functions functions) i) is
     ∙ title_set functions i slot (drop 8 line) d inside
     (λ k less same.
-        let below : (get_or functions k d).number < slot = ltb-true (get_or functions k d).number slot (parted.0 k d (omega arith) less) in
-        absurd (omega (arith, same, below))) at
+    let below : (get_or functions k d).number < slot = ltb-true (get_or functions k d).number slot (parted.0 k d (omega arith) less) in
+    absurd (omega (arith, same, below))) at
     ∙ ap (λ n. with_title n (drop 8 line) (listed_functions functions)) slot_is
     ∙ rw is_line refl
 
@@ -141,66 +141,6 @@ title_missed functions line i slot is_line slot_is parted rise apart =
 pub is_titled : (line : List ℕ) → 9 ≤ length line → get_or line 7 0 ≡ 32 → is_slot (take 7 line) ≡ true → is_title_line line ≡ true
 unfolding is_title_line
 is_titled line long blank is = rw (le-leb 9 (length line) long, eq-eqb (get_or line 7 0) 32 blank, is) refl
-
--- ---- titles leave the buses
-
-bridge_titled : (slot : ℕ) (title : List ℕ) (functions : List Listed) (bus : ℕ)
-    → bus_of_bridge (with_title slot title functions) bus ≡ bus_of_bridge functions bus
-bridge_titled slot title [] bus = refl
-bridge_titled slot title (function ∷ functions) bus =
-    elim (function.slot == slot) as (λ b. bus_of_bridge (if b then titled function title ∷ functions else function ∷ with_title slot title functions) bus
-    ≡ bus_of_bridge (function ∷ functions) bus) [
-      | true ↦
-          elim (is_bridge_to bus function) as (λ b. first_bus (cond b (titled function title ∷ filter (is_bridge_to bus) functions) (filter (is_bridge_to bus) functions))
-          ≡ first_bus (cond b (function ∷ filter (is_bridge_to bus) functions) (filter (is_bridge_to bus) functions))) [
-            | true ↦ refl
-            | false ↦ refl
-          ]
-      | false ↦
-          elim (is_bridge_to bus function) as (λ b.
-          first_bus (cond b (function ∷ filter (is_bridge_to bus) (with_title slot title functions)) (filter (is_bridge_to bus) (with_title slot title functions)))
-          ≡ first_bus (cond b (function ∷ filter (is_bridge_to bus) functions) (filter (is_bridge_to bus) functions))) [
-            | true ↦ refl
-            | false ↦ bridge_titled slot title functions bus
-          ]
-    ]
-
-bridge_of_line : (functions : List Listed) (line : List ℕ) (bus : ℕ) → bus_of_bridge (title_from_line functions line) bus ≡ bus_of_bridge functions bus
-bridge_of_line functions line bus =
-    elim (is_title_line line) as (λ b. bus_of_bridge (if b then with_title (slot_number_of (take 7 line)) (drop 8 line) functions else functions) bus
-    ≡ bus_of_bridge functions bus) [
-      | true ↦ bridge_titled (slot_number_of (take 7 line)) (drop 8 line) functions bus
-      | false ↦ refl
-    ]
-
-bridge_of_lines : (lines : List (List ℕ)) (functions : List Listed) (bus : ℕ) → bus_of_bridge (fold title_from_line functions lines) bus ≡ bus_of_bridge functions bus
-bridge_of_lines [] functions bus = refl
-bridge_of_lines (line ∷ lines) functions bus = bridge_of_lines lines (title_from_line functions line) bus ∙ bridge_of_line functions line bus
-
-same_above : (titles : List ℕ) (functions : List Listed) (bus : ℕ) → bus_above (with_titles titles functions) bus ≡ bus_above functions bus
-same_above titles functions bus = ap (λ o. if bus == 0 then None else o) (bridge_of_lines (slice_split is_feed titles) functions bus)
-
-same_up : (above other : ℕ → Option ℕ) → ((bus : ℕ) → above bus ≡ other bus) → (n bus : ℕ) → go_up above n bus ≡ go_up other n bus
-unfolding go_up
-same_up above other same zero bus = refl
-same_up above other same (suc n) bus =
-    ap (λ o. go_up above n (unwrap_or o bus)) (same bus) ∙ same_up above other same n (unwrap_or (other bus) bus)
-
-same_root : (titles : List ℕ) (functions : List Listed) (bus : ℕ) → root_bus_of (with_titles titles functions) bus ≡ root_bus_of functions bus
-unfolding root_bus_of
-same_root titles functions bus = same_up (bus_above (with_titles titles functions)) (bus_above functions) (same_above titles functions) 256 bus
-
-lost_same : (titles : List ℕ) (functions : List Listed) (number : ℕ) (lost : List (List ℕ))
-    → All (λ line. number ≡ section_by_root (with_titles titles functions) line) lost → All (λ line. number ≡ section_by_root functions line) lost
-lost_same titles functions number lost all k d inside =
-    let line = get_or lost k d in
-    all k d inside ∙ ap (λ bus. number_of_section bus (is_io_line line)) (same_root titles functions (bus_of_line line))
-
-pub by_root_untitled : (titles : List ℕ) (functions : List Listed) (sections : List Section)
-    → All (AreLostByRoot (with_titles titles functions)) sections → All (AreLostByRoot functions) sections
-by_root_untitled titles functions sections all k d inside =
-    let section = get_or sections k d in
-    lost_same titles functions section.number section.lost (all k d inside)
 
 -- ---- classes
 

@@ -1,42 +1,24 @@
 -- What is said of a picture, of where its regions out of place are.
-use Rattle.std.proofs.Common.{◌≡◌, ℕ, Bool, List, [], ◌++◌, Result, Ok, Err, IfOk, ap, subst, ◌∙◌}
-use Rattle.std.specs.List.{All}
+use Rattle.std.proofs.Common.{◌≡◌, ℕ, Bool, List, [], ◌++◌, Result, Ok, Err, IfOk, ap, ◌∙◌}
 use Rattle.std.specs.String.{string_bytes}
 use Rattle.std.proofs.lemmas.List.{append_assoc}
-use Rattle.pci_picture.specs.Boxes.{IsDrawnByRoots, IsPictureOf}
+use Rattle.pci_picture.specs.Boxes.{IsPictureOf}
 use Rattle.pci_picture.specs.ByRoots.{IsDrawnByRootsOfShow}
 use Rattle.pci_picture.specs.Canvases.{AddsToCanvas, WritesBytes}
 use Rattle.pci_picture.specs.FaultLines.{HasFaultList, fault_list_text, faults_read}
-use Rattle.pci_picture.specs.Named.{AreFunctionsTitled, with_titles}
-use Rattle.pci_picture.specs.Roots.{AreLostByRoot, Listed}
+use Rattle.pci_picture.specs.Named.{AreFunctionsTitled}
+use Rattle.pci_picture.specs.Roots.{Listed}
 use Rattle.pci_picture.specs.Said.{faults_said}
 use Rattle.pci_picture.specs.Spots.{BoxSpot}
 use Rattle.pci_picture.specs.Whole.{picture_text}
 use Rattle.pci_picture.specs.declared.canvas.Canvas.{Canvas}
 use Rattle.pci_picture.specs.declared.faults.Faults.{Faults}
-use Rattle.pci_picture.proofs.Named.{by_root_untitled}
-
-pub drawn_of : {T E : Type 0} (functions : List Listed) (map faults : List ℕ) (result : Result T E) (bytes : T → List ℕ)
-    → IfOk result (λ text. IsDrawnByRoots functions map faults (bytes text)) → IfOk result (λ text. IsPictureOf map faults (bytes text))
-drawn_of functions map faults (Err e) bytes is = tt
-drawn_of functions map faults (Ok text) bytes is = is.picture
-
-untitled : (titles : List ℕ) (functions listed : List Listed) (map faults text : List ℕ) → functions ≡ with_titles titles listed
-    → IsDrawnByRoots functions map faults text → IsDrawnByRoots listed map faults text
-untitled titles functions listed map faults text is drawn = record {
-  picture = drawn.picture;
-  by_root = by_root_untitled titles listed drawn.picture.sections (subst (λ l. All (AreLostByRoot l) drawn.picture.sections) is drawn.by_root);
-}
 
 pub drawn_by_roots : {T E : Type 0} (functions : List Listed) (show titles map faults : List ℕ) (result : Result T E) (bytes : T → List ℕ)
-    → AreFunctionsTitled show titles functions → IfOk result (λ text. IsDrawnByRoots functions map faults (bytes text))
-    → IfOk result (λ text. IsDrawnByRootsOfShow show map faults (bytes text))
-drawn_by_roots functions show titles map faults (Err e) bytes are is = tt
-drawn_by_roots functions show titles map faults (Ok text) bytes are is = record {
-  functions = are.listed;
-  listed = are.are_listed;
-  drawn = untitled titles functions are.listed map faults (bytes text) are.titled is;
-}
+    → AreFunctionsTitled show titles functions → IfOk result (λ text. IsPictureOf functions map faults (bytes text))
+    → IfOk result (λ text. IsDrawnByRootsOfShow show titles map faults (bytes text))
+drawn_by_roots functions show titles map faults (Err e) bytes titled is = tt
+drawn_by_roots functions show titles map faults (Ok text) bytes titled is = record { functions = functions; titled = titled; drawn = is }
 
 -- the list of faults stands among the words, as all else is written behind it
 pub has_fault_list : {A B T E : Type 0} (faults : List ℕ) (read : Faults A) (before listed tree sections after : Canvas B) (drawn off : List BoxSpot)

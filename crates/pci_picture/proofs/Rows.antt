@@ -1,5 +1,5 @@
 -- The row of a function in the tree.
-use Rattle.std.proofs.Common.{◌≡◌, ◌≤◌, ◌+◌, ◌-◌, ◌*◌, ◌^◌, ℕ, List, [], ◌++◌, length, ap, ◌∙◌, arith}
+use Rattle.std.proofs.Common.{◌≡◌, ◌≤◌, ◌+◌, ◌-◌, ◌*◌, ◌^◌, ℕ, List, [], ◌∷◌, ◌++◌, length, sym, ap, ◌∙◌, arith}
 use Rattle.std.specs.Prelude.{codes, min}
 use Rattle.std.proofs.lemmas.List.{append-nil, append_assoc}
 use Rattle.pci_picture.specs.Labels.{cut_words, label_text}
@@ -20,3 +20,24 @@ row_written row before between cut after room right kept words beside room_is ri
     ∙ ap (λ l. l ++ label_text (400 - length row.beside * 7) row.base (codes "alarm bold") row.beside)
     (words ∙ ap (λ n. between ++ label_text row.left row.base row.class (cut_words n row.words)) room_is ∙ ap (λ l. l ++ first) (kept ∙ append-nil before))
     ∙ append_assoc before first (label_text (400 - length row.beside * 7) row.base (codes "alarm bold") row.beside)
+
+-- ---- the words of a row
+
+pub none_more : (one two : List ℕ) → two ≡ one → (more : List ℕ) × (two ≡ one ++ more)
+none_more one two is = ([], is ∙ sym (append-nil one))
+
+pub three_more : (one to buses comma two a b c : List ℕ) → to ≡ one ++ a → buses ≡ to ++ b → comma ≡ buses ++ c → two ≡ comma
+    → (more : List ℕ) × (two ≡ one ++ more)
+three_more one to buses comma two a b c first second third is = (
+  a ++ (b ++ c),
+  is ∙ third ∙ ap (λ l. l ++ c) (second ∙ ap (λ l. l ++ b) first) ∙ append_assoc (one ++ a) b c ∙ append_assoc one a (b ++ c),
+)
+
+-- words that begin with a slot and a blank
+pub words_behind : (slot one two three name : List ℕ) → one ≡ slot ++ 32 ∷ [] → (more : List ℕ) × (two ≡ one ++ more) → three ≡ two ++ name
+    → (more : List ℕ) × (three ≡ slot ++ 32 ∷ more)
+words_behind slot one two three name begins (more, adds) ends = (
+  more ++ name,
+  ends ∙ ap (λ l. l ++ name) (adds ∙ ap (λ l. l ++ more) begins)
+      ∙ append_assoc (slot ++ 32 ∷ []) more name ∙ append_assoc slot (32 ∷ []) (more ++ name),
+)

@@ -1,5 +1,5 @@
 -- What titles say of faults.
-use Rattle.std.proofs.Common.{◌≡◌, ◌≤◌, ◌<◌, ◌+◌, ◌-◌, ◌&&◌, if◌then◌else◌, ℕ, Bool, true, false, ltb, subst, Some, None, List, [], ◌∷◌, ◌++◌, map, length, take, drop, get_or, refl, sym, ap, ◌∙◌, arith}
+use Rattle.std.proofs.Common.{◌≡◌, ◌≤◌, ◌<◌, ◌+◌, ◌-◌, ◌&&◌, if◌then◌else◌, ℕ, Bool, true, false, ltb, subst, Option, Some, None, List, [], ◌∷◌, ◌++◌, map, length, take, drop, get_or, refl, sym, ap, ap₂, ◌∙◌, arith}
 use Rattle.std.specs.List.{flat_map, slice_get, slice_range}
 use Rattle.std.specs.Prelude.{codes}
 use Rattle.std.specs.Cmp.Lexicographic.{same_text}
@@ -8,45 +8,19 @@ use Rattle.std.proofs.lemmas.Option.{slice_get_past, slice_get_read}
 use Rattle.std.proofs.lemmas.Grind.{flat_map-append}
 use Rattle.std.proofs.lemmas.List.{append-nil, append_assoc, drop-map, get_or-drop, length-drop, length-map, length-take-le, take-map, take_more}
 use denote.Enum.Bare.{sameb}
-use Rattle.pci_picture.specs.Lines.{nth_word, says, words_in_line}
-use Rattle.pci_picture.specs.Marks.{look_of_part, word_of_part}
-use Rattle.pci_picture.specs.Said.{AddsMore, IsTitleOf, lines_of_fault, said_lines}
+use Rattle.pci_picture.specs.Lines.{nth_word, says}
+use Rattle.pci_picture.specs.Marks.{key_of_region, look_of_part, word_of_part}
+use Rattle.pci_picture.specs.Named.{words_of_buses}
+use Rattle.pci_picture.specs.Roots.{Listed}
+use Rattle.pci_picture.specs.Said.{lines_of_fault, said_lines}
+use Rattle.pci_picture.specs.Titles.{buses_if_listed, function_of_region, is_free, is_window, name_if_listed, said_below, said_of_function, said_of_window}
 use Rattle.pci_picture.specs.contracts.region.Part.{the_type}
 use Rattle.pci_picture.specs.declared.faults.Fault.{Fault}
 use Rattle.pci_picture.specs.declared.faults.Faults.{Faults}
 use Rattle.pci_picture.specs.declared.faults.Naming.{Naming}
+use Rattle.pci_picture.specs.declared.function.Buses.{Buses}
 use Rattle.pci_picture.specs.declared.region.Part.TheVariants.{Bar, Prefetchable, Rom, Window, Told, Held, Free}
 use Rattle.pci_picture.specs.declared.region.Part.{Part}
-
--- ---- bytes that are added
-
-pub some_more : (old new bytes : List ℕ) → new ≡ old ++ bytes → AddsMore [] old new
-some_more old new bytes is = (bytes, is ∙ ap (λ l. old ++ l) (sym (append-nil bytes)))
-
-pub none_more : (old : List ℕ) → AddsMore [] old old
-none_more old = ([], sym (append-nil old))
-
--- words that begin with a slot and a blank
-pub words_behind : (slot one two three name : List ℕ) → one ≡ slot ++ 32 ∷ [] → AddsMore [] one two → three ≡ two ++ name
-    → (more : List ℕ) × (three ≡ slot ++ 32 ∷ more)
-words_behind slot one two three name begins adds ends = (
-  (adds.0 ++ []) ++ name,
-  ends ∙ ap (λ l. l ++ name) (adds.1 ∙ ap (λ l. l ++ (adds.0 ++ [])) begins)
-      ∙ append_assoc (slot ++ 32 ∷ []) (adds.0 ++ []) name ∙ append_assoc slot (32 ∷ []) ((adds.0 ++ []) ++ name),
-)
-
-pub more_behind : (ending a b c : List ℕ) → AddsMore [] a b → AddsMore ending b c → AddsMore ending a c
-more_behind ending a b c first second = (
-  first.0 ++ second.0,
-  second.1 ∙ ap (λ l. l ++ (second.0 ++ ending)) (first.1 ∙ ap (λ l. a ++ l) (append-nil first.0))
-      ∙ append_assoc a first.0 (second.0 ++ ending) ∙ ap (λ l. a ++ l) (sym (append_assoc first.0 second.0 ending)),
-)
-
-pub longer_ending : (one next a b c : List ℕ) → AddsMore one a b → c ≡ b ++ next → AddsMore (one ++ next) a c
-longer_ending one next a b c adds is = (
-  adds.0,
-  is ∙ ap (λ l. l ++ next) adds.1 ∙ append_assoc a (adds.0 ++ one) next ∙ ap (λ l. a ++ l) (append_assoc adds.0 one next),
-)
 
 -- ---- the lines of a fault
 
@@ -143,50 +117,34 @@ pub fault_missing : (all items : List Fault) (i : ℕ) → all ≡ items → fal
 fault_missing all items i same past = slice_get_past items i (subst (λ l. length l ≤ i) same (ltb-false i (length all) (sym past)))
 
 pub said_more : {A : Type 0} (faults : Faults A) (namings : List Naming) (index : ℕ) (naming d : Naming) (fault : Fault) (old before between after : List ℕ)
-    → index < length namings → naming ≡ get_or namings index d → AddsMore (flat_map (said_of_naming faults) (take index namings)) old before
+    → index < length namings → naming ≡ get_or namings index d → before ≡ old ++ flat_map (said_of_naming faults) (take index namings)
     → (slice_get faults.faults.items naming.fault ≡ Some fault) × ((fault.begin < fault.end) × (fault.end ≤ length faults.lines.items))
     → between ≡ before ++ 10 ∷ []
     → (fault.end ≤ length faults.lines.items → after ≡ between ++ drop 1 (said_lines (lines_of_fault faults (Some fault))))
-    → AddsMore (flat_map (said_of_naming faults) (take (index + 1) namings)) old after
-said_more faults namings index naming d fault old before between after inside at adds found feed put =
-    subst (λ e. AddsMore e old after) (naming_more (said_of_naming faults) namings index naming d inside at)
-    (longer_ending (flat_map (said_of_naming faults) (take index namings)) (said_of_naming faults naming) old before after adds
-    (fault_said (λ line. line.now) faults.lines.items fault.begin fault.end before between after (found.1.0) (found.1.1) feed put
-    ∙ ap (λ o. before ++ said_lines (lines_of_fault faults o)) (sym (found.0))))
+    → after ≡ old ++ flat_map (said_of_naming faults) (take (index + 1) namings)
+said_more faults namings index naming d fault old before between after inside at said found feed put =
+    let some = flat_map (said_of_naming faults) (take index namings) in
+    fault_said (λ line. line.now) faults.lines.items fault.begin fault.end before between after (found.1.0) (found.1.1) feed put
+    ∙ ap (λ o. before ++ said_lines (lines_of_fault faults o)) (sym (found.0))
+    ∙ ap (λ l. l ++ said_of_naming faults naming) said ∙ append_assoc old some (said_of_naming faults naming)
+    ∙ ap (λ l. old ++ l) (naming_more (said_of_naming faults) namings index naming d inside at)
 
 pub said_none : {A : Type 0} (faults : Faults A) (namings : List Naming) (index : ℕ) (naming d : Naming) (old before : List ℕ)
-    → index < length namings → naming ≡ get_or namings index d → AddsMore (flat_map (said_of_naming faults) (take index namings)) old before
-    → slice_get faults.faults.items naming.fault ≡ None → AddsMore (flat_map (said_of_naming faults) (take (index + 1) namings)) old before
-said_none faults namings index naming d old before inside at adds none =
-    subst (λ e. AddsMore e old before) (naming_more (said_of_naming faults) namings index naming d inside at)
-    (longer_ending (flat_map (said_of_naming faults) (take index namings)) (said_of_naming faults naming) old before before adds
-    (sym (ap (λ o. before ++ said_lines (lines_of_fault faults o)) none ∙ append-nil before)))
+    → index < length namings → naming ≡ get_or namings index d → before ≡ old ++ flat_map (said_of_naming faults) (take index namings)
+    → slice_get faults.faults.items naming.fault ≡ None → before ≡ old ++ flat_map (said_of_naming faults) (take (index + 1) namings)
+said_none faults namings index naming d old before inside at said none =
+    let some = flat_map (said_of_naming faults) (take index namings) in
+    said
+    ∙ ap (λ l. old ++ l)
+    (sym (ap (λ o. some ++ said_lines (lines_of_fault faults o)) none ∙ append-nil some)
+    ∙ naming_more (said_of_naming faults) namings index naming d inside at)
 
--- ---- what is free
+-- ---- what is free, and what is a window
 
 true_false : true ≡ false → ⊥
 true_false is = cc
 
-abbrev is_free : Part → Bool
-is_free Bar = false
-is_free Prefetchable = false
-is_free Rom = false
-is_free Window = false
-is_free Told = false
-is_free Held = false
-is_free Free = true
-
-same_free : (part : Part) → sameb the_type part Free ≡ is_free part
-same_free Bar = refl
-same_free Prefetchable = refl
-same_free Rom = refl
-same_free Window = refl
-same_free Told = refl
-same_free Held = refl
-same_free Free = refl
-
--- a part is free where its word is `free`, and so its third word
-free_by_word : (part : Part) → is_free part ≡ says (word_of_part part) (codes "free")
+free_by_word : (part : Part) → sameb the_type part Free ≡ says (word_of_part part) (codes "free")
 free_by_word Bar = refl
 free_by_word Prefetchable = refl
 free_by_word Rom = refl
@@ -195,37 +153,62 @@ free_by_word Told = refl
 free_by_word Held = refl
 free_by_word Free = refl
 
-free_by_look : (words : List (List ℕ)) → says (look_of_part words) (codes "free") ≡ says (nth_word words 2) (codes "free")
+window_by_word : (part : Part) → sameb the_type part Window ≡ says (word_of_part part) (codes "window")
+window_by_word Bar = refl
+window_by_word Prefetchable = refl
+window_by_word Rom = refl
+window_by_word Window = refl
+window_by_word Told = refl
+window_by_word Held = refl
+window_by_word Free = refl
+
+-- a word that is neither `bar` nor `pref` is the third one where the look of a part has it
+word_by_look : (words : List (List ℕ)) (word : List ℕ) → says (codes "bar") word ≡ false → says (codes "pref") word ≡ false
+    → says (look_of_part words) word ≡ says (nth_word words 2) word
 unfolding look_of_part
-free_by_look words = go (says (nth_word words 2) (codes "bar")) (says (nth_word words 3) (codes "pref")) refl
+word_by_look words word no_bar no_pref = go (says (nth_word words 2) (codes "bar")) (says (nth_word words 3) (codes "pref")) refl
   where
     go : (bar pref : Bool) → bar ≡ says (nth_word words 2) (codes "bar")
-        → says (if bar && pref then codes "pref" else nth_word words 2) (codes "free") ≡ says (nth_word words 2) (codes "free")
-    go true true is = sym (ap (λ w. says w (codes "free")) (same_text (nth_word words 2) (codes "bar") is))
+        → says (if bar && pref then codes "pref" else nth_word words 2) word ≡ says (nth_word words 2) word
+    go true true is = no_pref ∙ sym (ap (λ w. says w word) (same_text (nth_word words 2) (codes "bar") is) ∙ no_bar)
     go true false is = refl
     go false pref is = refl
 
-part_free : (part : Part) (words : List (List ℕ)) → word_of_part part ≡ look_of_part words
-    → sameb the_type part Free ≡ says (nth_word words 2) (codes "free")
-part_free part words looks = same_free part ∙ free_by_word part ∙ ap (λ w. says w (codes "free")) looks ∙ free_by_look words
+-- a part is free or a window where the third word of its line is
+pub part_free : (part : Part) (words : List (List ℕ)) → word_of_part part ≡ look_of_part words → sameb the_type part Free ≡ is_free words
+part_free part words looks = free_by_word part ∙ ap (λ w. says w (codes "free")) looks ∙ word_by_look words (codes "free") refl refl
+
+pub part_window : (part : Part) (words : List (List ℕ)) → word_of_part part ≡ look_of_part words → sameb the_type part Window ≡ is_window words
+part_window part words looks = window_by_word part ∙ ap (λ w. says w (codes "window")) looks ∙ word_by_look words (codes "window") refl refl
 
 -- ---- titles
 
-pub free_title : (said line title : List ℕ) (part : Part) → word_of_part part ≡ look_of_part (words_in_line line) → sameb the_type part Free ≡ true → title ≡ line
-    → IsTitleOf said line title
-free_title said line title part looks same is = record {
-  free = λ yes. is;
-  ends = λ no. absurd (true_false (sym same ∙ part_free part (words_in_line line) looks ∙ no));
-}
+-- the lines of faults begin behind what is said of a window
+pub no_window : (words : List (List ℕ)) (old : List ℕ) (buses : Option Buses) → is_window words ≡ false → old ≡ (old ++ said_of_window words buses) ++ []
+no_window words old buses other =
+    sym (append-nil (old ++ said_of_window words buses) ∙ ap (λ b. old ++ (if b then 10 ∷ (codes "to " ++ words_of_buses buses) else [])) other ∙ append-nil old)
 
-pub other_title : (said name about line first feed named title : List ℕ) (part : Part) → word_of_part part ≡ look_of_part (words_in_line line) → sameb the_type part Free ≡ false
-    → AddsMore said [] about → first ≡ line → feed ≡ first ++ 10 ∷ [] → named ≡ feed ++ name → title ≡ named ++ about → IsTitleOf said line title
-other_title said name about line first feed named title part looks other adds begins is_feed is_named is = record {
-  free = λ free. absurd (true_false (sym free ∙ sym (part_free part (words_in_line line) looks) ∙ other));
-  ends = λ free. (
-    name ++ adds.0,
+pub window_put : (words : List (List ℕ)) (old between after : List ℕ) (buses : Option Buses) → is_window words ≡ true → between ≡ old ++ 10 ∷ codes "to "
+    → after ≡ between ++ words_of_buses buses → after ≡ (old ++ said_of_window words buses) ++ []
+window_put words old between after buses is to put =
+    put ∙ ap (λ l. l ++ words_of_buses buses) to ∙ append_assoc old (10 ∷ codes "to ") (words_of_buses buses)
+    ∙ sym (append-nil (old ++ said_of_window words buses) ∙ ap (λ b. old ++ (if b then 10 ∷ (codes "to " ++ words_of_buses buses) else [])) is)
+
+pub free_title : (functions : List Listed) (said : ℕ → List ℕ) (words : List (List ℕ)) (line title : List ℕ) → is_free words ≡ true → title ≡ line
+    → title ≡ line ++ said_below functions said words
+free_title functions said words line title free is =
+    is
+    ∙ sym (ap (λ b. line ++ (if b then [] else 10 ∷ (said_of_function functions words ++ said (key_of_region words)))) free ∙ append-nil line)
+
+pub other_title : (functions : List Listed) (said : ℕ → List ℕ) (words : List (List ℕ)) (line name about first feed named title : List ℕ) → is_free words ≡ false
+    → name ≡ name_if_listed (function_of_region functions words)
+    → about ≡ said_of_window words (buses_if_listed (function_of_region functions words)) ++ said (key_of_region words)
+    → first ≡ line → feed ≡ first ++ 10 ∷ [] → named ≡ feed ++ name → title ≡ named ++ about → title ≡ line ++ said_below functions said words
+other_title functions said words line name about first feed named title other is_name is_about begins is_feed is_named is =
+    let function = function_of_region functions words in
+    let window = said_of_window words (buses_if_listed function) in
     is ∙ ap (λ l. l ++ about) (is_named ∙ ap (λ l. l ++ name) (is_feed ∙ ap (λ l. l ++ 10 ∷ []) begins))
-        ∙ append_assoc (line ++ 10 ∷ []) name about ∙ append_assoc line (10 ∷ []) (name ++ about)
-        ∙ ap (λ l. line ++ 10 ∷ l) (ap (λ l. name ++ l) adds.1 ∙ sym (append_assoc name adds.0 said)),
-  );
-}
+    ∙ append_assoc (line ++ 10 ∷ []) name about ∙ append_assoc line (10 ∷ []) (name ++ about)
+    ∙ ap₂ (λ n a. line ++ 10 ∷ (n ++ a)) is_name is_about
+    ∙ ap (λ l. line ++ 10 ∷ l) (sym (append_assoc (name_if_listed function) window (said (key_of_region words))))
+    ∙ sym (ap (λ b. line ++ (if b then [] else 10 ∷ (said_of_function functions words ++ said (key_of_region words)))) other)

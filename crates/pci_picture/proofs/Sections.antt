@@ -6,7 +6,7 @@ use Rattle.std.proofs.lemmas.Bool.{cases_lt, eqb-true}
 use Rattle.std.proofs.lemmas.List.{append_assoc, map-append, map_more, take_more, take-append-drop, take-take, drop-take, take_all, length-take, length-drop, get_or-take, get_or-drop, get_or_default}
 use Rattle.std.proofs.lemmas.List.Sorted.{IsNonDecreasingBy-drop, IsNonDecreasingBy-take, IsPermutation-trans, IsPermutation-append_left, IsPermutation-map}
 use Rattle.std.proofs.lemmas.List.Elements.{All-nil, All-push, All-weaker}
-use Rattle.pci_picture.specs.Boxes.{IsDrawnOf, IsDrawnByRoots}
+use Rattle.pci_picture.specs.Boxes.{IsDrawnOf, IsPictureOf}
 use Rattle.pci_picture.specs.Canvases.{AddsToCanvas, AddsSome, HasDrawn}
 use Rattle.pci_picture.specs.Drawings.{AreGrouped, AreOffBoxes, AreOfSection, AreOfSections, HasRoomOf, IsBoxOf, IsRunOfSection, sections_of}
 use Rattle.pci_picture.specs.Headings.{AreSectionsOf, headed_regions, is_below_heading}
@@ -171,40 +171,38 @@ sorted_members lines before after is moved =
 -- ---- the whole
 
 pub whole_picture : {A T E : Type 0} (look : Look) (row : Site) (functions : List Listed) (map faults : List ℕ) (read : Map A) (new before between last : Canvas A) (y height : ℕ) (result : Result T E) (bytes : T → List ℕ)
-    → SameLooks look (look_told faults) → HasSides row → IsReadOf (slice_split is_feed map) read → y ≤ height
+    → SameLooks look (look_told functions faults) → HasSides row → IsReadOf (slice_split is_feed map) read → y ≤ height
     → HasDrawn [] new → AddsToCanvas [] new before → AddsSome (AreOfSections look row functions read.lines.items y) before between
     → AddsSome (AreOffBoxes look read.off.items) between last
     → ((spots : List BoxSpot) → HasDrawn spots last → IfOk result (λ text. IsDrawnOf spots height (bytes text)))
-    → IfOk result (λ text. IsDrawnByRoots functions map faults (bytes text))
+    → IfOk result (λ text. IsPictureOf functions map faults (bytes text))
 whole_picture look row functions map faults read new before between last y height (Err e) bytes same sides told down none kept some off finished = tt
 whole_picture look row functions map faults read new before between last y height (Ok text) bytes same sides told down none kept some off finished =
     let joined : some.spots ++ off.spots ≡ all_of some.hold.sections ++ off.spots = ap (λ l. l ++ off.spots) (sym some.hold.joined) in
     let both : lines_drawn (some.spots ++ off.spots) ≡ lines_drawn some.spots ++ lines_of_regions read.off.items =
     map-append (λ s. s.line) some.spots off.spots ∙ ap (λ l. lines_drawn some.spots ++ l) off.hold.drawn in
     record {
-      picture = record {
-        sections = some.hold.sections;
-        off = off.spots;
-        each_once =
-            subst (λ l. IsPermutation (region_lines map) (lines_drawn l)) joined
-            (subst (λ l. IsPermutation (region_lines map) l) (sym both)
-            (IsPermutation-trans (region_lines map) (lines_read read) (lines_drawn some.spots ++ lines_of_regions read.off.items) told.each_once
-            (IsPermutation-append_left (lines_of_regions read.off.items) (lines_of_regions (regions_under read.lines.items)) (lines_drawn some.spots) some.hold.each_once)));
-        below_headings =
-            sections_of_all (headed_regions map) some.hold.sections
-            (subst (λ l. AreSectionsOf l some.hold.sections) told.kept some.hold.below_headings);
-        below_none = off.hold.drawn ∙ told.off;
-        grey = off.hold.grey;
-        off_titled = titled_same look (look_told faults) same off.spots off.hold.titled;
-        height = height;
-        drawn =
-            subst (λ l. IsDrawnOf l height (bytes text)) joined
-            (finished (some.spots ++ off.spots) (off.adds.behind some.spots (some.adds.behind [] (kept.behind [] none))));
-        stand = λ small. some.hold.stand (omega (arith, down, small));
-        nested =
-            All-weaker (HasNestedBoxes look (filter is_below_heading (headed_regions map))) (HasNestedBoxes (look_told faults) (headed_regions map))
-            (nested_of_all look (look_told faults) same (headed_regions map)) some.hold.sections
-            (subst (λ l. All (HasNestedBoxes look l) some.hold.sections) told.kept (some.hold.nested sides));
-      };
+      sections = some.hold.sections;
+      off = off.spots;
+      each_once =
+          subst (λ l. IsPermutation (region_lines map) (lines_drawn l)) joined
+          (subst (λ l. IsPermutation (region_lines map) l) (sym both)
+          (IsPermutation-trans (region_lines map) (lines_read read) (lines_drawn some.spots ++ lines_of_regions read.off.items) told.each_once
+          (IsPermutation-append_left (lines_of_regions read.off.items) (lines_of_regions (regions_under read.lines.items)) (lines_drawn some.spots) some.hold.each_once)));
+      below_headings =
+          sections_of_all (headed_regions map) some.hold.sections
+          (subst (λ l. AreSectionsOf l some.hold.sections) told.kept some.hold.below_headings);
+      below_none = off.hold.drawn ∙ told.off;
+      grey = off.hold.grey;
+      off_titled = titled_same look (look_told functions faults) same off.spots off.hold.titled;
+      height = height;
+      drawn =
+          subst (λ l. IsDrawnOf l height (bytes text)) joined
+          (finished (some.spots ++ off.spots) (off.adds.behind some.spots (some.adds.behind [] (kept.behind [] none))));
+      stand = λ small. some.hold.stand (omega (arith, down, small));
+      nested =
+          All-weaker (HasNestedBoxes look (filter is_below_heading (headed_regions map))) (HasNestedBoxes (look_told functions faults) (headed_regions map))
+          (nested_of_all look (look_told functions faults) same (headed_regions map)) some.hold.sections
+          (subst (λ l. All (HasNestedBoxes look l) some.hold.sections) told.kept (some.hold.nested sides));
       by_root = some.hold.by_root;
     }

@@ -75,25 +75,22 @@ pub record IsDrawnOf (spots : List BoxSpot) (height : ℕ) (text : List ℕ) : T
 -- some of what is out of place. What stands below no such heading is off, in its order. In each section the boxes stand at
 -- heights that rise with addresses, where the height of the picture was not cut off at 64 bits, and inside each other as deep as
 -- the lines of the map. A box has the class of its part, with marks for the faults that name it; what is off is grey. Each title
--- ends with the lines of these faults
-pub record IsPictureOf (map faults text : List ℕ) : Type 0 where
+-- is the line, below it the name of the function by those that are listed and the buses behind a window, and below that the lines of
+-- these faults. Each region out of place is in the section of the root from which its bus is reached, by the same functions, and of
+-- its space
+pub record IsPictureOf (functions : List Listed) (map faults text : List ℕ) : Type 0 where
   pub sections : List Section
   pub off : List BoxSpot
   pub each_once : IsPermutation (region_lines map) (lines_drawn (all_of sections ++ off))
   pub below_headings : AreSectionsOf (headed_regions map) sections
   pub below_none : lines_drawn off ≡ lines_below_headings is_below_no_heading (headed_regions map)
   pub grey : All (λ spot. spot.class ≡ codes "off") off
-  pub off_titled : All (IsTitled (look_told faults)) off
+  pub off_titled : All (IsTitled (look_told functions faults)) off
   pub height : ℕ
   pub drawn : IsDrawnOf (all_of sections ++ off) height text
   pub stand : EachStands height sections
-  pub nested : All (HasNestedBoxes (look_told faults) (headed_regions map)) sections
-
--- the same, where each region out of place is in the section of the root from which its bus is reached, by the functions that
--- are listed, and of its space
-pub record IsDrawnByRoots (functions : List Listed) (map faults text : List ℕ) : Type 0 where
-  pub picture : IsPictureOf map faults text
-  pub by_root : All (AreLostByRoot functions) picture.sections
+  pub nested : All (HasNestedBoxes (look_told functions faults) (headed_regions map)) sections
+  pub by_root : All (AreLostByRoot functions) sections
 
 -- sections that have what stands below their headings and what is out of place, and a list of what is off, have each region of
 -- the map exactly once, as often as it stands there

@@ -1,12 +1,12 @@
--- A picture of the texts of `show`, `map` and `faults --why`.
+-- A picture of the texts of `show`, `map` and `faults --why`, and of titles.
 use Rattle.std.specs.Prelude.{ℕ, List}
-use Rattle.pci_picture.specs.Boxes.{IsDrawnByRoots}
-use Rattle.pci_picture.specs.Listings.{AreFunctionsListed}
+use Rattle.pci_picture.specs.Boxes.{IsPictureOf}
+use Rattle.pci_picture.specs.Named.{AreFunctionsTitled}
 use Rattle.pci_picture.specs.Roots.{Listed}
 
--- each region out of place is drawn in the section of the root from which its bus is reached, by the functions that `show`
--- lists, and of its space
-pub record IsDrawnByRootsOfShow (show map faults text : List ℕ) : Type 0 where
+-- the functions that `show` lists, with their titles, say in which section a region out of place is drawn, and what the title of a
+-- region's box says of its function
+pub record IsDrawnByRootsOfShow (show titles map faults text : List ℕ) : Type 0 where
   pub functions : List Listed
-  pub listed : AreFunctionsListed show functions
-  pub drawn : IsDrawnByRoots functions map faults text
+  pub titled : AreFunctionsTitled show titles functions
+  pub drawn : IsPictureOf functions map faults text

@@ -1,5 +1,5 @@
 -- What is drawn of a section, and of all.
-use Rattle.std.specs.Prelude.{◌≡◌, ◌<◌, ◌≤◌, ◌+◌, ◌-◌, ◌^◌, ℕ, List, [], ◌∷◌, codes, map, take, length, slice_index_or}
+use Rattle.std.specs.Prelude.{◌≡◌, ◌<◌, ◌≤◌, ◌+◌, ◌-◌, ◌^◌, ℕ, List, [], ◌∷◌, ◌++◌, codes, map, take, length, slice_index_or}
 use Rattle.std.specs.List.{All, AllPairs, flat_map}
 use Rattle.std.specs.List.Sorted.{IsPermutation, IsNonDecreasingBy}
 use Rattle.pci_picture.specs.Headings.{AreSectionsOf, is_lost, lines_below_headings}
@@ -8,7 +8,6 @@ use Rattle.pci_picture.specs.Maps.{headed_line, headed_member, lines_of_regions,
 use Rattle.pci_picture.specs.Members.{member_number}
 use Rattle.pci_picture.specs.Nested.{HasNestedBoxes}
 use Rattle.pci_picture.specs.Roots.{AreLostByRoot, Listed}
-use Rattle.pci_picture.specs.Said.{IsTitleOf}
 use Rattle.pci_picture.specs.Sides.{HasSides, StandBesideIn, count_in_place, sides_drawn, sides_of_width, widths_placed}
 use Rattle.pci_picture.specs.Spots.{Section, BoxSpot, first_address, region_last_address, classes_drawn, lines_drawn, all_of, spot_at, Rise, AreBoxesStanding, EachStands}
 use Rattle.pci_picture.specs.Stacked.{height_at}
@@ -20,11 +19,11 @@ use Rattle.pci_picture.specs.declared.plan.Placed.{Placed}
 use Rattle.pci_picture.specs.declared.plan.Site.{Site}
 use Rattle.pci_picture.specs.declared.region.Region.{Region}
 
--- one box of a line, with a class and a place, whose title says this of faults
+-- one box of a line, with a class and a place, whose title says this below the line
 pub record IsBoxOf (class said line : List ℕ) (x y width height : ℕ) (spots : List BoxSpot) : Type 0 where
   pub title : List ℕ
   pub one : spots ≡ spot_at x y width height class title line ∷ []
-  pub titled : IsTitleOf said line title
+  pub titled : title ≡ line ++ said
 
 -- where a box stands, of the heights of its first address and of the one past its last
 pub record IsFramed (height_of : ℕ → ℕ) (first last y height : ℕ) : Type 0 where

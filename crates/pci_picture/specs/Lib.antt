@@ -12,7 +12,9 @@ pub mod Marks
 pub mod Ranks
 pub mod Badges
 pub mod Said
+pub mod Titles
 pub mod Looks
+pub mod BoardLooks
 pub mod Maps
 pub mod Depths
 pub mod Drawings

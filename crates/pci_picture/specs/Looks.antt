@@ -1,15 +1,16 @@
 -- How the boxes of regions look.
-use Rattle.std.specs.Prelude.{ℕ, Bool, false, true, ◌||◌, List, ◌++◌, drop, map, take}
+use Rattle.std.specs.Prelude.{◌≡◌, ℕ, Bool, false, true, ◌||◌, List, ◌++◌, drop, map, take}
 use Rattle.pci_picture.specs.Lines.{words_in_line}
-use Rattle.pci_picture.specs.Marks.{has_naming, is_named, key_of_region, look_of_part, look_with}
-use Rattle.pci_picture.specs.Said.{IsTitleOf, said_by, said_of_key}
+use Rattle.pci_picture.specs.Marks.{is_named, key_of_region, look_of_part, look_with}
+use Rattle.pci_picture.specs.Roots.{Listed}
+use Rattle.pci_picture.specs.Said.{said_of_key}
 use Rattle.pci_picture.specs.Spots.{BoxSpot}
-use Rattle.pci_picture.specs.declared.faults.Faults.{Faults}
+use Rattle.pci_picture.specs.Titles.{said_below}
 use Rattle.pci_picture.specs.declared.plan.Placed.{Placed}
 use Rattle.pci_picture.specs.declared.region.Region.{Region}
 
--- how the faults of a board show at the box of a region: its class, by whether the region is out of place and by its line, and what
--- its title says of faults, by its line
+-- how the functions and the faults of a board show at the box of a region: its class, by whether the region is out of place and by
+-- its line, and what its title says below this line
 pub record Look : Type 0 where
   pub class : Bool → List ℕ → List ℕ
   pub said : List ℕ → List ℕ
@@ -20,21 +21,17 @@ class_with named is_out line =
     look_with (named 61 62 (key_of_region (words_in_line line))) (is_out || named 60 63 (key_of_region (words_in_line line)))
     (look_of_part (words_in_line line))
 
--- by which faults name a region, and by what is said of it
-abbrev pub look_by : (ℕ → ℕ → ℕ → Bool) → (ℕ → List ℕ) → Look
-look_by named said = record { class = class_with named; said = λ line. said (key_of_region (words_in_line line)) }
+-- by which faults name a region, by the functions of the board, and by what is said of the faults that name a region
+abbrev pub look_by : (ℕ → ℕ → ℕ → Bool) → List Listed → (ℕ → List ℕ) → Look
+look_by named functions said = record { class = class_with named; said = λ line. said_below functions said (words_in_line line) }
 
 -- the faults are those of a text
-abbrev pub look_told : List ℕ → Look
-look_told faults = look_by (is_named faults) (said_of_key faults)
+abbrev pub look_told : List Listed → List ℕ → Look
+look_told functions faults = look_by (is_named faults) functions (said_of_key faults)
 
--- the faults were read
-abbrev pub look_read : {A : Type 0} → Faults A → Look
-look_read faults = look_by (has_naming faults.faults.items faults.namings.items) (said_by faults)
-
--- the title of a box says what is said of its line
+-- the title of a box is its line, and what is said below it
 abbrev pub IsTitled : Look → BoxSpot → Type 0
-IsTitled look spot = IsTitleOf (look.said spot.line) spot.line spot.title
+IsTitled look spot = spot.title ≡ spot.line ++ look.said spot.line
 
 -- ---- the looks of some regions
 

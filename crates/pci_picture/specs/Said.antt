@@ -1,7 +1,7 @@
 -- The faults of a text with their lines, and what the title of a box says of them.
-use Rattle.std.specs.Prelude.{◌≡◌, ◌+◌, ◌<◌, ℕ, length, true, false, ◌==◌, ◌-◌, Option, Some, None, List, [], ◌∷◌, ◌++◌, take, drop, fold, map, nat_eq, codes, slice_index_or, if◌then◌else◌}
+use Rattle.std.specs.Prelude.{◌≡◌, ◌+◌, ◌<◌, ℕ, length, ◌==◌, ◌-◌, Option, Some, None, List, [], ◌∷◌, ◌++◌, take, drop, fold, map, nat_eq, codes, slice_index_or, if◌then◌else◌}
 use Rattle.std.specs.List.{All, filter, flat_map, slice_get, slice_split, starts_with}
-use Rattle.pci_picture.specs.Lines.{is_feed, nth_word, says, unindented_line, words_in_line}
+use Rattle.pci_picture.specs.Lines.{is_feed, unindented_line, words_in_line}
 use Rattle.pci_picture.specs.Marks.{keys_of_fault, number_before_blank}
 use Rattle.pci_picture.specs.declared.faults.Fault.{Fault}
 use Rattle.pci_picture.specs.declared.faults.Faults.{Faults}
@@ -46,16 +46,6 @@ said_of_fault key fault =
 -- those of all faults of a text
 abbrev pub said_of_key : List ℕ → ℕ → List ℕ
 said_of_key text key = flat_map (said_of_fault key) (faults_said text)
-
--- a region's title is its line alone where it is free. Else it ends with what is said of its faults, behind the region's line and
--- what is known of its function
-pub record IsTitleOf (said : List ℕ) (line title : List ℕ) : Type 0 where
-  pub free : says (nth_word (words_in_line line) 2) (codes "free") ≡ true → title ≡ line
-  pub ends : says (nth_word (words_in_line line) 2) (codes "free") ≡ false → (above : List ℕ) × (title ≡ line ++ 10 ∷ (above ++ said))
-
--- some bytes are added, and an ending behind them
-abbrev pub AddsMore : List ℕ → List ℕ → List ℕ → Type 0
-AddsMore ending old new = (more : List ℕ) × (new ≡ old ++ (more ++ ending))
 
 -- ---- the faults that were read
 

@@ -1,19 +1,21 @@
 //! A board, read from the texts of three commands.
-ghost use Rattle.std.specs.Prelude.{◌≡◌, ◌≤◌, [], ◌∷◌, ◌++◌, Some, None, drop, length, unwrap_or, slice_index_or, IfOk, OnOk};
+ghost use Rattle.std.specs.Prelude.{◌≡◌, ◌≤◌, [], ◌∷◌, ◌++◌, Some, None, drop, length, unwrap_or, slice_index_or, IfOk, IfSome, OnOk};
 ghost use Rattle.std.specs.List.{Contains, slice_split};
+ghost use Rattle.std.specs.Option.{option_map};
 ghost use Rattle.pci_picture.specs.Boxes.{titled_line};
 ghost use Rattle.pci_picture.specs.Depths.{AreChained};
-ghost use Rattle.pci_picture.specs.Lines.{is_feed};
-ghost use Rattle.pci_picture.specs.Named.{AreFunctionsTitled, AreNamedIn, name_of_function};
+ghost use Rattle.pci_picture.specs.Lines.{is_feed, words_in_line};
+ghost use Rattle.pci_picture.specs.Named.{AreFunctionsTitled, AreNamedIn, function_at, name_of_function};
 ghost use Rattle.pci_picture.specs.Maps.{IsReadOf};
 ghost use Rattle.pci_picture.specs.Marks.{AreFaultsOf};
 ghost use Rattle.pci_picture.specs.Roots.{AreBusesAbove, AreRoots, go_up, listed_function, listed_functions};
-ghost use Rattle.pci_picture.specs.Said.{AddsMore, AreSaidOf, IsTitleOf, faults_said, lines_of_fault, said_by, said_lines};
+ghost use Rattle.pci_picture.specs.Said.{AreSaidOf, faults_said, lines_of_fault, said_by, said_lines};
 ghost use Rattle.pci_picture.specs.FaultLines.{faults_read};
 ghost use Rattle.pci_picture.specs.Starts.{AreOnBus, AreStarts, RiseBySlot};
+ghost use Rattle.pci_picture.specs.Titles.{buses_if_listed, function_of_region, name_if_listed, said_below, said_of_window};
 
 use super::faults::{Fault, Faults};
-use super::function::{Buses, Function, Span, find};
+use super::function::{Buses, Function, Span};
 use super::listing::{give_titles, read_functions};
 use super::map::Map;
 use super::memory::OutOfMemory;
@@ -125,6 +127,19 @@ fn root_from(above: &[Option<u8>; 256], bus: u8) -> u8
     root
 }
 
+/// The function of a slot's number, of functions by rising slot.
+fn find<'f, 'a>(functions: &'f [Function<'a>], number: u32) -> Option<&'f Function<'a>>
+    ensures at { RiseBySlot functions.now → option_map (λ function. listed_function function.now) result
+        ≡ function_at (listed_functions functions.now) number }
+    ensures own { IfSome result (λ function. Contains functions.now function.now) }
+{
+    let index = functions.partition_point(|function| function.number < number);
+    match functions.get(index) {
+        Some(function) if function.number == number => Some(function),
+        _ => None,
+    }
+}
+
 impl<'a, A: Allocator + Copy> Board<'a, A> {
     /// Reads the board from the texts.
     pub fn read(alloc: A, texts: &Texts<'a>) -> Result<Board<'a, A>, OutOfMemory>
@@ -160,7 +175,11 @@ impl<'a, A: Allocator + Copy> Board<'a, A> {
     }
 
     /// The function of a region.
-    pub fn function(&self, region: &Region<'_>) -> Option<&Function<'a>> {
+    pub fn function(&self, region: &Region<'_>) -> Option<&Function<'a>>
+        ensures at { option_map (λ function. listed_function function.now) result
+            ≡ function_of_region (listed_functions self.now.functions.items) (words_in_line region.now.line.now) }
+        ensures own { IfSome result (λ function. Contains self.now.functions.items function.now) }
+    {
         if region.part == Part::Free {
             return None;
         }
@@ -179,7 +198,10 @@ impl<'a, A: Allocator + Copy> Board<'a, A> {
     }
 
     /// The name of a region's function, or nothing where it isn't listed.
-    fn function_name(&self, region: &Region<'_>) -> &[u8] {
+    fn function_name(&self, region: &Region<'_>) -> &[u8]
+        ensures { result.now ≡ name_if_listed (function_of_region (listed_functions self.now.functions.items)
+            (words_in_line region.now.line.now)) }
+    {
         match self.function(region) {
             Some(function) => self.name(function),
             None => &[],
@@ -187,7 +209,10 @@ impl<'a, A: Allocator + Copy> Board<'a, A> {
     }
 
     /// The buses behind a window.
-    pub fn buses(&self, region: &Region<'_>) -> Option<Buses> {
+    pub fn buses(&self, region: &Region<'_>) -> Option<Buses>
+        ensures { result ≡ buses_if_listed (function_of_region (listed_functions self.now.functions.items)
+            (words_in_line region.now.line.now)) }
+    {
         match self.function(region) {
             Some(function) => function.buses,
             None => None,
@@ -238,7 +263,10 @@ impl<'a, A: Allocator + Copy> Board<'a, A> {
 
     /// Appends the buses behind a window, and the lines of a region's faults.
     fn put_about(&self, words: &mut Words<A>, region: &Region<'_>) -> Result<(), OutOfMemory>
-        ensures { OnOk result (AddsMore (said_by self.now.faults region.now.key) words.old.bytes.items words.new.bytes.items) }
+        ensures { OnOk result (words.new.bytes.items ≡ words.old.bytes.items
+            ++ (said_of_window (words_in_line region.now.line.now)
+            (buses_if_listed (function_of_region (listed_functions self.now.functions.items) (words_in_line region.now.line.now)))
+            ++ said_by self.now.faults region.now.key)) }
     {
         if region.part == Part::Window {
             words.put(b"\nto ")?;
@@ -256,8 +284,9 @@ impl<'a, A: Allocator + Copy> Board<'a, A> {
     /// The title of a region's box: its line of the map, and below it what is known of the region.
     pub fn title(&self, alloc: A, region: &Region<'_>) -> Result<Words<A>, OutOfMemory>
         ensures line { IfOk result (λ title. titled_line title.bytes.items ≡ region.entry.now.line.now ∷ []) }
-        ensures said { IfOk result (λ title. IsTitleOf (said_by self.entry.now.faults region.entry.now.key)
-            region.entry.now.line.now title.bytes.items) }
+        ensures said { IfOk result (λ title. title.bytes.items ≡ region.entry.now.line.now
+            ++ said_below (listed_functions self.entry.now.functions.items) (said_by self.entry.now.faults)
+            (words_in_line region.entry.now.line.now)) }
     {
         let mut title = Words::of(alloc, region.line)?;
         if region.part == Part::Free {

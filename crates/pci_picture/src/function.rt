@@ -36,12 +36,3 @@ pub struct Function<'a> {
     ghost is_slot: { IsTrue (is_slot slot.now) },
     ghost is_low: { number < 2 ^ 20 },
 }
-
-/// The function of a slot's number, of functions by rising slot.
-pub fn find<'f, 'a>(functions: &'f [Function<'a>], number: u32) -> Option<&'f Function<'a>> {
-    let index = functions.partition_point(|function| function.number < number);
-    match functions.get(index) {
-        Some(function) if function.number == number => Some(function),
-        _ => None,
-    }
-}

@@ -1,7 +1,7 @@
 //! How the box of a region looks, by its part and by the faults that name it.
 ghost use Rattle.std.specs.Prelude.{◌≡◌};
-ghost use Rattle.pci_picture.specs.Looks.{look_read};
-ghost use Rattle.pci_picture.specs.Marks.{look_with, word_of_part};
+ghost use Rattle.pci_picture.specs.Looks.{class_with};
+ghost use Rattle.pci_picture.specs.Marks.{has_naming, look_with, word_of_part};
 
 use super::faults::Faults;
 use super::memory::OutOfMemory;
@@ -36,7 +36,8 @@ pub fn class_of<A: Allocator + Copy>(
     region: &Region<'_>,
     is_lost: bool,
 ) -> &'static str
-    ensures { result.now ≡ (look_read faults.entry.now).class is_lost region.entry.now.line.now }
+    ensures { result.now ≡ class_with (has_naming faults.entry.now.faults.items faults.entry.now.namings.items) is_lost
+        region.entry.now.line.now }
 {
     let clashes = faults.has(region.key, 61, 62);
     let is_unreached = faults.has(region.key, 60, 63);

@@ -2,13 +2,12 @@
 ghost use Rattle.std.specs.Prelude.{◌≡◌, ◌<◌, ◌≤◌, ◌+◌, ◌-◌, ◌^◌, [], codes, min, length, IfOk, OnOk};
 ghost use Rattle.std.specs.List.{All};
 ghost use Rattle.std.specs.String.{string_bytes};
-ghost use Rattle.pci_picture.specs.Boxes.{IsPictureOf};
+ghost use Rattle.pci_picture.specs.BoardLooks.{look_read};
 ghost use Rattle.pci_picture.specs.Canvases.{AddsToCanvas, AddsSome};
 ghost use Rattle.pci_picture.specs.Depths.{AreChained};
 ghost use Rattle.pci_picture.specs.Drawings.{AreOffBoxes, AreOfSections, IsBoxOf, IsRunOfSection};
 ghost use Rattle.pci_picture.specs.ByRoots.{IsDrawnByRootsOfShow};
 ghost use Rattle.pci_picture.specs.FaultLines.{HasFaultList};
-ghost use Rattle.pci_picture.specs.Looks.{look_read};
 ghost use Rattle.pci_picture.specs.Maps.{AreMembersOf};
 ghost use Rattle.pci_picture.specs.Members.{AreIndentedBySection, AreSortedBySection};
 ghost use Rattle.pci_picture.specs.Roots.{IsLostByRoot, listed_functions};
@@ -144,7 +143,7 @@ fn draw_sections<A: Allocator + Copy>(
     first: &Site,
 ) -> Result<u64, OutOfMemory>
     requires { AreChained board.now.map.lines.items }
-    ensures drawn { IfOk result (λ end. AddsSome (AreOfSections (look_read board.entry.now.faults) first.now
+    ensures drawn { IfOk result (λ end. AddsSome (AreOfSections (look_read board.entry.now) first.now
         (listed_functions board.entry.now.functions.items) board.entry.now.map.lines.items end) canvas.old canvas.new) }
     ensures down { IfOk result (λ end. first.now.y ≤ end) }
 {
@@ -172,7 +171,7 @@ fn draw_off<A: Allocator + Copy>(
     board: &Board<'_, A>,
     site: &Site,
 ) -> Result<u64, OutOfMemory>
-    ensures drawn { IfOk result (λ _. AddsSome (AreOffBoxes (look_read board.entry.now.faults) board.entry.now.map.off.items) canvas.old canvas.new) }
+    ensures drawn { IfOk result (λ _. AddsSome (AreOffBoxes (look_read board.entry.now) board.entry.now.map.off.items) canvas.old canvas.new) }
     ensures down { IfOk result (λ end. site.now.y ≤ end) }
 {
     let mut y = site.y;
@@ -215,7 +214,7 @@ fn draw_off_row<A: Allocator + Copy>(
     region: &Region<'_>,
     site: &Site,
 ) -> Result<(), OutOfMemory>
-    ensures { OnOk result (AddsSome (IsBoxOf (codes "off") ((look_read board.entry.now.faults).said region.entry.now.line.now)
+    ensures { OnOk result (AddsSome (IsBoxOf (codes "off") ((look_read board.entry.now).said region.entry.now.line.now)
         region.entry.now.line.now (min (site.now.x + 132) (2 ^ 64 - 1)) site.now.y site.now.width 13) canvas.old canvas.new) }
 {
     let x = site.x.saturating_add(AXIS);
@@ -281,12 +280,10 @@ pub fn picture_of<A: Allocator + Copy>(
     ensures closed { IfOk result (λ text. IsPictureText (string_bytes text)) }
     // each line of the map that is a region is the first line of the title of exactly one box. A section has the regions
     // below its headings, and in it the boxes stand at the heights of their addresses. A box is marked where a fault names its
-    // region, and its title ends with all such faults
-    ensures drawn { IfOk result (λ text. IsPictureOf texts.entry.now.map.now texts.entry.now.faults.now (string_bytes text)) }
-    // a region out of place is drawn in the section of the root from which its bus is reached, by the functions that `show`
-    // lists, and of its space
-    ensures by_root { IfOk result (λ text. IsDrawnByRootsOfShow texts.entry.now.show.now texts.entry.now.map.now
-        texts.entry.now.faults.now (string_bytes text)) }
+    // region. Its title is the line, what its function is called, the buses behind a window, and all such faults. A region out of
+    // place is drawn in the section of the root from which its bus is reached, by the functions that `show` lists, and of its space
+    ensures drawn { IfOk result (λ text. IsDrawnByRootsOfShow texts.entry.now.show.now texts.entry.now.titles.now
+        texts.entry.now.map.now texts.entry.now.faults.now (string_bytes text)) }
     // above all stand the lines of the faults, up to 40, and how many faults are left out
     ensures listed { IfOk result (λ text. HasFaultList texts.entry.now.faults.now (string_bytes text)) }
 {

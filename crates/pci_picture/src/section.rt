@@ -1,8 +1,8 @@
 //! A section of a map: its axis, its boxes, and the ranges that its faults tell.
 ghost use Rattle.std.specs.Prelude.{◌≤◌, [], IfOk, OnOk};
+ghost use Rattle.pci_picture.specs.BoardLooks.{look_read};
 ghost use Rattle.pci_picture.specs.Canvases.{AddsToCanvas, AddsSome};
 ghost use Rattle.pci_picture.specs.Drawings.{AreFramed, AreOfSection, IsBoxOf};
-ghost use Rattle.pci_picture.specs.Looks.{look_read};
 
 use super::board::Board;
 use super::canvas::{Canvas, Label, Shape};
@@ -135,8 +135,8 @@ fn draw_box<A: Allocator + Copy>(
     at: Frame,
 ) -> Result<(), OutOfMemory>
     ensures { OnOk result (AddsSome (IsBoxOf
-        ((look_read board.entry.now.faults).class placed.entry.now.is_lost placed.entry.now.region.line.now)
-        ((look_read board.entry.now.faults).said placed.entry.now.region.line.now) placed.entry.now.region.line.now
+        ((look_read board.entry.now).class placed.entry.now.is_lost placed.entry.now.region.line.now)
+        ((look_read board.entry.now).said placed.entry.now.region.line.now) placed.entry.now.region.line.now
         at.x at.y at.width at.height) canvas.old canvas.new) }
 {
     let region = &placed.region;
@@ -371,7 +371,7 @@ fn draw_regions<A: Allocator + Copy>(
     board: &Board<'_, A>,
     plan: &Plan<'_, A>,
 ) -> Result<(), OutOfMemory>
-    ensures { OnOk result (AddsSome (AreFramed (look_read board.entry.now.faults) plan.entry.now.placed.items
+    ensures { OnOk result (AddsSome (AreFramed (look_read board.entry.now) plan.entry.now.placed.items
         plan.entry.now.heights.runs.items plan.entry.now.heights.bottom) canvas.old canvas.new) }
 {
     for placed in &plan.placed {
@@ -434,7 +434,7 @@ pub fn draw_section<A: Allocator + Copy>(
     site: &Site,
     members: &[Member<'_>],
 ) -> Result<u64, OutOfMemory>
-    ensures drawn { IfOk result (λ end. AddsSome (AreOfSection (look_read board.entry.now.faults) site.now members.entry.now end)
+    ensures drawn { IfOk result (λ end. AddsSome (AreOfSection (look_read board.entry.now) site.now members.entry.now end)
         canvas.old canvas.new) }
     ensures down { IfOk result (λ end. site.now.y ≤ end) }
 {

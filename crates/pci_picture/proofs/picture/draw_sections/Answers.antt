@@ -1,6 +1,6 @@
 use Rattle.std.proofs.Common.{arith, refl, sym, subst}
 use Rattle.std.specs.List.{All}
-use Rattle.pci_picture.specs.Looks.{look_read}
+use Rattle.pci_picture.specs.BoardLooks.{look_read}
 use Rattle.pci_picture.specs.Maps.{AreMembersOf}
 use Rattle.pci_picture.specs.Members.{AreIndentedBySection, AreSortedBySection}
 use Rattle.pci_picture.specs.Roots.{IsLostByRoot, listed_functions}
@@ -12,7 +12,7 @@ pub loop-begin-init : goal.loop-begin-init
 loop-begin-init g c = record {
   within = omega arith;
   down = omega arith;
-  adds = no_section (look_read c.args.board.now.faults) c.args.first.now c.as_slice-members.result.now c.args.first.now.y c.args.canvas.now;
+  adds = no_section (look_read c.args.board.now) c.args.first.now c.as_slice-members.result.now c.args.first.now.y c.args.canvas.now;
 }
 
 pub loop-begin-preserved : goal.loop-begin-preserved
@@ -23,7 +23,7 @@ loop-begin-preserved g c =
       within = c.section_end-end.ensures.within;
       down = up_to c.args.first.now.y c.loop-begin.y c.in_ok-y.y c.loop-begin.invariant.down c.in_ok-y.ensures.down;
       adds =
-          section_more (look_read c.args.board.now.faults) c.args.first.now _ c.as_slice-members.result.now _ c.loop-begin.begin c.section_end-end.result c.loop-begin.y c.in_ok-y.y c.index-members-begin.result
+          section_more (look_read c.args.board.now) c.args.first.now _ c.as_slice-members.result.now _ c.loop-begin.begin c.section_end-end.result c.loop-begin.y c.in_ok-y.y c.index-members-begin.result
           c.args.canvas.now c.loop-begin.canvas c.draw_section.new.canvas
           c.section_end-end.ensures.some c.section_end-end.ensures.within c.index-members-begin.is refl c.in_ok-y.ensures.down
           are.sorted indented.lost_last c.section_end-end.ensures.alike (record { x_is = refl; width_is = refl }) c.loop-begin.invariant.adds c.in_ok-y.ensures.drawn;
@@ -32,7 +32,7 @@ loop-begin-preserved g c =
 pub returns-clause-drawn : goal.returns-clause-drawn
 returns-clause-drawn g c =
     let functions = listed_functions c.args.board.now.functions.items in
-    all_sections (look_read c.args.board.now.faults) c.args.first.now functions c.args.board.now.map.lines.items c.as_slice-members.result.now c.loop-begin.begin c.loop-begin.y c.args.canvas.now c.loop-begin.canvas
+    all_sections (look_read c.args.board.now) c.args.first.now functions c.args.board.now.map.lines.items c.as_slice-members.result.now c.loop-begin.begin c.loop-begin.y c.args.canvas.now c.loop-begin.canvas
     (omega arith) (subst (AreMembersOf c.args.board.now.map.lines.items) (sym c.as_slice-members.ensures.value) c.in_ok-sorted.ensures.moved)
     (subst AreIndentedBySection (sym c.as_slice-members.ensures.value) c.in_ok-sorted.ensures.indented)
     (subst (AreSortedBySection c.args.board.now.map.lines.items) (sym c.as_slice-members.ensures.value) c.in_ok-sorted.ensures.sorted)

@@ -1,10 +1,10 @@
 use Rattle.std.proofs.Common.{[]}
 use Rattle.std.specs.String.{string_bytes}
-use Rattle.pci_picture.specs.Looks.{look_read}
+use Rattle.pci_picture.specs.BoardLooks.{look_read}
 use Rattle.pci_picture.specs.Roots.{listed_functions}
 use Rattle.pci_picture.proofs.Boxes.{then_draws, up_to}
 use Rattle.pci_picture.proofs.Looks.{looks_told}
-use Rattle.pci_picture.proofs.Pictured.{drawn_of, drawn_by_roots, has_fault_list}
+use Rattle.pci_picture.proofs.Pictured.{drawn_by_roots, has_fault_list}
 use Rattle.pci_picture.proofs.Sections.{whole_picture}
 use Rattle.pci_picture.proofs.picture.picture_of.Goals as goal
 
@@ -15,14 +15,15 @@ pub returns : goal.returns
 returns g c =
     let functions = listed_functions c.in_ok-board.board.functions.items in
     let whole =
-    whole_picture (look_read c.in_ok-board.board.faults) c.first_site-site.result functions c.args.texts.now.map.now c.args.texts.now.faults.now c.in_ok-board.board.map c.new-canvas.result _ _ _ c.in_ok-y.y c.bottom_of-bottom.result c.finish.result (λ text. string_bytes text)
-    (looks_told c.in_ok-board.board.faults c.args.texts.now.faults.now c.in_ok-board.ensures.faults c.in_ok-board.ensures.said) c.first_site-site.ensures.room c.in_ok-board.ensures.map (up_to c.in_ok-y.y c.in_ok-end.end c.bottom_of-bottom.result c.in_ok-end.ensures.down c.bottom_of-bottom.ensures) c.new-canvas.ensures
+    whole_picture (look_read c.in_ok-board.board) c.first_site-site.result functions c.args.texts.now.map.now c.args.texts.now.faults.now c.in_ok-board.board.map c.new-canvas.result _ _ _ c.in_ok-y.y c.bottom_of-bottom.result c.finish.result (λ text. string_bytes text)
+    (looks_told c.in_ok-board.board c.args.texts.now.faults.now c.in_ok-board.ensures.faults c.in_ok-board.ensures.said) c.first_site-site.ensures.room c.in_ok-board.ensures.map (up_to c.in_ok-y.y c.in_ok-end.end c.bottom_of-bottom.result c.in_ok-end.ensures.down c.bottom_of-bottom.ensures) c.new-canvas.ensures
     (then_draws [] _ _ _ (then_draws [] _ _ _ (then_draws [] _ _ _ c.in_ok-write_counts.ensures c.in_ok-legend.ensures) c.in_ok-write_faults.ensures.adds) c.in_ok-tree_end.ensures)
     c.in_ok-y.ensures.drawn c.in_ok-end.ensures.drawn c.finish.ensures.drawn in
     record {
       closed = c.finish.ensures.closed;
-      drawn = drawn_of functions c.args.texts.now.map.now c.args.texts.now.faults.now c.finish.result (λ text. string_bytes text) whole;
-      by_root = drawn_by_roots functions c.args.texts.now.show.now c.args.texts.now.titles.now c.args.texts.now.map.now c.args.texts.now.faults.now c.finish.result (λ text. string_bytes text) c.in_ok-board.ensures.show whole;
+      drawn =
+          drawn_by_roots functions c.args.texts.now.show.now c.args.texts.now.titles.now c.args.texts.now.map.now c.args.texts.now.faults.now c.finish.result (λ text. string_bytes text)
+          c.in_ok-board.ensures.show whole;
       listed =
           has_fault_list c.args.texts.now.faults.now c.in_ok-board.board.faults c.draw_legend.new.canvas c.write_faults.new.canvas c.draw_tree.new.canvas c.draw_sections.new.canvas c.draw_off.new.canvas
           c.in_ok-y.ensures.drawn.spots c.in_ok-end.ensures.drawn.spots c.finish.result (λ text. string_bytes text) _ _ _ c.in_ok-board.ensures.lines

@@ -1,5 +1,5 @@
 use Rattle.pci_picture.specs.Drawings.{AreFramed}
-use Rattle.pci_picture.specs.Looks.{look_read}
+use Rattle.pci_picture.specs.BoardLooks.{look_read}
 use Rattle.pci_picture.proofs.Boxes.{then_draws, keeps_some, up_to}
 use Rattle.pci_picture.proofs.Framed.{adds_section}
 use Rattle.pci_picture.proofs.section.draw_section.Goals as goal
@@ -8,7 +8,7 @@ pub returns : goal.returns
 returns g c =
     let heights = c.in_ok-plan.plan.heights in
     let placed = c.in_ok-plan.plan.placed.items in
-    let look = look_read c.args.board.now.faults in
+    let look = look_read c.args.board.now in
     record {
       drawn =
           adds_section look c.args.site.now c.args.members.now placed heights.runs.items heights.bottom c.end_of.result
