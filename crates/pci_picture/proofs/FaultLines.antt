@@ -146,6 +146,22 @@ module _ {A : Type 0} (faults : Faults A) (i room y : ℕ) (before now : List �
             ∙ ap (λ l. before ++ l) (ap (λ n. list_text 72 listed.done ++ list_text n lines) base ∙ sym (list_text-append 72 listed.done lines));
       }
 
+  pub left_out_below : (base : ℕ) → fault.end ≤ length faults.lines.items → room < fault.end - fault.begin → base ≡ y + 14
+      → (base ≡ 72 + 14 * length (lines_within 40 (faults_read faults))) × (base ≤ 646)
+  unfolding said_at
+  left_out_below base within short base_is =
+      let next = drop (i + 1) (faults_read faults) in
+      let line = left_out_line (length (said_at ∷ next)) in
+      let none : nat_lt room (length (lines_of_fault faults (Some fault))) ≡ true = lt-ltb room _ (let is = count_is within in omega (arith, is, short)) in
+      let more : lines_within room (drop i (faults_read faults)) ≡ line ∷ [] =
+      ap (lines_within room) rest_is
+      ∙ ap (λ b. if b then line ∷ [] else (lines_of_reason said_at.lines ++ lines_within (room - length said_at.lines) next)) none in
+      let long : length (lines_within 40 (faults_read faults)) ≡ length listed.done + 1 =
+      ap length (listed.rest ∙ ap (λ l. listed.done ++ l) more) ∙ length-append listed.done (line ∷ []) in
+      let above = listed.base in
+      let many = listed.many in
+      (omega (arith, base_is, above, long), omega (arith, base_is, above, many))
+
   pub rest_left_out : (new : List ℕ) (left base : ℕ) → fault.end ≤ length faults.lines.items → room < fault.end - fault.begin → left ≡ length faults.faults.items - i → base ≡ y + 14
       → new ≡ now ++ label_text (left_out_line left).left base (left_out_line left).class (left_out_line left).words
       → new ≡ before ++ fault_list_text (faults_read faults)
@@ -176,6 +192,17 @@ all_listed faults i room y before now listed end =
     listed.written
     ∙ ap (λ l. before ++ list_text 72 l)
     (sym (append-nil listed.done) ∙ ap (λ l. listed.done ++ lines_within room l) (sym (drop_all i (faults_read faults) (omega (arith, end, long)))) ∙ sym listed.rest)
+
+pub all_below : {A : Type 0} (faults : Faults A) (i room y : ℕ) (before now : List ℕ) → AreListed faults i room y before now → length faults.faults.items ≤ i
+    → (y ≡ 72 + 14 * length (lines_within 40 (faults_read faults))) × (y ≤ 646)
+all_below faults i room y before now listed end =
+    let read : Fault → FaultSaid = λ f. record { number = f.number; lines = lines_of_fault faults (Some f) } in
+    let items = length-map faults.faults.items read in
+    let long : length (lines_within 40 (faults_read faults)) ≡ length listed.done =
+    ap length (listed.rest ∙ ap (λ l. listed.done ++ lines_within room l) (drop_all i (faults_read faults) (omega (arith, end, items))) ∙ append-nil listed.done) in
+    let above = listed.base in
+    let many = listed.many in
+    (omega (arith, above, long), omega (arith, above, many))
 
 -- the fault at an index of the same list
 pub fault_there : {A : Type 0} (faults : Faults A) (items : List Fault) (i : ℕ) (d : Fault) → items ≡ faults.faults.items → i < length items

@@ -206,7 +206,7 @@ on_bus_between functions starts bus begin end small rises are from to =
 
 -- ---- functions that were written back
 
-as_many : (functions others : List Function) → listed_functions functions ≡ listed_functions others → length functions ≡ length others
+pub as_many : (functions others : List Function) → listed_functions functions ≡ listed_functions others → length functions ≡ length others
 as_many functions others same = sym (length-map functions listed_function) ∙ ap length same ∙ length-map others listed_function
 
 -- what was written back are the new functions

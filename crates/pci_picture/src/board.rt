@@ -2,6 +2,7 @@
 ghost use Rattle.std.specs.Prelude.{◌≡◌, ◌≤◌, [], ◌∷◌, ◌++◌, Some, None, drop, length, unwrap_or, slice_index_or, IfOk, IfSome, OnOk};
 ghost use Rattle.std.specs.List.{Contains, slice_split};
 ghost use Rattle.std.specs.Option.{option_map};
+ghost use Rattle.pci_picture.specs.Badges.{AreBadgesOf};
 ghost use Rattle.pci_picture.specs.Boxes.{titled_line};
 ghost use Rattle.pci_picture.specs.Depths.{AreChained};
 ghost use Rattle.pci_picture.specs.Lines.{is_feed, words_in_line};
@@ -147,6 +148,7 @@ impl<'a, A: Allocator + Copy> Board<'a, A> {
         ensures chained { IfOk result (λ board. AreChained board.map.lines.items) }
         ensures faults { IfOk result (λ board. AreFaultsOf texts.entry.now.faults.now board.faults) }
         ensures said { IfOk result (λ board. AreSaidOf texts.entry.now.faults.now board.faults) }
+        ensures badges { IfOk result (λ board. AreBadgesOf texts.entry.now.faults.now board.faults) }
         ensures lines { IfOk result (λ board. faults_read board.faults ≡ faults_said texts.entry.now.faults.now) }
         ensures show { IfOk result (λ board. AreFunctionsTitled texts.entry.now.show.now texts.entry.now.titles.now
             (listed_functions board.functions.items)) }

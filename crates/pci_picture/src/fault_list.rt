@@ -1,7 +1,7 @@
 //! The list of faults above a picture.
 ghost use Rattle.std.specs.Prelude.{◌≡◌, ◌≤◌, ◌<◌, ◌+◌, ◌-◌, ◌*◌, ◌^◌, [], Some, length, IfOk, OnOk};
 ghost use Rattle.pci_picture.specs.Canvases.{AddsToCanvas, WritesBytes};
-ghost use Rattle.pci_picture.specs.FaultLines.{fault_line, fault_list_text, faults_read, left_out_line, lines_of_reason, list_text};
+ghost use Rattle.pci_picture.specs.FaultLines.{fault_line, fault_list_text, faults_read, left_out_line, lines_of_reason, lines_within, list_text};
 ghost use Rattle.pci_picture.specs.Labels.{label_text};
 ghost use Rattle.pci_picture.specs.Said.{lines_of_fault};
 
@@ -97,6 +97,8 @@ pub fn write_faults<A: Allocator + Copy>(
     ensures adds { IfOk result (λ _. AddsToCanvas [] canvas.old canvas.new) }
     ensures writes { IfOk result (λ _. WritesBytes
         (fault_list_text (faults_read board.entry.now.faults)) canvas.old canvas.new) }
+    ensures below { IfOk result (λ y. y ≡ 72 + 14 * length (lines_within 40 (faults_read board.entry.now.faults))) }
+    ensures high { IfOk result (λ y. y ≤ 646) }
 {
     let faults = board.faults.faults.as_slice();
     let mut y = ABOVE;
