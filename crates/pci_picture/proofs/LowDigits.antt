@@ -1,7 +1,7 @@
 -- Hex digits of a number, while they are written.
-use Rattle.std.proofs.Common.{◌≡◌, ◌≤◌, ◌<◌, ◌+◌, ◌-◌, ◌*◌, ◌/◌, ◌%◌, ◌^◌, ℕ, zero, suc, false, min, List, [], ◌∷◌, ◌++◌, length, get_or, set, take, drop, refl, sym, ap, ◌∙◌, arith}
+use Rattle.std.proofs.Common.{◌≡◌, ◌<◌, ◌+◌, ◌-◌, ◌*◌, ◌/◌, ◌%◌, ◌^◌, ℕ, zero, suc, false, min, List, [], ◌∷◌, ◌++◌, length, get_or, set, take, drop, refl, sym, ap, ◌∙◌, arith}
 use Rattle.std.specs.Fmt.{digit_glyph}
-use Rattle.std.proofs.lemmas.List.{append-nil, drop_all, drop-append-le, length-append, take_all}
+use Rattle.std.proofs.lemmas.List.{drop_all, drop-append-le, length-append, take_all}
 use Rattle.std.proofs.lemmas.Nat.{shr-shr}
 use Rattle.pci_picture.specs.Named.{low_digits}
 use Rattle.pci_picture.specs.declared.words.TheConstants.{DIGITS}

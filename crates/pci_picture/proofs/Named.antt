@@ -1,5 +1,5 @@
 -- What functions are called, while their titles and names are written.
-use Rattle.std.proofs.Common.{◌≡◌, ◌≤◌, ◌<◌, ◌+◌, ◌-◌, ◌==◌, ℕ, zero, suc, Bool, true, false, cond, Option, Some, None, List, [], ◌∷◌, ◌++◌, fold, length, ltb, get_or, map, set, take, drop, refl, sym, ap, ◌∙◌, arith, ◌⊎◌, inl, inr, if◌then◌else◌}
+use Rattle.std.proofs.Common.{◌≡◌, ◌≤◌, ◌<◌, ◌+◌, ◌-◌, ◌==◌, ℕ, zero, suc, Bool, true, false, cond, Option, Some, None, List, [], ◌∷◌, ◌++◌, fold, length, ltb, get_or, map, set, take, drop, refl, sym, ap, subst, ◌∙◌, arith, ◌⊎◌, inl, inr, if◌then◌else◌}
 use Rattle.std.specs.Prelude.{codes}
 use Rattle.std.specs.List.{before_first, after_first, slice_split}
 use Rattle.std.specs.List.Sorted.{IsNonDecreasingBy, IsPartitionPoint}
@@ -7,10 +7,7 @@ use Rattle.std.proofs.lemmas.Bool.{and_right, cases_eq, cases_lt, eq-eqb, le-leb
 use Rattle.std.proofs.lemmas.List.{append-nil, append_assoc, drop_all, get_or-map, get_or-set_same, get_or-set_other, drop-append-le, drop_at, take-append-le, length-append, length-drop, length-map, length-take, map-set, take_all}
 use Rattle.pci_picture.specs.Lines.{hex_value, is_feed, is_register, is_slot, slot_number_of}
 use Rattle.pci_picture.specs.Named.{IsNamedIn, is_title_line, low_digits, name_of_function, name_of_class, name_of_numbers, title_from_line, titled, with_title, with_titles, words_of_buses}
-use Rattle.pci_picture.specs.Headings.{number_of_section}
-use Rattle.pci_picture.specs.Roots.{AreLostByRoot, Listed, bus_above, bus_of_bridge, first_bus, go_up, is_bridge_to, listed_function, listed_functions, root_bus_of, section_by_root}
-use Rattle.pci_picture.specs.Slots.{bus_of_line, is_io_line}
-use Rattle.pci_picture.specs.Spots.{Section}
+use Rattle.pci_picture.specs.Roots.{Listed, listed_function, listed_functions}
 use Rattle.pci_picture.specs.declared.function.Buses.{Buses}
 use Rattle.pci_picture.specs.declared.function.Function.{Function}
 use Rattle.pci_picture.proofs.Listings.{all_taken, line_taken}

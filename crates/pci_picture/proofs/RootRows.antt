@@ -1,12 +1,12 @@
 -- The roots of the tree of buses, while they are drawn.
-use Rattle.std.proofs.Common.{◌≡◌, ◌<◌, ◌≤◌, ◌+◌, ◌-◌, ◌^◌, ◌==◌, ◌&&◌, ◌||◌, ℕ, zero, suc, Bool, true, false, not, ltb, List, [], ◌∷◌, ◌++◌, length, take, drop, get_or, replicate, Option, Some, None, refl, sym, ap, subst, ◌∙◌, inl, inr, arith}
+use Rattle.std.proofs.Common.{◌≡◌, ◌<◌, ◌≤◌, ◌+◌, ◌-◌, ◌&&◌, ℕ, suc, Bool, true, false, not, ltb, List, [], ◌∷◌, ◌++◌, length, take, drop, get_or, replicate, Option, None, sym, ap, subst, ◌∙◌, arith}
 use Rattle.std.specs.List.{range_with_len}
 use Rattle.std.specs.Option.{is_none, is_some}
-use Rattle.std.proofs.lemmas.Bool.{cases_lt, le-ltb, lt-ltb}
+use Rattle.std.proofs.lemmas.Bool.{le-ltb, lt-ltb}
 use Rattle.std.proofs.lemmas.List.{append-nil, append_assoc, get_or-replicate, length-drop, length-take}
 use Rattle.pci_picture.specs.Roots.{AreBusesAbove, Listed, bus_above, listed_function, listed_functions}
 use Rattle.pci_picture.specs.Starts.{AreOnBus, functions_on}
-use Rattle.pci_picture.specs.Trees.{AreRootRows, AreRootsWritten, AreWritten, IsTreeText, TreePlace, down, has_function, is_drawn, is_tree_root, listed_on, no_bus, no_root, other_bus, root_bus, root_written}
+use Rattle.pci_picture.specs.Trees.{AreRootRows, AreRootsWritten, AreWritten, IsTreeText, TreePlace, down, has_function, is_tree_root, listed_on, no_bus, no_root, other_bus, root_bus, root_written}
 use Rattle.pci_picture.specs.Walks.{AreMarked, WritesRoot}
 use Rattle.pci_picture.specs.declared.badge.Badge.{Badge}
 use Rattle.pci_picture.specs.declared.canvas.Canvas.{Canvas}

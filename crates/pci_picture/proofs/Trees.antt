@@ -1,17 +1,17 @@
 -- The tree of buses, while it is drawn.
-use Rattle.std.proofs.Common.{◌≡◌, ◌<◌, ◌≤◌, ◌+◌, ◌-◌, ◌^◌, ◌==◌, ◌||◌, ℕ, zero, suc, Bool, true, false, not, cond, List, [], ◌∷◌, ◌++◌, length, map, take, drop, reverse, get_or, set, Option, Some, None, Bor, refl, sym, ap, subst, ◌∙◌, inl, inr, arith}
+use Rattle.std.proofs.Common.{◌≡◌, ◌<◌, ◌+◌, ◌-◌, ◌^◌, ◌==◌, ◌||◌, ℕ, zero, suc, Bool, true, false, not, cond, List, [], ◌∷◌, ◌++◌, length, take, drop, reverse, get_or, set, Option, Some, None, Bor, refl, sym, ap, subst, ◌∙◌, inl, inr, arith}
 use Rattle.std.specs.Prelude.{min}
 use Rattle.std.specs.List.{filter, sum_by}
 use Rattle.std.specs.Slice.{IsItemAt}
 use Rattle.std.specs.Option.{IfSome}
 use Rattle.std.proofs.lemmas.Bool.{cases_eq, cases_lt, cases_Bool, eq-eqb, ltb-true, ne_eqb}
-use Rattle.std.proofs.lemmas.List.{append-nil, append_assoc, drop_all, drop_more, get_or_past, get_or-set_other, get_or-set_same, length-drop, length-set, length-take, reverse-append}
+use Rattle.std.proofs.lemmas.List.{append-nil, append_assoc, drop_more, get_or_past, get_or-set_other, get_or-set_same, length-drop, length-take, reverse-append}
 use Rattle.std.proofs.lemmas.List.Sums.{sum_by-append}
-use Rattle.pci_picture.specs.Roots.{Listed, listed_function, listed_functions, secondary_of}
+use Rattle.pci_picture.specs.Roots.{listed_function, listed_functions, secondary_of}
 use Rattle.pci_picture.specs.Rows.{TreeRow, tree_row_text}
 use Rattle.pci_picture.specs.Slots.{bus_of_slot}
 use Rattle.pci_picture.specs.Starts.{AreOnBus, functions_on}
-use Rattle.pci_picture.specs.Trees.{AreRows, AreWritten, IsRowAt, TreePlace, bus_behind, down, if_undrawn, is_drawn, listed_on, no_row, none_written, one_row, row_written, rows_behind, steps_behind, tree_place}
+use Rattle.pci_picture.specs.Trees.{AreRows, AreWritten, IsRowAt, TreePlace, bus_behind, down, if_undrawn, is_drawn, listed_on, no_row, none_written, one_row, row_written, rows_behind, steps_behind}
 use Rattle.pci_picture.specs.Walks.{AreMarked, IsBegun, IsNext, if_unmarked, left_between, left_of, place_of, unmarked_behind}
 use Rattle.pci_picture.specs.declared.badge.Badge.{Badge}
 use Rattle.pci_picture.specs.declared.function.Function.{Function}
@@ -266,9 +266,6 @@ bus_marked (function ∷ functions) marks bus inside off =
     ]
 
 module _ (functions : List Function) (marks : List Bool) (rests : List Rest) (rest : Rest) where
-  pub less_skipped : work_left functions rests marks < work_left functions (rests ++ rest ∷ []) marks
-  less_skipped = let sum = sum_by-append weight rests (rest ∷ []) in omega (arith, sum)
-
   less_next : rest.next < rest.end → work_left functions (rests ++ behind_first rest ∷ []) marks < work_left functions (rests ++ rest ∷ []) marks
   less_next some =
       let sum = sum_by-append weight rests (rest ∷ []) in

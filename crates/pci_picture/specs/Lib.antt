@@ -36,3 +36,4 @@ pub mod Rows
 pub mod Trees
 pub mod Walks
 pub mod FaultLines
+pub mod TreePictures

@@ -1,4 +1,4 @@
-use Rattle.std.proofs.Common.{◌+◌, arith, refl, subst, sym, take, ◌∙◌}
+use Rattle.std.proofs.Common.{arith, refl, subst, take}
 use Rattle.std.proofs.lemmas.List.{take_all}
 use Rattle.pci_picture.proofs.Starts.{AreCounts, all_summed, counts_more, no_counts, none_summed, summed_more}
 use Rattle.pci_picture.proofs.board.starts_of.Goals as goal

@@ -1,5 +1,5 @@
-use Rattle.std.proofs.Common.{◌≡◌, false, get_or, ltb, refl, rules, sym, true, arith, ap, ◌∙◌}
-use Rattle.std.specs.List.Sorted.{IsNonDecreasingBy, IsPartitionPoint}
+use Rattle.std.proofs.Common.{false, get_or, ltb, refl, rules, sym, true, arith, ap, ◌∙◌}
+use Rattle.std.specs.List.Sorted.{IsPartitionPoint}
 use Rattle.std.proofs.lemmas.List.{get_or_default, take_rest}
 use Rattle.std.proofs.lemmas.List.Sorted.{IsPartitionPoint-from_clause, IsPartitionedBy-ltb}
 use Rattle.pci_picture.proofs.Named.{is_titled, numbers_rise, title_given, title_missed}

@@ -1,9 +1,9 @@
-use Rattle.std.proofs.Common.{◌≡◌, ◌<◌, ◌++◌, [], ◌∷◌, ap, arith, refl, reverse, set, subst, sym, true, ◌∙◌}
+use Rattle.std.proofs.Common.{◌<◌, ◌++◌, [], ◌∷◌, ap, arith, refl, reverse, set, subst, sym, true, ◌∙◌}
 use Rattle.std.specs.String.{string_bytes}
 use Rattle.std.proofs.lemmas.List.{length-set}
 use Rattle.pci_picture.specs.Walks.{IsBegun, unmarked_behind}
 use Rattle.pci_picture.proofs.Boxes.{then_draws, unchanged}
-use Rattle.pci_picture.proofs.Trees.{IsUnderWay, less_on, less_skipped, none_left, way_begins, way_goes_on, way_skips, work_left}
+use Rattle.pci_picture.proofs.Trees.{IsUnderWay, less_on, none_left, way_begins, way_goes_on, way_skips, work_left}
 use Rattle.pci_picture.proofs.tree.draw_bus.Goals as goal
 
 pub loop-rest-init : goal.loop-rest-init

@@ -1,5 +1,4 @@
 use Rattle.std.proofs.Common.{[], ◌++◌, ap, subst, ◌∙◌}
-use Rattle.std.specs.String.{string_bytes}
 use Rattle.pci_picture.specs.Roots.{listed_functions}
 use Rattle.pci_picture.specs.Walks.{WritesBus}
 use Rattle.pci_picture.proofs.Boxes.{then_draws}

@@ -1,4 +1,4 @@
-use Rattle.std.proofs.Common.{[], arith, refl, subst, sym, ◌∙◌}
+use Rattle.std.proofs.Common.{[], arith, subst, sym, ◌∙◌}
 use Rattle.std.specs.String.{string_bytes}
 use Rattle.pci_picture.specs.Roots.{AreBusesAbove, listed_functions}
 use Rattle.pci_picture.proofs.Boxes.{then_draws, unchanged}

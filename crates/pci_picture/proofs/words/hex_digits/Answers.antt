@@ -1,6 +1,5 @@
-use Rattle.std.proofs.Common.{◌*◌, ◌-◌, ◌/◌, ◌%◌, ◌^◌, ap, sym, ◌∙◌, arith}
-use Rattle.std.proofs.lemmas.List.{length-set, take_all}
-use Rattle.pci_picture.specs.Named.{low_digits}
+use Rattle.std.proofs.Common.{◌*◌, ◌-◌, ◌/◌, ◌%◌, ◌^◌, ◌∙◌, arith}
+use Rattle.std.proofs.lemmas.List.{length-set}
 use Rattle.pci_picture.proofs.LowDigits.{digit_more, digit_of_number, all_digits}
 use Rattle.pci_picture.proofs.words.hex_digits.Goals as goal
 

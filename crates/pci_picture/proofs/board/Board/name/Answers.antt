@@ -1,4 +1,3 @@
-use Rattle.std.proofs.Common.{refl}
 use Rattle.std.proofs.lemmas.List.Elements.{All-contains}
 use Rattle.pci_picture.specs.Named.{IsNamedIn, name_of_function}
 use Rattle.pci_picture.specs.Roots.{listed_function}

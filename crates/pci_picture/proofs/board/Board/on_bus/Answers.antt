@@ -1,4 +1,4 @@
-use Rattle.std.proofs.Common.{◌+◌, arith, refl}
+use Rattle.std.proofs.Common.{arith, refl}
 use Rattle.pci_picture.proofs.Starts.{on_bus_between}
 use Rattle.pci_picture.proofs.board.Board.on_bus.Goals as goal
 
