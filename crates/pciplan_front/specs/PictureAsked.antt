@@ -1,12 +1,14 @@
 -- The picture of what a map is asked of.
-use Rattle.std.specs.Prelude.{◌≡◌, ◌⊎◌, ◌<◌, ◌≤◌, ℕ, List, ◌∷◌, true, codes, string_bytes}
+use Rattle.std.specs.Prelude.{◌≡◌, ◌⊎◌, ◌<◌, ◌≤◌, ℕ, Option, Some, None, List, [], ◌∷◌, ◌++◌, true, codes, string_bytes}
+use Rattle.std.specs.List.{flat_map}
 use Rattle.std.specs.Io.KnownBytes.{Appends}
-use Rattle.pci_spec.specs.Text.{Block}
+use Rattle.pci_spec.specs.Slot.{Slot}
+use Rattle.pci_spec.specs.Text.{Block, slot_text}
 use Rattle.pci_dump.specs.Begun.{AppendsBeginning}
 use Rattle.pci_check.specs.Audits.{IsDumpOf}
-use Rattle.pci_picture.specs.Boxes.{IsPictureOf}
 use Rattle.pci_picture.specs.ByRoots.{IsDrawnByRootsOfShow}
 use Rattle.pci_picture.specs.FaultLines.{HasFaultList}
+use Rattle.pci_picture.specs.TreePictures.{HasTree}
 use Rattle.pci_picture.specs.Whole.{IsPictureText}
 use Rattle.pciplan_cli.specs.CarriedOut.{TextsByPath}
 use Rattle.pciplan_cli.specs.Invocations.{IsInvocationOf, HasBadWords}
@@ -22,9 +24,18 @@ use Rattle.pciplan_front.specs.Went.{Went}
 abbrev pub map_words : List (List ℕ) → List (List ℕ)
 map_words words = codes "map" ∷ words
 
--- a well-formed picture of the map, where there is one: each of its regions is the title of one box, which is marked where one of
--- the faults with reasons names the region. What is out of place is drawn where the functions that `show` lists say. Above all
--- stand the lines of these faults
+-- the slot of a block, a blank, its title and a line feed; nothing where it has no title
+abbrev pub title_line : Slot → Option (List ℕ) → List ℕ
+title_line slot None = []
+title_line slot (Some title) = slot_text slot ++ 32 ∷ (title ++ 10 ∷ [])
+
+abbrev pub titles_text : List Block → List ℕ
+titles_text blocks = flat_map (λ block. title_line block.slot block.title) blocks
+
+-- a well-formed picture of the map, where there is one: each of its regions is the first line of the title of one box, which is marked
+-- where one of the faults with reasons names the region. Behind it the title says what the region's function is called, by the titles of
+-- the dump, and which faults name the region. What is out of place is drawn where the functions that `show` lists say. There are the
+-- lines of the faults, and below them the tree of the functions
 pub record IsDrawn (beside : Beside) (dump probe : List Block) (answer : Answer) : Type 0 where
   pub map : Answer
   pub is_map : IsPairAnswer (task.Map beside) dump probe map
@@ -35,9 +46,9 @@ pub record IsDrawn (beside : Beside) (dump probe : List Block) (answer : Answer)
   pub are_faults : IsPairAnswer (task.Faults beside true) dump probe faults
   pub text : List ℕ
   pub picture : IsPictureText text
-  pub draws : IsPictureOf map.text faults.text text
-  pub by_root : IsDrawnByRootsOfShow shown.text map.text faults.text text
+  pub draws : IsDrawnByRootsOfShow shown.text (titles_text dump) map.text faults.text text
   pub listed : HasFaultList faults.text text
+  pub tree : HasTree shown.text (titles_text dump) faults.text text
   pub line : answer ≡ done_with map.remarks text
 
 -- the line `no ..` of the map, where there is none

@@ -9,7 +9,7 @@ ghost use Rattle.pciplan_tasks.specs.Answers.{AreRemarked, answer_of, text_bytes
 ghost use Rattle.pciplan_tasks.specs.Statuses.{status_of};
 ghost use Rattle.pciplan_tasks.specs.Tasks.{HasFailed, IsAnswerTo, IsFailureOf};
 ghost use Rattle.pciplan_tasks.specs.declared.task.Task.{Task};
-ghost use Rattle.pciplan_front.specs.PictureAsked.{IsDrawnOrNot, IsPicture, IsPictureBegun, IsPictureDone, IsPictureRefused, IsPictureReply, map_words};
+ghost use Rattle.pciplan_front.specs.PictureAsked.{IsDrawnOrNot, IsPicture, IsPictureBegun, IsPictureDone, IsPictureRefused, IsPictureReply, map_words, titles_text};
 ghost use Rattle.pciplan_front.specs.Went.{went};
 
 use pci_base::memory::OutOfMemory;
@@ -42,7 +42,9 @@ fn lines_of(text: &Text<Global>) -> Result<&str, OutOfMemory>
 }
 
 /// The slot lines of a dump that have a title.
-fn titles_of(alloc: Global, dump: &Dump) -> Result<Vec<u8>, OutOfMemory> {
+fn titles_of(alloc: Global, dump: &Dump) -> Result<Vec<u8>, OutOfMemory>
+    ensures { IfOk result (λ titles. titles.items ≡ titles_text dump.now) }
+{
     let mut titles = Vec::new(alloc);
     for block in dump.blocks() {
         if let Some(title) = &block.title {

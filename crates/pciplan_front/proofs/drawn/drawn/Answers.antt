@@ -1,14 +1,19 @@
-use Rattle.std.proofs.Common.{inl, ap, subst, cond, List, ℕ, Bool}
+use Rattle.std.proofs.Common.{◌≡◌, ◌∙◌, inl, ap, subst, cond, List, ℕ, Bool}
 use Rattle.std.specs.Prelude.{string_bytes}
-use Rattle.pci_picture.specs.Boxes.{IsPictureOf}
 use Rattle.pci_picture.specs.ByRoots.{IsDrawnByRootsOfShow}
 use Rattle.pci_picture.specs.FaultLines.{HasFaultList}
+use Rattle.pci_picture.specs.TreePictures.{HasTree}
 use Rattle.pciplan_tasks.specs.Answers.{Answer, answer_of, text_bytes}
+use Rattle.pciplan_front.specs.PictureAsked.{titles_text}
 use Rattle.pciplan_front.proofs.drawn.drawn.Goals as goal
 
 pub returns-in-Ok : goal.returns-in-Ok
 returns-in-Ok c =
     let text = string_bytes c.in-Ok.picture in
+    let show = text_bytes c.in_ok-shown.shown.text in
+    let map = text_bytes c.in_ok-map.map.text in
+    let faults = text_bytes c.in_ok-faults.faults.text in
+    let titles : c.as_slice.result.now ≡ titles_text c.args.dump = c.as_slice.ensures.value ∙ c.in_ok-titles.ensures in
     let of_refused : Bool → Answer = λ b. record { status = cond b 1 0; text = text; remarks = string_bytes c.in_ok-map.map.remarks } in
     inl record {
       map = answer_of c.in_ok-map.map;
@@ -21,12 +26,15 @@ returns-in-Ok c =
       text = text;
       picture = c.in-Ok.ensures.closed;
       draws =
-          subst (λ (f : List ℕ). IsPictureOf (text_bytes c.in_ok-map.map.text) f text) c.in_ok-lines_of-3.ensures
-          (subst (λ (m : List ℕ). IsPictureOf m c.in_ok-lines_of-3.field-0.now text) c.in_ok-lines_of-2.ensures c.in-Ok.ensures.drawn);
-      by_root =
-          subst (λ (f : List ℕ). IsDrawnByRootsOfShow (text_bytes c.in_ok-shown.shown.text) (text_bytes c.in_ok-map.map.text) f text) c.in_ok-lines_of-3.ensures
-          (subst (λ (m : List ℕ). IsDrawnByRootsOfShow (text_bytes c.in_ok-shown.shown.text) m c.in_ok-lines_of-3.field-0.now text) c.in_ok-lines_of-2.ensures
-          (subst (λ (s : List ℕ). IsDrawnByRootsOfShow s c.in_ok-lines_of-2.field-0.now c.in_ok-lines_of-3.field-0.now text) c.in_ok-lines_of.ensures c.in-Ok.ensures.by_root));
+          subst (λ (t : List ℕ). IsDrawnByRootsOfShow show t map faults text) titles
+          (subst (λ (f : List ℕ). IsDrawnByRootsOfShow show c.as_slice.result.now map f text) c.in_ok-lines_of-3.ensures
+          (subst (λ (m : List ℕ). IsDrawnByRootsOfShow show c.as_slice.result.now m c.in_ok-lines_of-3.field-0.now text) c.in_ok-lines_of-2.ensures
+          (subst (λ (s : List ℕ). IsDrawnByRootsOfShow s c.as_slice.result.now c.in_ok-lines_of-2.field-0.now c.in_ok-lines_of-3.field-0.now text) c.in_ok-lines_of.ensures
+          c.in-Ok.ensures.drawn)));
       listed = subst (λ (f : List ℕ). HasFaultList f text) c.in_ok-lines_of-3.ensures c.in-Ok.ensures.listed;
+      tree =
+          subst (λ (t : List ℕ). HasTree show t faults text) titles
+          (subst (λ (f : List ℕ). HasTree show c.as_slice.result.now f text) c.in_ok-lines_of-3.ensures
+          (subst (λ (s : List ℕ). HasTree s c.as_slice.result.now c.in_ok-lines_of-3.field-0.now text) c.in_ok-lines_of.ensures c.in-Ok.ensures.tree));
       line = ap of_refused c.if-map.false;
     }
