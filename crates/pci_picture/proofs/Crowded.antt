@@ -271,7 +271,7 @@ between_last regions n first last seats old between (inr begins) known = λ k le
     absurd (omega arith)
 
 -- the parents of the groups, once a level has a group
-pub record IsNext {A : Type 0} (owners : List (Option ℕ)) (more : List ℕ) (old new : Level A) (next : List (Option ℕ)) : Type 0 where
+pub record IsNextFunction {A : Type 0} (owners : List (Option ℕ)) (more : List ℕ) (old new : Level A) (next : List (Option ℕ)) : Type 0 where
   pub long : length next ≡ length more
   pub longer : length owners ≤ length next
   pub same : (g : ℕ) → g < length owners → slice_index_or next g None ≡ slice_index_or owners g None
@@ -280,7 +280,7 @@ pub record IsNext {A : Type 0} (owners : List (Option ℕ)) (more : List ℕ) (o
 
 next_owners : {A : Type 0} (regions : List Region) (n : ℕ) (seats : List Seat) (owners : List (Option ℕ)) (lanes more : List ℕ) (old new : Level A)
     → length owners ≡ length lanes → IsLevelKnown regions n seats owners old → IsGroupGiven old new lanes more
-    → (next : List (Option ℕ)) × IsNext owners more old new next
+    → (next : List (Option ℕ)) × IsNextFunction owners more old new next
 next_owners regions n seats owners lanes more old new long known (inl stays) =
     let among : old.group < length owners = known.among stays.0 in (
       owners,
@@ -313,7 +313,7 @@ pub record IsSeating {A : Type 0} (regions : List Region) (n t : ℕ) (seats : L
   pub seated_in : seat.parent ≡ old.parent
   pub kept : new.parent ≡ old.parent
   pub group : seat.group ≡ new.group
-  pub next_is : IsNext owners more old new next
+  pub next_is : IsNextFunction owners more old new next
   pub last : HaveLast regions (n + 1) (seats ++ (seat ∷ [])) old.parent new.group new.ends.items
   pub least : NoneEndsBefore new.least new.ends.items
   pub holders : AreHolders regions n seats old.parent (slice_index lanes new.group)

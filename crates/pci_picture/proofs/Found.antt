@@ -7,10 +7,10 @@ use Rattle.std.proofs.lemmas.Bool.{cases_eq, eq-eqb, ltb-false, ltb-true, ne_eqb
 use Rattle.std.proofs.lemmas.List.{get_or-drop, get_or-take, length-drop, length-take}
 use Rattle.std.proofs.lemmas.List.Kept.{IsNonDecreasingBy-filter}
 use Rattle.std.proofs.lemmas.Option.{slice_get_past, slice_get_read}
-use Rattle.pci_picture.specs.Named.{function_at}
+use Rattle.pci_picture.specs.Named.{function_listed}
 use Rattle.pci_picture.specs.Roots.{listed_function, listed_functions}
 use Rattle.pci_picture.specs.Slots.{bus_of_slot}
-use Rattle.pci_picture.specs.Starts.{RiseBySlot, functions_on}
+use Rattle.pci_picture.specs.Starts.{FunctionsRise, functions_on}
 use Rattle.pci_picture.specs.declared.function.Function.{Function}
 
 -- ---- the first of those that rise by a number
@@ -48,10 +48,10 @@ module _ {X : Type 0} (number : X → ℕ) (n : ℕ) where
 -- ---- as functions are listed
 
 pub listed_at : (functions : List Function) (slot : ℕ)
-    → function_at (listed_functions functions) slot ≡ option_map listed_function (find (λ (function : Function). function.number == slot) functions)
+    → function_listed (listed_functions functions) slot ≡ option_map listed_function (find (λ (function : Function). function.number == slot) functions)
 listed_at [] slot = refl
 listed_at (function ∷ functions) slot =
-    elim (function.number == slot) as (λ b. cond b (Some (listed_function function)) (function_at (listed_functions functions) slot)
+    elim (function.number == slot) as (λ b. cond b (Some (listed_function function)) (function_listed (listed_functions functions) slot)
     ≡ option_map listed_function (cond b (Some function) (find (λ (f : Function). f.number == slot) functions))) [
       | true ↦ refl
       | false ↦ listed_at functions slot
@@ -59,7 +59,7 @@ listed_at (function ∷ functions) slot =
 
 -- all functions with a slot are on its bus
 pub at_on_bus : (functions : List Function) (slot bus : ℕ) → bus_of_slot slot ≡ bus
-    → function_at (listed_functions (functions_on bus functions)) slot ≡ function_at (listed_functions functions) slot
+    → function_listed (listed_functions (functions_on bus functions)) slot ≡ function_listed (listed_functions functions) slot
 at_on_bus [] slot bus of = refl
 at_on_bus (function ∷ functions) slot bus of =
     elim (cases_eq (bus_of_slot function.number) bus) [
@@ -72,38 +72,38 @@ at_on_bus (function ∷ functions) slot bus of =
 -- ---- the function at the first index whose slot is not below
 
 -- what stands there is the function, where it has the slot
-found_at : (functions : List Function) (slot index : ℕ) → RiseBySlot functions
+found_at : (functions : List Function) (slot index : ℕ) → FunctionsRise functions
     → IsPartitionPoint (λ (function : Function). ltb function.number slot ≡ true) (λ (function : Function). ltb function.number slot ≡ false) functions index
-    → function_at (listed_functions functions) slot ≡ option_map listed_function (if_numbered (λ (function : Function). function.number) slot (slice_get functions index))
+    → function_listed (listed_functions functions) slot ≡ option_map listed_function (if_numbered (λ (function : Function). function.number) slot (slice_get functions index))
 found_at functions slot index rises point =
     listed_at functions slot
     ∙ ap (option_map listed_function)
     (found_numbered (λ (function : Function). function.number) slot functions index rises
     (λ k d inside below. ltb-true _ _ (point.0 k d (omega arith) below)) (λ k d past inside. ltb-false _ _ (point.1 k d past inside)))
 
-pub is_found : (functions : List Function) (slot index : ℕ) (function : Function) → RiseBySlot functions
+pub is_found : (functions : List Function) (slot index : ℕ) (function : Function) → FunctionsRise functions
     → IsPartitionPoint (λ (function : Function). ltb function.number slot ≡ true) (λ (function : Function). ltb function.number slot ≡ false) functions index
     → true ≡ ltb index (length functions) → function ≡ get_or functions index function → function.number ≡ slot
-    → Some (listed_function function) ≡ function_at (listed_functions functions) slot
+    → Some (listed_function function) ≡ function_listed (listed_functions functions) slot
 is_found functions slot index function rises point inside at same =
     sym (found_at functions slot index rises point
     ∙ ap (λ o. option_map listed_function (if_numbered (λ (function : Function). function.number) slot o))
     (slice_get_read functions (length functions) index function refl (ltb-true _ _ (sym inside)) at)
     ∙ ap (λ b. option_map listed_function (cond b (Some function) None)) (eq-eqb function.number slot same))
 
-pub other_found : (functions : List Function) (slot index : ℕ) (function : Function) → RiseBySlot functions
+pub other_found : (functions : List Function) (slot index : ℕ) (function : Function) → FunctionsRise functions
     → IsPartitionPoint (λ (function : Function). ltb function.number slot ≡ true) (λ (function : Function). ltb function.number slot ≡ false) functions index
     → true ≡ ltb index (length functions) → function ≡ get_or functions index function → (function.number ≡ slot → ⊥)
-    → None ≡ function_at (listed_functions functions) slot
+    → None ≡ function_listed (listed_functions functions) slot
 other_found functions slot index function rises point inside at other =
     sym (found_at functions slot index rises point
     ∙ ap (λ o. option_map listed_function (if_numbered (λ (function : Function). function.number) slot o))
     (slice_get_read functions (length functions) index function refl (ltb-true _ _ (sym inside)) at)
     ∙ ap (λ b. option_map listed_function (cond b (Some function) None)) (ne_eqb function.number slot other))
 
-pub none_found : (functions : List Function) (slot index : ℕ) → RiseBySlot functions
+pub none_found : (functions : List Function) (slot index : ℕ) → FunctionsRise functions
     → IsPartitionPoint (λ (function : Function). ltb function.number slot ≡ true) (λ (function : Function). ltb function.number slot ≡ false) functions index
-    → false ≡ ltb index (length functions) → None ≡ function_at (listed_functions functions) slot
+    → false ≡ ltb index (length functions) → None ≡ function_listed (listed_functions functions) slot
 none_found functions slot index rises point past =
     sym (found_at functions slot index rises point
     ∙ ap (λ o. option_map listed_function (if_numbered (λ (function : Function). function.number) slot o))
@@ -111,9 +111,9 @@ none_found functions slot index rises point past =
 
 -- ---- the functions of a bus
 
-pub rise_on : (functions part : List Function) (bus : ℕ) → part ≡ functions_on bus functions → RiseBySlot functions → RiseBySlot part
+pub rise_on : (functions part : List Function) (bus : ℕ) → part ≡ functions_on bus functions → FunctionsRise functions → FunctionsRise part
 rise_on functions part bus same rises =
-    subst RiseBySlot (sym same) (IsNonDecreasingBy-filter (λ (function : Function). function.number) (λ (function : Function). bus_of_slot function.number == bus) functions rises)
+    subst FunctionsRise (sym same) (IsNonDecreasingBy-filter (λ (function : Function). function.number) (λ (function : Function). bus_of_slot function.number == bus) functions rises)
 
 -- one of a part is one of all
 part_contains : (functions : List Function) (begin count : ℕ) (function : Function) → Contains (take count (drop begin functions)) function → Contains functions function

@@ -10,7 +10,7 @@ use Rattle.pci_picture.specs.Marks.{AreFaultsOf, key_of_region, look_of_part, lo
 use Rattle.pci_picture.specs.Roots.{listed_functions}
 use Rattle.pci_picture.specs.Said.{AreSaidOf}
 use Rattle.pci_picture.specs.Spots.{BoxSpot}
-use Rattle.pci_picture.specs.Titles.{is_free, said_of_function}
+use Rattle.pci_picture.specs.Titles.{says_free, said_of_function}
 use Rattle.pci_picture.specs.declared.board.Board.{Board}
 use Rattle.pci_picture.specs.declared.plan.Placed.{Placed}
 use Rattle.pci_picture.specs.declared.region.Region.{Region}
@@ -54,5 +54,5 @@ looks_told board text are say = record {
       ap₂ (λ clashes lost. look_with clashes (is_lost || lost) (look_of_part words)) (are 61 62 (key_of_region words)) (are 60 63 (key_of_region words));
   said = λ line.
       let words = words_in_line line in
-      ap (λ said. if is_free words then [] else 10 ∷ (said_of_function (listed_functions board.functions.items) words ++ said)) (say (key_of_region words));
+      ap (λ said. if says_free words then [] else 10 ∷ (said_of_function (listed_functions board.functions.items) words ++ said)) (say (key_of_region words));
 }

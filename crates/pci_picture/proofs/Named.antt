@@ -6,7 +6,7 @@ use Rattle.std.specs.List.Sorted.{IsNonDecreasingBy, IsPartitionPoint}
 use Rattle.std.proofs.lemmas.Bool.{and_right, cases_eq, cases_lt, eq-eqb, le-leb, ne_eqb, ltb-true, ltb-false}
 use Rattle.std.proofs.lemmas.List.{append-nil, append_assoc, drop_all, get_or-map, get_or-set_same, get_or-set_other, drop-append-le, drop_at, take-append-le, length-append, length-drop, length-map, length-take, map-set, take_all}
 use Rattle.pci_picture.specs.Lines.{hex_value, is_feed, is_register, is_slot, slot_number_of}
-use Rattle.pci_picture.specs.Named.{IsNamedIn, is_title_line, low_digits, name_of_function, name_of_class, name_of_numbers, title_from_line, titled, with_title, with_titles, words_of_buses}
+use Rattle.pci_picture.specs.Named.{HasNameIn, is_title_line, low_digits, name_of_function, name_of_class, name_of_numbers, title_from_line, function_titled, with_title, with_titles, words_of_buses}
 use Rattle.pci_picture.specs.Roots.{Listed, listed_function, listed_functions}
 use Rattle.pci_picture.specs.declared.function.Buses.{Buses}
 use Rattle.pci_picture.specs.declared.function.Function.{Function}
@@ -32,7 +32,7 @@ line_titled before after all rest line behind = line_taken title_from_line empty
 slots_titled : (slot : ℕ) (title : List ℕ) (functions : List Listed) → map (λ f. f.slot) (with_title slot title functions) ≡ map (λ f. f.slot) functions
 slots_titled slot title [] = refl
 slots_titled slot title (function ∷ functions) =
-    elim (function.slot == slot) as (λ b. map (λ (f : Listed). f.slot) (if b then titled function title ∷ functions else function ∷ with_title slot title functions)
+    elim (function.slot == slot) as (λ b. map (λ (f : Listed). f.slot) (if b then function_titled function title ∷ functions else function ∷ with_title slot title functions)
     ≡ function.slot ∷ map (λ (f : Listed). f.slot) functions) [
       | true ↦ refl
       | false ↦ ap (λ l. function.slot ∷ l) (slots_titled slot title functions)
@@ -79,7 +79,7 @@ numbers_rise functions rise i j d up inside =
 -- the function at an index has the title, where no function before it has the slot
 title_set : (functions : List Function) (i slot : ℕ) (title : List ℕ) (d : Function) → i < length functions
     → ((k : ℕ) → k < i → (get_or functions k d).number ≡ slot → ⊥) → (get_or functions i d).number ≡ slot
-    → set (listed_functions functions) i (titled (listed_function (get_or functions i d)) title) ≡ with_title slot title (listed_functions functions)
+    → set (listed_functions functions) i (function_titled (listed_function (get_or functions i d)) title) ≡ with_title slot title (listed_functions functions)
 title_set [] i slot title d inside before at = absurd (omega (arith, inside))
 title_set (one ∷ functions) zero slot title d inside before at = rw (eq-eqb one.number slot at) refl
 title_set (one ∷ functions) (suc i) slot title d inside before at =
@@ -102,7 +102,7 @@ is_below slot function = ltb function.number slot
 pub title_given : (functions after : List Function) (function : Function) (line : List ℕ) (i slot : ℕ) (d : Function) → after ≡ set functions i function
     → is_title_line line ≡ true → slot ≡ slot_number_of (take 7 line) → i < length functions
     → IsPartitionPoint (λ f. is_below slot f ≡ true) (λ f. is_below slot f ≡ false) functions i → (get_or functions i d).number ≡ slot
-    → listed_function function ≡ titled (listed_function (get_or functions i d)) (drop 8 line)
+    → listed_function function ≡ function_titled (listed_function (get_or functions i d)) (drop 8 line)
     → listed_functions after ≡ title_from_line (listed_functions functions) line
 title_given functions after function line i slot d new is_line slot_is inside parted at is =
     ap listed_functions new
@@ -179,7 +179,7 @@ buses_put old one two three four buses found first last is some apart is_first i
 
 -- ---- where names stand
 
-named_before : (names more : List ℕ) (function : Function) → IsNamedIn names function → IsNamedIn (names ++ more) function
+named_before : (names more : List ℕ) (function : Function) → HasNameIn names function → HasNameIn (names ++ more) function
 named_before names more function named =
     let begin : ℕ = function.name.begin in
     let end : ℕ = function.name.end in
@@ -193,7 +193,7 @@ named_before names more function named =
     }
 
 pub named_last : (names name : List ℕ) (function : Function) → function.name.begin ≡ length names → function.name.end ≡ length (names ++ name)
-    → name ≡ name_of_function (listed_function function) → IsNamedIn (names ++ name) function
+    → name ≡ name_of_function (listed_function function) → HasNameIn (names ++ name) function
 named_last names name function begins ends is =
     let long : length (names ++ name) ≡ length names + length name = length-append names name in
     let count : ℕ = function.name.end - function.name.begin in
@@ -208,17 +208,17 @@ named_last names name function begins ends is =
 
 -- the names of the first functions stand there
 abbrev pub AreFirstNamed : List ℕ → List Function → ℕ → Type 0
-AreFirstNamed names functions i = (k : ℕ) (d : Function) → k < i → IsNamedIn names (get_or functions k d)
+AreFirstNamed names functions i = (k : ℕ) (d : Function) → k < i → HasNameIn names (get_or functions k d)
 
 pub named_more : (functions : List Function) (function : Function) (names after name : List ℕ) (i : ℕ) → i < length functions → after ≡ names ++ name
-    → IsNamedIn (names ++ name) function → AreFirstNamed names functions i → AreFirstNamed after (set functions i function) (i + 1)
+    → HasNameIn (names ++ name) function → AreFirstNamed names functions i → AreFirstNamed after (set functions i function) (i + 1)
 named_more functions function names after name i inside is last before k d less = elim (cases_eq k i) [
   | inl same ↦
-      subst (λ n. IsNamedIn n (get_or (set functions i function) k d)) (sym is)
-      (subst (IsNamedIn (names ++ name)) (sym (ap (λ n. get_or (set functions i function) n d) same ∙ get_or-set_same functions i function d inside)) last)
+      subst (λ n. HasNameIn n (get_or (set functions i function) k d)) (sym is)
+      (subst (HasNameIn (names ++ name)) (sym (ap (λ n. get_or (set functions i function) n d) same ∙ get_or-set_same functions i function d inside)) last)
   | inr apart ↦
-      subst (λ n. IsNamedIn n (get_or (set functions i function) k d)) (sym is)
-      (subst (IsNamedIn (names ++ name)) (sym (get_or-set_other functions i k function d apart))
+      subst (λ n. HasNameIn n (get_or (set functions i function) k d)) (sym is)
+      (subst (HasNameIn (names ++ name)) (sym (get_or-set_other functions i k function d apart))
       (named_before names name (get_or functions k d) (before k d (omega (arith, less, apart)))))
 ]
 

@@ -12,7 +12,7 @@ use Rattle.pci_picture.specs.Named.{AreFunctionsTitled}
 use Rattle.pci_picture.specs.Roots.{Listed}
 use Rattle.pci_picture.specs.Said.{faults_said}
 use Rattle.pci_picture.specs.Spots.{BoxSpot}
-use Rattle.pci_picture.specs.TreePictures.{HasTree, tree_top}
+use Rattle.pci_picture.specs.TreePictures.{HasTreeOf, tree_top}
 use Rattle.pci_picture.specs.Trees.{IsTreeText}
 use Rattle.pci_picture.specs.Walks.{WritesTree}
 use Rattle.pci_picture.specs.Whole.{picture_text}
@@ -59,7 +59,7 @@ pub has_tree : {A B T E : Type 0} (show titles faults : List ℕ) (functions : L
     → lines ≡ 72 + 14 * length (lines_within 40 (faults_read read)) → lines ≤ 646 → top ≡ min (lines + 22) (2 ^ 64 - 1)
     → WritesTree functions read.badges.items top listed tree → AddsToCanvas drawn tree sections → AddsToCanvas off sections after
     → IfOk result (λ text. bytes text ≡ picture_text is_told (string_bytes after.boxes) (string_bytes after.words) width height)
-    → IfOk result (λ text. HasTree show titles faults (bytes text))
+    → IfOk result (λ text. HasTreeOf show titles faults (bytes text))
 has_tree show titles faults functions read top lines listed tree sections after drawn off (Err e) bytes is_told width height same are shown below high at one two three says = tt
 has_tree show titles faults functions read top lines listed tree sections after drawn off (Ok text) bytes is_told width height same are shown below high at one two three says =
     let front = string_bytes listed.words in

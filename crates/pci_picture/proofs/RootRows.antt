@@ -5,8 +5,8 @@ use Rattle.std.specs.Option.{is_none, is_some}
 use Rattle.std.proofs.lemmas.Bool.{le-ltb, lt-ltb}
 use Rattle.std.proofs.lemmas.List.{append-nil, append_assoc, get_or-replicate, length-drop, length-take}
 use Rattle.pci_picture.specs.Roots.{AreBusesAbove, Listed, bus_above, listed_function, listed_functions}
-use Rattle.pci_picture.specs.Starts.{AreOnBus, functions_on}
-use Rattle.pci_picture.specs.Trees.{AreRootRows, AreRootsWritten, AreWritten, IsTreeText, TreePlace, down, has_function, is_tree_root, listed_on, no_bus, no_root, other_bus, root_bus, root_written}
+use Rattle.pci_picture.specs.Starts.{StandOnBus, functions_on}
+use Rattle.pci_picture.specs.Trees.{AreRootRows, AreRootsWritten, AreWritten, IsTreeText, TreePlace, down, any_listed, is_tree_root, listed_on, no_bus, no_root, other_bus, root_bus, root_written}
 use Rattle.pci_picture.specs.Walks.{AreMarked, WritesRoot}
 use Rattle.pci_picture.specs.declared.badge.Badge.{Badge}
 use Rattle.pci_picture.specs.declared.canvas.Canvas.{Canvas}
@@ -15,11 +15,11 @@ use Rattle.pci_picture.proofs.Trees.{on_listed}
 
 -- ---- whether a bus is a root
 
-some_listed : (functions : List Function) (begin end : ℕ) → begin ≤ end → length functions ≡ end - begin → has_function (listed_functions functions) ≡ ltb begin end
+some_listed : (functions : List Function) (begin end : ℕ) → begin ≤ end → length functions ≡ end - begin → any_listed (listed_functions functions) ≡ ltb begin end
 some_listed [] begin end up long = sym (le-ltb begin end (omega (arith, up, long)))
 some_listed (function ∷ functions) begin end up long = sym (lt-ltb begin end (omega (arith, up, long)))
 
-pub root_tested : (functions : List Function) (begin end bus : ℕ) (above : List (Option ℕ)) (marks : List Bool) (before : List ℕ) → bus < 256 → AreOnBus functions bus begin end
+pub root_tested : (functions : List Function) (begin end bus : ℕ) (above : List (Option ℕ)) (marks : List Bool) (before : List ℕ) → bus < 256 → StandOnBus functions bus begin end
     → AreBusesAbove (listed_functions functions) above → AreMarked marks before
     → (ltb begin end && is_none (get_or above bus None) && not (get_or marks bus false)) ≡ is_tree_root (listed_functions functions) before bus
 root_tested functions begin end bus above marks before small on are marked =
@@ -27,11 +27,11 @@ root_tested functions begin end bus above marks before small on are marked =
     let part = length-take (end - begin) (drop begin functions) in
     let behind = length-drop begin functions in
     let within = on.inside in
-    let some : has_function (listed_on bus (listed_functions functions)) ≡ ltb begin end =
-    ap has_function (sym (on_listed functions bus)) ∙ some_listed (functions_on bus functions) begin end on.rises (omega (arith, there, part, behind, within)) in
+    let some : any_listed (listed_on bus (listed_functions functions)) ≡ ltb begin end =
+    ap any_listed (sym (on_listed functions bus)) ∙ some_listed (functions_on bus functions) begin end on.rises (omega (arith, there, part, behind, within)) in
     ap (λ b. b && is_none (get_or above bus None) && not (get_or marks bus false)) (sym some)
-    ∙ ap (λ o. has_function (listed_on bus (listed_functions functions)) && is_none o && not (get_or marks bus false)) (are bus small)
-    ∙ ap (λ b. has_function (listed_on bus (listed_functions functions)) && is_none (bus_above (listed_functions functions) bus) && not b) (marked bus small)
+    ∙ ap (λ o. any_listed (listed_on bus (listed_functions functions)) && is_none o && not (get_or marks bus false)) (are bus small)
+    ∙ ap (λ b. any_listed (listed_on bus (listed_functions functions)) && is_none (bus_above (listed_functions functions) bus) && not b) (marked bus small)
 
 pub none_told : (bus : Option ℕ) (none : Bool) → is_some bus ≡ not none → none ≡ is_none bus
 none_told bus true is = sym (ap not is)

@@ -13,7 +13,7 @@ use Rattle.pci_picture.specs.Marks.{key_of_region, look_of_part, word_of_part}
 use Rattle.pci_picture.specs.Named.{words_of_buses}
 use Rattle.pci_picture.specs.Roots.{Listed}
 use Rattle.pci_picture.specs.Said.{lines_of_fault, said_lines}
-use Rattle.pci_picture.specs.Titles.{buses_if_listed, function_of_region, is_free, is_window, name_if_listed, said_below, said_of_function, said_of_window}
+use Rattle.pci_picture.specs.Titles.{buses_if_listed, function_of_region, says_free, says_window, name_if_listed, said_below, said_of_function, said_of_window}
 use Rattle.pci_picture.specs.contracts.region.Part.{the_type}
 use Rattle.pci_picture.specs.declared.faults.Fault.{Fault}
 use Rattle.pci_picture.specs.declared.faults.Faults.{Faults}
@@ -175,32 +175,32 @@ word_by_look words word no_bar no_pref = go (says (nth_word words 2) (codes "bar
     go false pref is = refl
 
 -- a part is free or a window where the third word of its line is
-pub part_free : (part : Part) (words : List (List ℕ)) → word_of_part part ≡ look_of_part words → sameb the_type part Free ≡ is_free words
+pub part_free : (part : Part) (words : List (List ℕ)) → word_of_part part ≡ look_of_part words → sameb the_type part Free ≡ says_free words
 part_free part words looks = free_by_word part ∙ ap (λ w. says w (codes "free")) looks ∙ word_by_look words (codes "free") refl refl
 
-pub part_window : (part : Part) (words : List (List ℕ)) → word_of_part part ≡ look_of_part words → sameb the_type part Window ≡ is_window words
+pub part_window : (part : Part) (words : List (List ℕ)) → word_of_part part ≡ look_of_part words → sameb the_type part Window ≡ says_window words
 part_window part words looks = window_by_word part ∙ ap (λ w. says w (codes "window")) looks ∙ word_by_look words (codes "window") refl refl
 
 -- ---- titles
 
 -- the lines of faults begin behind what is said of a window
-pub no_window : (words : List (List ℕ)) (old : List ℕ) (buses : Option Buses) → is_window words ≡ false → old ≡ (old ++ said_of_window words buses) ++ []
+pub no_window : (words : List (List ℕ)) (old : List ℕ) (buses : Option Buses) → says_window words ≡ false → old ≡ (old ++ said_of_window words buses) ++ []
 no_window words old buses other =
     sym (append-nil (old ++ said_of_window words buses) ∙ ap (λ b. old ++ (if b then 10 ∷ (codes "to " ++ words_of_buses buses) else [])) other ∙ append-nil old)
 
-pub window_put : (words : List (List ℕ)) (old between after : List ℕ) (buses : Option Buses) → is_window words ≡ true → between ≡ old ++ 10 ∷ codes "to "
+pub window_put : (words : List (List ℕ)) (old between after : List ℕ) (buses : Option Buses) → says_window words ≡ true → between ≡ old ++ 10 ∷ codes "to "
     → after ≡ between ++ words_of_buses buses → after ≡ (old ++ said_of_window words buses) ++ []
 window_put words old between after buses is to put =
     put ∙ ap (λ l. l ++ words_of_buses buses) to ∙ append_assoc old (10 ∷ codes "to ") (words_of_buses buses)
     ∙ sym (append-nil (old ++ said_of_window words buses) ∙ ap (λ b. old ++ (if b then 10 ∷ (codes "to " ++ words_of_buses buses) else [])) is)
 
-pub free_title : (functions : List Listed) (said : ℕ → List ℕ) (words : List (List ℕ)) (line title : List ℕ) → is_free words ≡ true → title ≡ line
+pub free_title : (functions : List Listed) (said : ℕ → List ℕ) (words : List (List ℕ)) (line title : List ℕ) → says_free words ≡ true → title ≡ line
     → title ≡ line ++ said_below functions said words
 free_title functions said words line title free is =
     is
     ∙ sym (ap (λ b. line ++ (if b then [] else 10 ∷ (said_of_function functions words ++ said (key_of_region words)))) free ∙ append-nil line)
 
-pub other_title : (functions : List Listed) (said : ℕ → List ℕ) (words : List (List ℕ)) (line name about first feed named title : List ℕ) → is_free words ≡ false
+pub other_title : (functions : List Listed) (said : ℕ → List ℕ) (words : List (List ℕ)) (line name about first feed named title : List ℕ) → says_free words ≡ false
     → name ≡ name_if_listed (function_of_region functions words)
     → about ≡ said_of_window words (buses_if_listed (function_of_region functions words)) ++ said (key_of_region words)
     → first ≡ line → feed ≡ first ++ 10 ∷ [] → named ≡ feed ++ name → title ≡ named ++ about → title ≡ line ++ said_below functions said words

@@ -11,7 +11,7 @@ use Rattle.pci_picture.specs.Lines.{is_feed}
 use Rattle.pci_picture.specs.Named.{title_from_line, with_titles}
 use Rattle.pci_picture.specs.Roots.{Listed, listed_function, listed_functions}
 use Rattle.pci_picture.specs.Slots.{bus_of_slot}
-use Rattle.pci_picture.specs.Starts.{AreOnBus, AreStarts, RiseBySlot, count_below, functions_on}
+use Rattle.pci_picture.specs.Starts.{StandOnBus, AreStarts, FunctionsRise, count_below, functions_on}
 use Rattle.pci_picture.specs.declared.function.Function.{Function}
 use Rattle.pci_picture.proofs.Named.{rises_titled, slots_of_line}
 
@@ -173,7 +173,7 @@ pub starts_kept : (functions named : List Function) (starts : List ℕ) → list
 starts_kept functions named starts same are bus small =
     are bus small ∙ below_listed functions bus ∙ ap (below (λ (f : Listed). bus_of_slot f.slot) bus) (sym same) ∙ sym (below_listed named bus)
 
-pub rise_of_listed : (functions : List Function) → IsNonDecreasingBy (λ (f : Listed). f.slot) (listed_functions functions) → RiseBySlot functions
+pub rise_of_listed : (functions : List Function) → IsNonDecreasingBy (λ (f : Listed). f.slot) (listed_functions functions) → FunctionsRise functions
 rise_of_listed functions rises i j d up inside =
     let long : length (listed_functions functions) ≡ length functions = length-map functions listed_function in
     let less = rises i j (listed_function d) up (omega (arith, inside, long)) in
@@ -187,11 +187,11 @@ bus_up : (one other : ℕ) → one ≤ other → other < 2 ^ 20 → bus_of_slot 
 unfolding bus_of_slot
 bus_up one other less low = omega (arith, less, low)
 
-buses_rise : (functions : List Function) → RiseBySlot functions → IsNonDecreasingBy bus_of_function functions
+buses_rise : (functions : List Function) → FunctionsRise functions → IsNonDecreasingBy bus_of_function functions
 buses_rise functions rises i j d up inside = bus_up (get_or functions i d).number (get_or functions j d).number (rises i j d up inside) (get_or functions j d).is_low
 
-pub on_bus_between : (functions : List Function) (starts : List ℕ) (bus begin end : ℕ) → bus < 256 → RiseBySlot functions → AreStarts functions starts
-    → begin ≡ get_or starts bus 0 → end ≡ get_or starts (bus + 1) 0 → AreOnBus functions bus begin end
+pub on_bus_between : (functions : List Function) (starts : List ℕ) (bus begin end : ℕ) → bus < 256 → FunctionsRise functions → AreStarts functions starts
+    → begin ≡ get_or starts bus 0 → end ≡ get_or starts (bus + 1) 0 → StandOnBus functions bus begin end
 on_bus_between functions starts bus begin end small rises are from to =
     let begin_is : begin ≡ count_below bus functions = from ∙ are bus (omega (arith, small)) in
     let end_is : end ≡ count_below (bus + 1) functions = to ∙ are (bus + 1) (omega (arith, small)) in

@@ -10,9 +10,9 @@ use Rattle.std.proofs.lemmas.List.Sums.{sum_by-append}
 use Rattle.pci_picture.specs.Roots.{listed_function, listed_functions, secondary_of}
 use Rattle.pci_picture.specs.Rows.{TreeRow, tree_row_text}
 use Rattle.pci_picture.specs.Slots.{bus_of_slot}
-use Rattle.pci_picture.specs.Starts.{AreOnBus, functions_on}
-use Rattle.pci_picture.specs.Trees.{AreRows, AreWritten, IsRowAt, TreePlace, bus_behind, down, if_undrawn, is_drawn, listed_on, no_row, none_written, one_row, row_written, rows_behind, steps_behind}
-use Rattle.pci_picture.specs.Walks.{AreMarked, IsBegun, IsNext, if_unmarked, left_between, left_of, place_of, unmarked_behind}
+use Rattle.pci_picture.specs.Starts.{StandOnBus, functions_on}
+use Rattle.pci_picture.specs.Trees.{AreTreeRows, AreWritten, IsRowAt, TreePlace, undrawn_behind, down, if_undrawn, is_drawn, listed_on, no_row, none_written, one_row, row_written, rows_behind, steps_behind}
+use Rattle.pci_picture.specs.Walks.{AreMarked, IsBusBegun, IsNextFunction, if_unmarked, left_between, left_of, place_of, unmarked_behind}
 use Rattle.pci_picture.specs.declared.badge.Badge.{Badge}
 use Rattle.pci_picture.specs.declared.function.Function.{Function}
 use Rattle.pci_picture.specs.declared.tree.Rest.{Rest}
@@ -32,7 +32,7 @@ written_more badges _ _ _ _ place row (row_written y end first above places text
 -- ---- the first function that is left
 
 pub next_there : (functions : List Function) (rest : Rest) (function : Function) → rest.next < rest.end → rest.next < length functions
-    → function ≡ get_or functions rest.next function → IsNext functions rest function
+    → function ≡ get_or functions rest.next function → IsNextFunction functions rest function
 next_there functions rest function some inside found =
     let more : rest.end - rest.next ≡ suc (rest.end - (rest.next + 1)) = omega (arith, some) in
     record {
@@ -96,9 +96,9 @@ module _ (marks : List Bool) (drawn : List ℕ) (long : length marks ≡ 256) (m
 -- some rows are followed by those of the functions that are left, the last begun bus first
 abbrev pub Fills : List Function → List ℕ → ℕ → List Rest → List ℕ → List TreePlace → Type 0
 Fills functions before root [] drawn rows =
-    AreRows (listed_functions functions) (root ∷ before) 0 (listed_on root (listed_functions functions)) rows drawn
+    AreTreeRows (listed_functions functions) (root ∷ before) 0 (listed_on root (listed_functions functions)) rows drawn
 Fills functions before root (rest ∷ rests) drawn rows =
-    (more : List TreePlace) (after : List ℕ) → AreRows (listed_functions functions) drawn (min rest.depth 12) (listed_functions (left_of functions rest)) more after
+    (more : List TreePlace) (after : List ℕ) → AreTreeRows (listed_functions functions) drawn (min rest.depth 12) (listed_functions (left_of functions rest)) more after
     → Fills functions before root rests after (rows ++ more)
 
 -- without its first function
@@ -106,43 +106,43 @@ abbrev pub behind_first : Rest → Rest
 behind_first rest = record { next = rest.next + 1; end = rest.end; depth = rest.depth }
 
 module _ (functions : List Function) (before : List ℕ) (root : ℕ) where
-  pub fills_begin : (rest : Rest) → AreOnBus functions root rest.next rest.end → rest.depth ≡ 0
+  pub fills_begin : (rest : Rest) → StandOnBus functions root rest.next rest.end → rest.depth ≡ 0
       → Fills functions before root (rest ∷ []) (root ∷ before) []
   fills_begin rest on deep more after are =
-      subst (λ n. AreRows (listed_functions functions) (root ∷ before) n (listed_on root (listed_functions functions)) more after) (ap (λ n. min n 12) deep)
-      (subst (λ l. AreRows (listed_functions functions) (root ∷ before) (min rest.depth 12) l more after) (ap listed_functions on.all ∙ on_listed functions root) are)
+      subst (λ n. AreTreeRows (listed_functions functions) (root ∷ before) n (listed_on root (listed_functions functions)) more after) (ap (λ n. min n 12) deep)
+      (subst (λ l. AreTreeRows (listed_functions functions) (root ∷ before) (min rest.depth 12) l more after) (ap listed_functions on.all ∙ on_listed functions root) are)
 
   fills_none : (rest : Rest) (rests : List Rest) (drawn : List ℕ) (rows : List TreePlace) → left_of functions rest ≡ []
       → Fills functions before root (rest ∷ rests) drawn rows → Fills functions before root rests drawn rows
   fills_none rest rests drawn rows empty fills =
       subst (Fills functions before root rests drawn) (append-nil rows)
       (fills [] drawn
-      (subst (λ l. AreRows (listed_functions functions) drawn (min rest.depth 12) (listed_functions l) [] drawn) (sym empty) (no_row drawn (min rest.depth 12))))
+      (subst (λ l. AreTreeRows (listed_functions functions) drawn (min rest.depth 12) (listed_functions l) [] drawn) (sym empty) (no_row drawn (min rest.depth 12))))
 
-  fills_next : (rest : Rest) (rests : List Rest) (drawn : List ℕ) (rows : List TreePlace) (function : Function) → IsNext functions rest function
-      → bus_behind drawn (listed_function function) ≡ None → Fills functions before root (rest ∷ rests) drawn rows
+  fills_next : (rest : Rest) (rests : List Rest) (drawn : List ℕ) (rows : List TreePlace) (function : Function) → IsNextFunction functions rest function
+      → undrawn_behind drawn (listed_function function) ≡ None → Fills functions before root (rest ∷ rests) drawn rows
       → Fills functions before root (behind_first rest ∷ rests) drawn (rows ++ place_of function rest.depth ∷ [])
   fills_next rest rests drawn rows function next none fills more after are =
       let place = place_of function rest.depth in
       subst (Fills functions before root rests after) (sym (append_assoc rows (place ∷ []) more))
       (fills (place ∷ more) after
-      (subst (λ l. AreRows (listed_functions functions) drawn (min rest.depth 12) (listed_functions l) (place ∷ more) after) (sym next.splits)
+      (subst (λ l. AreTreeRows (listed_functions functions) drawn (min rest.depth 12) (listed_functions l) (place ∷ more) after) (sym next.splits)
       (one_row drawn after (min rest.depth 12) (listed_function function) (listed_functions (left_between functions (rest.next + 1) rest.end)) more none are)))
 
-  fills_begun : (rest one : Rest) (rests : List Rest) (drawn : List ℕ) (rows : List TreePlace) (function : Function) (bus : ℕ) → IsNext functions rest function
-      → bus_behind drawn (listed_function function) ≡ Some bus → AreOnBus functions bus one.next one.end → one.depth ≡ min (rest.depth + 1) (2 ^ 64 - 1)
+  fills_begun : (rest one : Rest) (rests : List Rest) (drawn : List ℕ) (rows : List TreePlace) (function : Function) (bus : ℕ) → IsNextFunction functions rest function
+      → undrawn_behind drawn (listed_function function) ≡ Some bus → StandOnBus functions bus one.next one.end → one.depth ≡ min (rest.depth + 1) (2 ^ 64 - 1)
       → Fills functions before root (rest ∷ rests) drawn rows
       → Fills functions before root (one ∷ behind_first rest ∷ rests) (bus ∷ drawn) (rows ++ place_of function rest.depth ∷ [])
   fills_begun rest one rests drawn rows function bus next some on deep fills behind between below more after are =
       let place = place_of function rest.depth in
       let steps : min one.depth 12 ≡ steps_behind (min rest.depth 12) = omega (arith, deep) in
-      let stands : AreRows (listed_functions functions) (bus ∷ drawn) (steps_behind (min rest.depth 12)) (listed_on bus (listed_functions functions)) behind between =
-      subst (λ n. AreRows (listed_functions functions) (bus ∷ drawn) n (listed_on bus (listed_functions functions)) behind between) steps
-      (subst (λ l. AreRows (listed_functions functions) (bus ∷ drawn) (min one.depth 12) l behind between) (ap listed_functions on.all ∙ on_listed functions bus) below) in
+      let stands : AreTreeRows (listed_functions functions) (bus ∷ drawn) (steps_behind (min rest.depth 12)) (listed_on bus (listed_functions functions)) behind between =
+      subst (λ n. AreTreeRows (listed_functions functions) (bus ∷ drawn) n (listed_on bus (listed_functions functions)) behind between) steps
+      (subst (λ l. AreTreeRows (listed_functions functions) (bus ∷ drawn) (min one.depth 12) l behind between) (ap listed_functions on.all ∙ on_listed functions bus) below) in
       subst (Fills functions before root rests after)
       (sym (append_assoc (rows ++ place ∷ []) behind more ∙ append_assoc rows (place ∷ []) (behind ++ more)))
       (fills (place ∷ (behind ++ more)) after
-      (subst (λ l. AreRows (listed_functions functions) drawn (min rest.depth 12) (listed_functions l) (place ∷ (behind ++ more)) after) (sym next.splits)
+      (subst (λ l. AreTreeRows (listed_functions functions) drawn (min rest.depth 12) (listed_functions l) (place ∷ (behind ++ more)) after) (sym next.splits)
       (rows_behind drawn between after (min rest.depth 12) bus (listed_function function) (listed_functions (left_between functions (rest.next + 1) rest.end)) behind more some stands are)))
 
 -- ---- rows that were drawn below a root, and what is left
@@ -159,7 +159,7 @@ pub record IsUnderWay (functions : List Function) (badges : List Badge) (before 
 
 module _ (functions : List Function) (badges : List Badge) (before : List ℕ) (root top : ℕ) (marks : List Bool) (long : length marks ≡ 256) (y : ℕ) (old now : List ℕ) where
   pub way_begins : (rest : Rest) (was : List Bool) → AreMarked was before → length was ≡ 256 → root < 256 → marks ≡ set was root true → y ≡ top → now ≡ old
-      → AreOnBus functions root rest.next rest.end → rest.depth ≡ 0
+      → StandOnBus functions root rest.next rest.end → rest.depth ≡ 0
       → IsUnderWay functions badges before root top (reverse ([] ++ rest ∷ [])) marks y old now
   way_begins rest was marked size small is at same on deep = record {
     rows = [];
@@ -186,9 +186,9 @@ module _ (functions : List Function) (badges : List Badge) (before : List ℕ) (
   }
 
   module _ (rest : Rest) (rests after : List Rest) (function : Function) (row : TreeRow) (marked_now : List Bool) (words : List ℕ)
-      (next : IsNext functions rest function) (stands : IsRowAt badges y (place_of function rest.depth) row) (adds : words ≡ now ++ tree_row_text row)
+      (next : IsNextFunction functions rest function) (stands : IsRowAt badges y (place_of function rest.depth) row) (adds : words ≡ now ++ tree_row_text row)
       (same : unmarked_behind marks function ≡ None → (after ≡ rests ++ behind_first rest ∷ []) × (marked_now ≡ marks))
-      (begun : (bus : ℕ) → unmarked_behind marks function ≡ Some bus → IsBegun functions bus rest.depth (rests ++ behind_first rest ∷ []) after marks marked_now) where
+      (begun : (bus : ℕ) → unmarked_behind marks function ≡ Some bus → IsBusBegun functions bus rest.depth (rests ++ behind_first rest ∷ []) after marks marked_now) where
     way_on : (bus : Option ℕ) → unmarked_behind marks function ≡ bus
         → IsUnderWay functions badges before root top (reverse (rests ++ rest ∷ [])) marks y old now
         → IsUnderWay functions badges before root top (reverse after) marked_now (down y 14) old words
@@ -273,7 +273,7 @@ module _ (functions : List Function) (marks : List Bool) (rests : List Rest) (re
       omega (arith, sum, less, some)
 
   less_begun : (bus : ℕ) (after : List Rest) (now : List Bool) → rest.next < rest.end → length marks ≡ 256
-      → IsBegun functions bus rest.depth (rests ++ behind_first rest ∷ []) after marks now
+      → IsBusBegun functions bus rest.depth (rests ++ behind_first rest ∷ []) after marks now
       → work_left functions after now < work_left functions (rests ++ rest ∷ []) marks
   less_begun bus after now some long begun =
       let one = begun.rest in
@@ -294,7 +294,7 @@ module _ (functions : List Function) (marks : List Bool) (rests : List Rest) (re
 
   pub less_on : (function : Function) (after : List Rest) (now : List Bool) → rest.next < rest.end → length marks ≡ 256
       → (unmarked_behind marks function ≡ None → (after ≡ rests ++ behind_first rest ∷ []) × (now ≡ marks))
-      → ((bus : ℕ) → unmarked_behind marks function ≡ Some bus → IsBegun functions bus rest.depth (rests ++ behind_first rest ∷ []) after marks now)
+      → ((bus : ℕ) → unmarked_behind marks function ≡ Some bus → IsBusBegun functions bus rest.depth (rests ++ behind_first rest ∷ []) after marks now)
       → (bus : Option ℕ) → unmarked_behind marks function ≡ bus → work_left functions after now < work_left functions (rests ++ rest ∷ []) marks
   less_on function after now some long same begun None none =
       subst (λ m. work_left functions after m < work_left functions (rests ++ rest ∷ []) marks) (sym (same none).1)
@@ -307,7 +307,7 @@ none_left (item ∷ items) none = absurd (omega (arith, none))
 
 -- the first function that is left, as it is found
 pub next_found : (functions all : List Function) (rest : Rest) (result : Option (Bor Function)) → rest.next < rest.end → all ≡ functions → IsItemAt all rest.next result
-    → IfSome result (λ function. IsNext functions rest function.now)
+    → IfSome result (λ function. IsNextFunction functions rest function.now)
 next_found functions all rest None some same at = tt
 next_found functions all rest (Some function) some same at =
     next_there functions rest function.now some (subst (λ l. rest.next < length l) same (ltb-true rest.next (length all) (sym at.0))) (at.1 ∙ ap (λ l. get_or l rest.next function.now) same)

@@ -105,22 +105,22 @@ name_of_function function =
     else class_name function.class ++ codes " " ++ function.vendor ++ codes ":" ++ function.device
 
 -- the name of a function stands among some names where the function tells
-pub record IsNamedIn (names : List ℕ) (function : Function) : Type 0 where
+pub record HasNameIn (names : List ℕ) (function : Function) : Type 0 where
   pub rises : function.name.begin ≤ function.name.end
   pub inside : function.name.end ≤ length names
   pub is : slice_range names function.name.begin function.name.end ≡ name_of_function (listed_function function)
 
 abbrev pub AreNamedIn : List ℕ → List Function → Type 0
-AreNamedIn names functions = All (IsNamedIn names) functions
+AreNamedIn names functions = All (HasNameIn names) functions
 
 -- the first function with a slot number
-abbrev pub function_at : List Listed → ℕ → Option Listed
-function_at functions slot = find (λ (function : Listed). function.slot == slot) functions
+abbrev pub function_listed : List Listed → ℕ → Option Listed
+function_listed functions slot = find (λ (function : Listed). function.slot == slot) functions
 
 -- ---- titles
 
-abbrev pub titled : Listed → List ℕ → Listed
-titled function title = record {
+abbrev pub function_titled : Listed → List ℕ → Listed
+function_titled function title = record {
   slot = function.slot;
   word = function.word;
   vendor = function.vendor;
@@ -135,7 +135,7 @@ titled function title = record {
 abbrev pub with_title : ℕ → List ℕ → List Listed → List Listed
 with_title slot title [] = []
 with_title slot title (function ∷ functions) =
-    if function.slot == slot then titled function title ∷ functions else function ∷ with_title slot title functions
+    if function.slot == slot then function_titled function title ∷ functions else function ∷ with_title slot title functions
 
 -- a line `bb:dd.f TITLE`
 unfoldable pub is_title_line : List ℕ → Bool

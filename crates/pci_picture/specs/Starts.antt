@@ -6,8 +6,8 @@ use Rattle.pci_picture.specs.Slots.{bus_of_slot}
 use Rattle.pci_picture.specs.declared.function.Function.{Function}
 
 -- the slots of functions rise
-abbrev pub RiseBySlot : List Function → Type 0
-RiseBySlot functions = IsNonDecreasingBy (λ (function : Function). function.number) functions
+abbrev pub FunctionsRise : List Function → Type 0
+FunctionsRise functions = IsNonDecreasingBy (λ (function : Function). function.number) functions
 
 -- the functions on a bus
 abbrev pub functions_on : ℕ → List Function → List Function
@@ -22,7 +22,7 @@ abbrev pub AreStarts : List Function → List ℕ → Type 0
 AreStarts functions starts = (bus : ℕ) → bus < 257 → slice_index starts bus ≡ count_below bus functions
 
 -- the functions from an index up to another are those on a bus
-pub record AreOnBus (functions : List Function) (bus begin end : ℕ) : Type 0 where
+pub record StandOnBus (functions : List Function) (bus begin end : ℕ) : Type 0 where
   pub rises : begin ≤ end
   pub inside : end ≤ length functions
   pub all : take (end - begin) (drop begin functions) ≡ functions_on bus functions

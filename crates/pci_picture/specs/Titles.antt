@@ -2,21 +2,21 @@
 use Rattle.std.specs.Prelude.{ℕ, Bool, Option, Some, None, List, [], ◌∷◌, ◌++◌, codes, if◌then◌else◌}
 use Rattle.pci_picture.specs.Lines.{nth_word, says}
 use Rattle.pci_picture.specs.Marks.{key_of_region}
-use Rattle.pci_picture.specs.Named.{function_at, name_of_function, words_of_buses}
+use Rattle.pci_picture.specs.Named.{function_listed, name_of_function, words_of_buses}
 use Rattle.pci_picture.specs.Roots.{Listed}
 use Rattle.pci_picture.specs.Slots.{slot_of_key}
 use Rattle.pci_picture.specs.declared.function.Buses.{Buses}
 
 -- the words of a line are those of free addresses, or of a window
-abbrev pub is_free : List (List ℕ) → Bool
-is_free words = says (nth_word words 2) (codes "free")
+abbrev pub says_free : List (List ℕ) → Bool
+says_free words = says (nth_word words 2) (codes "free")
 
-abbrev pub is_window : List (List ℕ) → Bool
-is_window words = says (nth_word words 2) (codes "window")
+abbrev pub says_window : List (List ℕ) → Bool
+says_window words = says (nth_word words 2) (codes "window")
 
 -- the function of a line is the one with the slot of its key. Free addresses have none
 abbrev pub function_of_region : List Listed → List (List ℕ) → Option Listed
-function_of_region functions words = if is_free words then None else function_at functions (slot_of_key (key_of_region words))
+function_of_region functions words = if says_free words then None else function_listed functions (slot_of_key (key_of_region words))
 
 -- the name of a function, or nothing where it isn't listed
 abbrev pub name_if_listed : Option Listed → List ℕ
@@ -30,7 +30,7 @@ buses_if_listed (Some function) = function.buses
 
 -- the title of a window has a line more, which tells the buses behind it
 abbrev pub said_of_window : List (List ℕ) → Option Buses → List ℕ
-said_of_window words buses = if is_window words then 10 ∷ (codes "to " ++ words_of_buses buses) else []
+said_of_window words buses = if says_window words then 10 ∷ (codes "to " ++ words_of_buses buses) else []
 
 -- a title says the name of the region's function, and below it the buses behind a window
 abbrev pub said_of_function : List Listed → List (List ℕ) → List ℕ
@@ -41,4 +41,4 @@ said_of_function functions words =
 -- Below free addresses stands nothing
 abbrev pub said_below : List Listed → (ℕ → List ℕ) → List (List ℕ) → List ℕ
 said_below functions said words =
-    if is_free words then [] else 10 ∷ (said_of_function functions words ++ said (key_of_region words))
+    if says_free words then [] else 10 ∷ (said_of_function functions words ++ said (key_of_region words))

@@ -15,7 +15,7 @@ abbrev pub tree_top : List FaultSaid → ℕ
 tree_top faults = 94 + 14 * length (lines_within 40 faults)
 
 -- a picture has among its words the tree of the functions that `show` lists, with the faults of a text
-pub record HasTree (show titles faults text : List ℕ) : Type 0 where
+pub record HasTreeOf (show titles faults text : List ℕ) : Type 0 where
   pub functions : List Listed
   pub listed : AreFunctionsTitled show titles functions
   pub badges : List Badge

@@ -34,33 +34,33 @@ if_undrawn drawn None = None
 if_undrawn drawn (Some bus) = if is_drawn drawn bus then None else Some bus
 
 -- the secondary bus of a bridge, where it was not drawn before
-abbrev pub bus_behind : List ℕ → Listed → Option ℕ
-bus_behind drawn function = if_undrawn drawn (secondary_of function.buses)
+abbrev pub undrawn_behind : List ℕ → Listed → Option ℕ
+undrawn_behind drawn function = if_undrawn drawn (secondary_of function.buses)
 
 -- the rows of some of the functions that are listed, so many steps to the right, in their order: which buses were drawn before
 -- these rows, and which ones were drawn then
-pub data AreRows (functions : List Listed) : List ℕ → ℕ → List Listed → List TreePlace → List ℕ → Type 0 where
-  no_row : (drawn : List ℕ) (steps : ℕ) → AreRows functions drawn steps [] [] drawn
+pub data AreTreeRows (functions : List Listed) : List ℕ → ℕ → List Listed → List TreePlace → List ℕ → Type 0 where
+  no_row : (drawn : List ℕ) (steps : ℕ) → AreTreeRows functions drawn steps [] [] drawn
   -- a function that is no bridge, or whose secondary bus was drawn before
   one_row : (drawn after : List ℕ) (steps : ℕ) (function : Listed) (rest : List Listed) (rows : List TreePlace)
-      → bus_behind drawn function ≡ None
-      → AreRows functions drawn steps rest rows after
-      → AreRows functions drawn steps (function ∷ rest) (tree_place function steps ∷ rows) after
+      → undrawn_behind drawn function ≡ None
+      → AreTreeRows functions drawn steps rest rows after
+      → AreTreeRows functions drawn steps (function ∷ rest) (tree_place function steps ∷ rows) after
   -- below a bridge stand the rows of all functions on its secondary bus
   rows_behind : (drawn between after : List ℕ) (steps bus : ℕ) (function : Listed) (rest : List Listed) (behind rows : List TreePlace)
-      → bus_behind drawn function ≡ Some bus
-      → AreRows functions (bus ∷ drawn) (steps_behind steps) (listed_on bus functions) behind between
-      → AreRows functions between steps rest rows after
-      → AreRows functions drawn steps (function ∷ rest) (tree_place function steps ∷ (behind ++ rows)) after
+      → undrawn_behind drawn function ≡ Some bus
+      → AreTreeRows functions (bus ∷ drawn) (steps_behind steps) (listed_on bus functions) behind between
+      → AreTreeRows functions between steps rest rows after
+      → AreTreeRows functions drawn steps (function ∷ rest) (tree_place function steps ∷ (behind ++ rows)) after
 
-abbrev pub has_function : List Listed → Bool
-has_function [] = false
-has_function (function ∷ functions) = true
+abbrev pub any_listed : List Listed → Bool
+any_listed [] = false
+any_listed (function ∷ functions) = true
 
 -- a bus with functions, below no other bus and not drawn before
 abbrev pub is_tree_root : List Listed → List ℕ → ℕ → Bool
 is_tree_root functions drawn bus =
-    has_function (listed_on bus functions) && is_none (bus_above functions bus) && not (is_drawn drawn bus)
+    any_listed (listed_on bus functions) && is_none (bus_above functions bus) && not (is_drawn drawn bus)
 
 -- of each root among some buses its rows
 pub data AreRootRows (functions : List Listed) : List ℕ → List ℕ → List (List TreePlace) → Type 0 where
@@ -71,7 +71,7 @@ pub data AreRootRows (functions : List Listed) : List ℕ → List ℕ → List 
       → AreRootRows functions drawn (bus ∷ buses) roots
   root_bus : (drawn between : List ℕ) (bus : ℕ) (buses : List ℕ) (rows : List TreePlace) (roots : List (List TreePlace))
       → is_tree_root functions drawn bus ≡ true
-      → AreRows functions (bus ∷ drawn) 0 (listed_on bus functions) rows between
+      → AreTreeRows functions (bus ∷ drawn) 0 (listed_on bus functions) rows between
       → AreRootRows functions between buses roots
       → AreRootRows functions drawn (bus ∷ buses) (rows ∷ roots)
 

@@ -3,8 +3,8 @@ use Rattle.std.specs.Prelude.{◌≡◌, ◌<◌, ◌+◌, ◌-◌, ◌^◌, ℕ
 use Rattle.pci_picture.specs.Canvases.{WritesBytes}
 use Rattle.pci_picture.specs.Roots.{Listed, listed_function, secondary_of}
 use Rattle.pci_picture.specs.Rows.{TreeRow, tree_row_text}
-use Rattle.pci_picture.specs.Starts.{AreOnBus}
-use Rattle.pci_picture.specs.Trees.{AreRows, AreWritten, IsRowAt, IsTreeText, TreePlace, down, is_drawn, listed_on, tree_place}
+use Rattle.pci_picture.specs.Starts.{StandOnBus}
+use Rattle.pci_picture.specs.Trees.{AreTreeRows, AreWritten, IsRowAt, IsTreeText, TreePlace, down, is_drawn, listed_on, tree_place}
 use Rattle.pci_picture.specs.declared.badge.Badge.{Badge}
 use Rattle.pci_picture.specs.declared.canvas.Canvas.{Canvas}
 use Rattle.pci_picture.specs.declared.function.Function.{Function}
@@ -27,7 +27,7 @@ abbrev pub left_of : List Function → Rest → List Function
 left_of functions rest = left_between functions rest.next rest.end
 
 -- the first function that is left, and those behind it
-pub record IsNext (functions : List Function) (rest : Rest) (function : Function) : Type 0 where
+pub record IsNextFunction (functions : List Function) (rest : Rest) (function : Function) : Type 0 where
   pub some : rest.next < rest.end
   pub splits : left_of functions rest ≡ function ∷ left_between functions (rest.next + 1) rest.end
 
@@ -44,10 +44,10 @@ abbrev pub unmarked_behind : List Bool → Function → Option ℕ
 unmarked_behind marks function = if_unmarked marks (secondary_of function.buses)
 
 -- a bus is marked, and its functions are left, one step deeper
-pub record IsBegun (functions : List Function) (bus depth : ℕ) (old new : List Rest) (marks now : List Bool) : Type 0 where
+pub record IsBusBegun (functions : List Function) (bus depth : ℕ) (old new : List Rest) (marks now : List Bool) : Type 0 where
   pub rest : Rest
   pub put : new ≡ old ++ rest ∷ []
-  pub on : AreOnBus functions bus rest.next rest.end
+  pub on : StandOnBus functions bus rest.next rest.end
   pub deep : rest.depth ≡ min (depth + 1) (2 ^ 64 - 1)
   pub marked : now ≡ slice_set marks bus true
   pub low : bus < 256
@@ -59,7 +59,7 @@ pub record WritesBus {A : Type 0} (functions : List Listed) (badges : List Badge
   pub rows : List TreePlace
   pub text : List ℕ
   pub now : List ℕ
-  pub are : AreRows functions (root ∷ drawn) 0 (listed_on root functions) rows now
+  pub are : AreTreeRows functions (root ∷ drawn) 0 (listed_on root functions) rows now
   pub marked : AreMarked marks now
   pub written : AreWritten badges top rows text end
   pub writes : WritesBytes text before after

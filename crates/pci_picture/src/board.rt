@@ -6,13 +6,13 @@ ghost use Rattle.pci_picture.specs.Badges.{AreBadgesOf};
 ghost use Rattle.pci_picture.specs.Boxes.{titled_line};
 ghost use Rattle.pci_picture.specs.Depths.{AreChained};
 ghost use Rattle.pci_picture.specs.Lines.{is_feed, words_in_line};
-ghost use Rattle.pci_picture.specs.Named.{AreFunctionsTitled, AreNamedIn, function_at, name_of_function};
+ghost use Rattle.pci_picture.specs.Named.{AreFunctionsTitled, AreNamedIn, function_listed, name_of_function};
 ghost use Rattle.pci_picture.specs.Maps.{IsReadOf};
 ghost use Rattle.pci_picture.specs.Marks.{AreFaultsOf};
 ghost use Rattle.pci_picture.specs.Roots.{AreBusesAbove, AreRoots, go_up, listed_function, listed_functions};
 ghost use Rattle.pci_picture.specs.Said.{AreSaidOf, faults_said, lines_of_fault, said_by, said_lines};
 ghost use Rattle.pci_picture.specs.FaultLines.{faults_read};
-ghost use Rattle.pci_picture.specs.Starts.{AreOnBus, AreStarts, RiseBySlot};
+ghost use Rattle.pci_picture.specs.Starts.{StandOnBus, AreStarts, FunctionsRise};
 ghost use Rattle.pci_picture.specs.Titles.{buses_if_listed, function_of_region, name_if_listed, said_below, said_of_window};
 
 use super::faults::{Fault, Faults};
@@ -48,7 +48,7 @@ pub struct Board<'a, A: Allocator> {
     names: Words<A>,
     pub map: Map<'a, A>,
     pub faults: Faults<'a, A>,
-    ghost sorted: { RiseBySlot functions.items },
+    ghost sorted: { FunctionsRise functions.items },
     ghost begins: { AreStarts functions.items starts },
     // each function has its name among them
     ghost named: { AreNamedIn names.bytes.items functions.items },
@@ -130,8 +130,8 @@ fn root_from(above: &[Option<u8>; 256], bus: u8) -> u8
 
 /// The function of a slot's number, of functions by rising slot.
 fn find<'f, 'a>(functions: &'f [Function<'a>], number: u32) -> Option<&'f Function<'a>>
-    ensures at { RiseBySlot functions.now → option_map (λ function. listed_function function.now) result
-        ≡ function_at (listed_functions functions.now) number }
+    ensures at { FunctionsRise functions.now → option_map (λ function. listed_function function.now) result
+        ≡ function_listed (listed_functions functions.now) number }
     ensures own { IfSome result (λ function. Contains functions.now function.now) }
 {
     let index = functions.partition_point(|function| function.number < number);
@@ -170,7 +170,7 @@ impl<'a, A: Allocator + Copy> Board<'a, A> {
 
     /// The index of the first function on a bus, and the one behind its last.
     pub fn on_bus(&self, bus: u8) -> (usize, usize)
-        ensures { AreOnBus self.now.functions.items bus result.0 result.1 }
+        ensures { StandOnBus self.now.functions.items bus result.0 result.1 }
     {
         let index = bus as usize;
         (self.starts[index], self.starts[index + 1])

@@ -12,7 +12,7 @@ ghost use Rattle.pci_picture.specs.Maps.{AreMembersOf};
 ghost use Rattle.pci_picture.specs.Members.{AreIndentedBySection, AreSortedBySection};
 ghost use Rattle.pci_picture.specs.Roots.{IsLostByRoot, listed_functions};
 ghost use Rattle.pci_picture.specs.Sides.{HasSides};
-ghost use Rattle.pci_picture.specs.TreePictures.{HasTree};
+ghost use Rattle.pci_picture.specs.TreePictures.{HasTreeOf};
 ghost use Rattle.pci_picture.specs.Whole.{IsPictureText};
 
 use super::board::{Board, Texts};
@@ -289,7 +289,7 @@ pub fn picture_of<A: Allocator + Copy>(
     ensures listed { IfOk result (λ text. HasFaultList texts.entry.now.faults.now (string_bytes text)) }
     // below the list stands the tree of the functions that `show` lists: for each its row, in which order, how far right, at which
     // height and in which look, with the numbers of the faults that show beside it
-    ensures tree { IfOk result (λ text. HasTree texts.entry.now.show.now texts.entry.now.titles.now texts.entry.now.faults.now
+    ensures tree { IfOk result (λ text. HasTreeOf texts.entry.now.show.now texts.entry.now.titles.now texts.entry.now.faults.now
         (string_bytes text)) }
 {
     let board = Board::read(alloc, texts)?;

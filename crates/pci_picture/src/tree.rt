@@ -4,9 +4,9 @@ ghost use Rattle.pci_picture.specs.Badges.{ShowBadges, badges_beside};
 ghost use Rattle.pci_picture.specs.Ranks.{badge_word};
 ghost use Rattle.pci_picture.specs.Canvases.{AddsToCanvas, WritesBytes};
 ghost use Rattle.pci_picture.specs.Roots.{AreBusesAbove, listed_functions};
-ghost use Rattle.pci_picture.specs.Starts.{AreOnBus};
+ghost use Rattle.pci_picture.specs.Starts.{StandOnBus};
 ghost use Rattle.pci_picture.specs.Trees.{class_of_row, is_tree_root};
-ghost use Rattle.pci_picture.specs.Walks.{AreMarked, IsBegun, IsNext, WritesBus, WritesRoot, WritesRow, WritesTree, left_of, place_of, unmarked_behind};
+ghost use Rattle.pci_picture.specs.Walks.{AreMarked, IsBusBegun, IsNextFunction, WritesBus, WritesRoot, WritesRow, WritesTree, left_of, place_of, unmarked_behind};
 
 use super::badge::Badge;
 use super::board::{Board, buses_above};
@@ -39,7 +39,7 @@ struct Rest {
 
 /// Which functions are on a bus.
 fn on_bus<A: Allocator + Copy>(board: &Board<'_, A>, bus: u8, depth: u64) -> Rest
-    ensures on { AreOnBus board.now.functions.items bus result.next result.end }
+    ensures on { StandOnBus board.now.functions.items bus result.next result.end }
     ensures deep { result.depth ≡ depth }
 {
     let (next, end) = board.on_bus(bus);
@@ -181,7 +181,7 @@ fn next_of<'b, 'a, A: Allocator + Copy>(
     rest: Rest,
 ) -> Option<&'b Function<'a>>
     ensures none { result ≡ None → left_of board.now.functions.items rest ≡ [] }
-    ensures some { IfSome result (λ function. IsNext board.now.functions.items rest function.now) }
+    ensures some { IfSome result (λ function. IsNextFunction board.now.functions.items rest function.now) }
 {
     if rest.end <= rest.next {
         return None;
@@ -201,7 +201,7 @@ fn push_behind<A: Allocator + Copy>(
     ensures none { unmarked_behind drawn.old function.now ≡ None
         → OnOk result ((rests.new.items ≡ rests.old.items) × (drawn.new ≡ drawn.old)) }
     ensures some { (bus : ℕ) → unmarked_behind drawn.old function.now ≡ Some bus → OnOk result
-        (IsBegun board.now.functions.items bus depth rests.old.items rests.new.items drawn.old drawn.new) }
+        (IsBusBegun board.now.functions.items bus depth rests.old.items rests.new.items drawn.old drawn.new) }
 {
     if let Some(buses) = function.buses {
         let behind = buses.secondary as usize;

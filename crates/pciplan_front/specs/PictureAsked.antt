@@ -8,7 +8,7 @@ use Rattle.pci_dump.specs.Begun.{AppendsBeginning}
 use Rattle.pci_check.specs.Audits.{IsDumpOf}
 use Rattle.pci_picture.specs.ByRoots.{IsDrawnByRootsOfShow}
 use Rattle.pci_picture.specs.FaultLines.{HasFaultList}
-use Rattle.pci_picture.specs.TreePictures.{HasTree}
+use Rattle.pci_picture.specs.TreePictures.{HasTreeOf}
 use Rattle.pci_picture.specs.Whole.{IsPictureText}
 use Rattle.pciplan_cli.specs.CarriedOut.{TextsByPath}
 use Rattle.pciplan_cli.specs.Invocations.{IsInvocationOf, HasBadWords}
@@ -48,7 +48,7 @@ pub record IsDrawn (beside : Beside) (dump probe : List Block) (answer : Answer)
   pub picture : IsPictureText text
   pub draws : IsDrawnByRootsOfShow shown.text (titles_text dump) map.text faults.text text
   pub listed : HasFaultList faults.text text
-  pub tree : HasTree shown.text (titles_text dump) faults.text text
+  pub tree : HasTreeOf shown.text (titles_text dump) faults.text text
   pub line : answer ≡ done_with map.remarks text
 
 -- the line `no ..` of the map, where there is none

@@ -3,7 +3,7 @@ use Rattle.std.specs.List.Sorted.{IsPartitionPoint}
 use Rattle.std.proofs.lemmas.List.{get_or_default, take_rest}
 use Rattle.std.proofs.lemmas.List.Sorted.{IsPartitionPoint-from_clause, IsPartitionedBy-ltb}
 use Rattle.pci_picture.proofs.Named.{is_titled, numbers_rise, title_given, title_missed}
-use Rattle.pci_picture.specs.Named.{titled}
+use Rattle.pci_picture.specs.Named.{function_titled}
 use Rattle.pci_picture.specs.Roots.{listed_function}
 use Rattle.pci_picture.specs.declared.function.Function.{Function}
 use Rattle.pci_picture.proofs.listing.give_title.Goals as goal
@@ -19,7 +19,7 @@ returns-then-functions-index c =
     (IsPartitionPoint-from_clause (λ x. ltb x.number c.in-Some.number) functions index c.partition_point-index.ensures.partitioned
     (IsPartitionedBy-ltb (λ x. x.number) functions c.in-Some.number (numbers_rise functions c.requires)) (λ a r f q. search rules))
     (ap (λ f. f.number) (get_or_default functions index c.index-functions-index-then-functions-index.result c.index-functions-index.result c.if-index-functions.true)
-    ∙ c.if-functions-index.true) (ap (titled (listed_function old)) (take_rest c.args.line.now 8))
+    ∙ c.if-functions-index.true) (ap (function_titled (listed_function old)) (take_rest c.args.line.now 8))
 
 pub returns-else-index-functions : goal.returns-else-index-functions
 returns-else-index-functions c =

@@ -1,7 +1,7 @@
 use Rattle.std.proofs.Common.{◌<◌, ◌++◌, [], ◌∷◌, ap, arith, refl, reverse, set, subst, sym, true, ◌∙◌}
 use Rattle.std.specs.String.{string_bytes}
 use Rattle.std.proofs.lemmas.List.{length-set}
-use Rattle.pci_picture.specs.Walks.{IsBegun, unmarked_behind}
+use Rattle.pci_picture.specs.Walks.{IsBusBegun, unmarked_behind}
 use Rattle.pci_picture.proofs.Boxes.{then_draws, unchanged}
 use Rattle.pci_picture.proofs.Trees.{IsUnderWay, less_on, none_left, way_begins, way_goes_on, way_skips, work_left}
 use Rattle.pci_picture.proofs.tree.draw_bus.Goals as goal
@@ -47,7 +47,7 @@ loop-rest-smaller g c =
     subst (λ l. work_left functions c.push_behind.new.rests.items c.push_behind.new.drawn < work_left functions l marks) (sym c.in-Some.ensures.items)
     (less_on functions marks c.pop.new.self.items c.in-Some.rest function c.push_behind.new.rests.items c.push_behind.new.drawn c.in-Some-next_of.ensures.some.some c.loop-rest.invariant.size
     (λ none. let same = c.in_ok-push_behind.ensures.none none in (same.0 ∙ c.in_ok-push-2.ensures.items, same.1))
-    (λ bus some. subst (λ l. IsBegun functions bus c.in-Some.rest.depth l c.push_behind.new.rests.items marks c.push_behind.new.drawn) c.in_ok-push-2.ensures.items
+    (λ bus some. subst (λ l. IsBusBegun functions bus c.in-Some.rest.depth l c.push_behind.new.rests.items marks c.push_behind.new.drawn) c.in_ok-push-2.ensures.items
     (c.in_ok-push_behind.ensures.some bus some))
     (unmarked_behind marks function) refl)
 
@@ -69,7 +69,7 @@ loop-rest-preserved g c =
           (way_goes_on functions badges before c.args.root c.args.top marks c.loop-rest.invariant.size c.loop-rest.y words was c.in-Some.rest c.pop.new.self.items
           c.push_behind.new.rests.items function row.row c.push_behind.new.drawn now c.in-Some-next_of.ensures.some row.stands row.writes
           (λ none. let same = c.in_ok-push_behind.ensures.none none in (same.0 ∙ c.in_ok-push-2.ensures.items, same.1))
-          (λ bus some. subst (λ l. IsBegun functions bus c.in-Some.rest.depth l c.push_behind.new.rests.items marks c.push_behind.new.drawn) c.in_ok-push-2.ensures.items
+          (λ bus some. subst (λ l. IsBusBegun functions bus c.in-Some.rest.depth l c.push_behind.new.rests.items marks c.push_behind.new.drawn) c.in_ok-push-2.ensures.items
           (c.in_ok-push_behind.ensures.some bus some))
           (subst (λ s. IsUnderWay functions badges before c.args.root c.args.top (reverse s) marks c.loop-rest.y words was) c.in-Some.ensures.items
           (c.loop-rest.invariant.way before marked)));

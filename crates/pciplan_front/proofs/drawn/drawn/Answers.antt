@@ -2,7 +2,7 @@ use Rattle.std.proofs.Common.{◌≡◌, ◌∙◌, inl, ap, subst, cond, List, 
 use Rattle.std.specs.Prelude.{string_bytes}
 use Rattle.pci_picture.specs.ByRoots.{IsDrawnByRootsOfShow}
 use Rattle.pci_picture.specs.FaultLines.{HasFaultList}
-use Rattle.pci_picture.specs.TreePictures.{HasTree}
+use Rattle.pci_picture.specs.TreePictures.{HasTreeOf}
 use Rattle.pciplan_tasks.specs.Answers.{Answer, answer_of, text_bytes}
 use Rattle.pciplan_front.specs.PictureAsked.{titles_text}
 use Rattle.pciplan_front.proofs.drawn.drawn.Goals as goal
@@ -33,8 +33,8 @@ returns-in-Ok c =
           c.in-Ok.ensures.drawn)));
       listed = subst (λ (f : List ℕ). HasFaultList f text) c.in_ok-lines_of-3.ensures c.in-Ok.ensures.listed;
       tree =
-          subst (λ (t : List ℕ). HasTree show t faults text) titles
-          (subst (λ (f : List ℕ). HasTree show c.as_slice.result.now f text) c.in_ok-lines_of-3.ensures
-          (subst (λ (s : List ℕ). HasTree s c.as_slice.result.now c.in_ok-lines_of-3.field-0.now text) c.in_ok-lines_of.ensures c.in-Ok.ensures.tree));
+          subst (λ (t : List ℕ). HasTreeOf show t faults text) titles
+          (subst (λ (f : List ℕ). HasTreeOf show c.as_slice.result.now f text) c.in_ok-lines_of-3.ensures
+          (subst (λ (s : List ℕ). HasTreeOf s c.as_slice.result.now c.in_ok-lines_of-3.field-0.now text) c.in_ok-lines_of.ensures c.in-Ok.ensures.tree));
       line = ap of_refused c.if-map.false;
     }

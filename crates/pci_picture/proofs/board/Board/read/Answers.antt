@@ -2,7 +2,7 @@ use Rattle.std.proofs.Common.{ap, length, subst, sym, ◌∙◌}
 use Rattle.std.specs.List.Sorted.{IsNonDecreasingBy}
 use Rattle.pci_picture.specs.Named.{AreNamedIn, with_titles}
 use Rattle.pci_picture.specs.Roots.{Listed, listed_functions}
-use Rattle.pci_picture.specs.Starts.{AreStarts, RiseBySlot}
+use Rattle.pci_picture.specs.Starts.{AreStarts, FunctionsRise}
 use Rattle.pci_picture.proofs.Named.{listed_back, named_back}
 use Rattle.pci_picture.proofs.Starts.{as_many, rise_of_listed, rise_with_titles, starts_kept, titled_long, whole_back}
 use Rattle.pci_picture.proofs.board.Board.read.Goals as goal
@@ -23,7 +23,7 @@ invariant_of-result g c =
     let same = c.in_ok-names.ensures.same ∙ ap listed_functions (c.deref_mut-2.ensures.value ∙ first) in
     let second = whole_back read.len _ named (read.ok.0 ∙ sym many ∙ ap length (sym first)) (as_many named titled same ∙ ap length (sym first)) in
     record {
-      sorted = subst RiseBySlot (sym second) (rise_of_listed named
+      sorted = subst FunctionsRise (sym second) (rise_of_listed named
           (subst (IsNonDecreasingBy (λ (f : Listed). f.slot)) (sym (same ∙ told)) (rise_with_titles titles (listed_functions read.items) c.in_ok-functions.ensures.sorted)));
       begins = subst (λ l. AreStarts l c.starts_of-starts.result) (sym second)
           (starts_kept titled named c.starts_of-starts.result same (subst (λ l. AreStarts l c.starts_of-starts.result) (c.deref.ensures.value ∙ first) c.starts_of-starts.ensures));
