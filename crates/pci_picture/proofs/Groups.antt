@@ -250,7 +250,7 @@ no_group look first members y = record {
   each = All-nil (IsGroup look);
   rise = λ i j d less inside. absurd (omega (arith, inside));
   below = λ d inside. All-nil (λ section. section.number < (get_or members 0 d).section);
-  stand = λ small. All-nil (λ section. AreBoxesStanding section.spots);
+  stand = λ small. All-nil (λ section. AreBoxesStanding section.number section.spots);
   rooms = All-nil (λ group. HasRoomOf first group.site);
 }
 
@@ -259,10 +259,10 @@ pub group_more : (look : Look) (first site : Site) (members part : List Member) 
     → All (λ member. member.section ≡ number) part
     → All (λ section. section.number < number) (sections_of done.groups)
     → ((d : Member) → end < length members → number < (get_or members end d).section)
-    → IsNonDecreasingBy member_number part → HasRoomOf first site
+    → IsNonDecreasingBy member_number part → HasRoomOf first site → site.section ≡ number
     → AreOfSection look site part bottom more
     → AreGrouped look first members end bottom (spots ++ more)
-group_more look first site members part begin end y bottom number spots more done joined down alike less next lost_last room last =
+group_more look first site members part begin end y bottom number spots more done joined down alike less next lost_last room is last =
     let section : Section = record { number = number; spots = more; lost = lines_below_headings is_lost (map headed_member part) } in
     let group : Group = record { section = section; members = part; site = site } in
     let before : List Section = sections_of done.groups in
@@ -292,8 +292,8 @@ group_more look first site members part begin end y bottom number spots more don
           (All-weaker (λ s. s.number < number) (λ s. s.number < (get_or members end d).section) (λ s low. omega (arith, low, above)) before less)
           above);
       stand = λ small.
-          subst (All (λ s. AreBoxesStanding s.spots)) (sym behind)
-          (All-push (λ s. AreBoxesStanding s.spots) before section (done.stand (omega (arith, down, small))) (last.stand small));
+          subst (All (λ s. AreBoxesStanding s.number s.spots)) (sym behind)
+          (All-push (λ s. AreBoxesStanding s.number s.spots) before section (done.stand (omega (arith, down, small))) (subst (λ n. AreBoxesStanding n more) is (last.stand small)));
       rooms = All-push (λ g. HasRoomOf first g.site) done.groups group done.rooms room;
     }
 

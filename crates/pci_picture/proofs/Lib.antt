@@ -4,7 +4,9 @@ pub mod Plain
 pub mod Drawn
 pub mod Head
 pub mod Kept
+pub mod Doublings
 pub mod Stacked
+pub mod Ruled
 pub mod Boxes
 pub mod Anys
 pub mod Marked

@@ -129,11 +129,11 @@ between number here there is up apart =
 
 pub section_more : {A : Type 0} (look : Look) (row site : Site) (members part : List Member) (begin end y bottom : ℕ) (member : Member) (first before after : Canvas A) → begin < end
     → end ≤ length members → member ≡ get_or members begin member → part ≡ take (end - begin) (drop begin members) → y ≤ bottom
-    → IsNonDecreasingBy (λ (m : Member). m.section) members → IsNonDecreasingBy member_number members → IsRunOfSection members begin end → HasRoomOf row site
+    → IsNonDecreasingBy (λ (m : Member). m.section) members → IsNonDecreasingBy member_number members → IsRunOfSection members begin end → HasRoomOf row site → site.section ≡ member.section
     → AddsSome (AreGrouped look row members begin y) first before
     → AddsSome (AreOfSection look site part bottom) before after
     → AddsSome (AreGrouped look row members end bottom) first after
-section_more look row site members part begin end y bottom member first before after up within at is down sorted lost_last run room done adds =
+section_more look row site members part begin end y bottom member first before after up within at is down sorted lost_last run room named done adds =
     let joined : take end members ≡ take begin members ++ part =
     ap (λ n. take n members) (omega arith) ∙ take_both begin (end - begin) members ∙ ap (λ l. take begin members ++ l) (sym is) in
     let number : ℕ = member.section in
@@ -149,7 +149,7 @@ section_more look row site members part begin end y bottom member first before a
           (sorted begin end d (omega arith) inside) (run.next d inside))
           (subst (IsNonDecreasingBy member_number) (sym is)
           (IsNonDecreasingBy-take member_number (end - begin) (drop begin members) (IsNonDecreasingBy-drop member_number begin members lost_last)))
-          room adds.hold;
+          room named adds.hold;
       adds = then_adds done.spots adds.spots first before after done.adds adds.adds;
     }
 

@@ -7,7 +7,7 @@ use Rattle.std.specs.List.{slice_index_or}
 use Rattle.std.specs.List.Sorted.{IsNonDecreasingBy, IsPartitionPoint}
 use Rattle.pci_picture.specs.declared.heights.Cut.{Cut}
 use Rattle.pci_picture.specs.declared.heights.Run.{Run}
-use Rattle.pci_picture.specs.Stacked.{height_at, AreHeights, CutsRise, IsRunAt, IsRunAdded}
+use Rattle.pci_picture.specs.Stacked.{height_at, CutsRise, IsRunAt, IsRunAdded}
 
 -- runs one behind the other, from an address and a height on, up to the end of the last one
 abbrev pub AreStacked : ℕ → ℕ → List Run → ℕ → ℕ → Type 0
@@ -27,10 +27,10 @@ pub record IsUpTo (cuts : List Cut) (index from top begin bottom : ℕ) (runs : 
   pub ahead : (k : ℕ) (d : Cut) → index ≤ k → k < length cuts → begin ≤ (slice_index_or cuts k d).at
   pub placed : (k : ℕ) (d : Cut) → k < index → Begins runs (slice_index_or cuts k d).at ⊎ ((slice_index_or cuts k d).at ≡ begin)
 
-passed : (a b x y : ℕ) → a < b → (if nat_lt a b then x else y) ≡ x
+pub passed : (a b x y : ℕ) → a < b → (if nat_lt a b then x else y) ≡ x
 passed a b x y less = grind (arith, nat_tests)
 
-met : (a b x y : ℕ) → b ≤ a → (if nat_lt a b then x else y) ≡ y
+pub met : (a b x y : ℕ) → b ≤ a → (if nat_lt a b then x else y) ≡ y
 met a b x y less = grind (arith, nat_tests)
 
 either : (P : ℕ → Type 0) (b : Bool) (x y : ℕ) → P x → P y → P (if b then x else y)
@@ -64,7 +64,7 @@ runs_on from top end bottom (run ∷ runs) both =
     omega arith
 
 -- none begins before the first one, or at the end
-begins_behind : (from top end bottom address : ℕ) (runs : List Run) → AreStacked from top runs end bottom → Begins runs address → from ≤ address
+pub begins_behind : (from top end bottom address : ℕ) (runs : List Run) → AreStacked from top runs end bottom → Begins runs address → from ≤ address
 begins_behind from top end bottom address [] both begins = absurd begins
 begins_behind from top end bottom address (run ∷ runs) both (inl at) =
     let first : run.begin ≡ from = (both.0).begins in omega arith
@@ -73,7 +73,7 @@ begins_behind from top end bottom address (run ∷ runs) both (inr there) =
     let less : from < run.end = (both.0).reaches in
     omega arith
 
-begins_before : (from top end bottom address : ℕ) (runs : List Run) → AreStacked from top runs end bottom → Begins runs address → address < end
+pub begins_before : (from top end bottom address : ℕ) (runs : List Run) → AreStacked from top runs end bottom → Begins runs address → address < end
 begins_before from top end bottom address [] both begins = absurd begins
 begins_before from top end bottom address (run ∷ runs) both (inl at) =
     let behind : run.end ≤ end = runs_on run.end (top + run.height) end bottom runs both.1 in
@@ -112,17 +112,17 @@ begins_last : (runs : List Run) (run : Run) (address : ℕ) → run.begin ≡ ad
 begins_last [] run address at = inl at
 begins_last (first ∷ runs) run address at = inr (begins_last runs run address at)
 
-placed_added : (runs new : List Run) (begin bottom end below address : ℕ) → IsRunAdded runs begin bottom end new below
-    → Begins runs address ⊎ (address ≡ begin) → Begins new address
-placed_added runs new begin bottom end below address add (inl b) =
+placed_added : (base : ℕ) (is_covered : Bool) (runs new : List Run) (begin bottom end below address : ℕ)
+    → IsRunAdded base is_covered runs begin bottom end new below → Begins runs address ⊎ (address ≡ begin) → Begins new address
+placed_added base is_covered runs new begin bottom end below address add (inl b) =
     subst (λ (r : List Run). Begins r address) (sym add.added) (begins_more runs (add.run ∷ []) address b)
-placed_added runs new begin bottom end below address add (inr e) =
+placed_added base is_covered runs new begin bottom end below address add (inr e) =
     subst (λ (r : List Run). Begins r address) (sym add.added)
     (begins_last runs add.run address (subst (λ (b : ℕ). add.run.begin ≡ b) (sym e) add.stands.begins))
 
-stacked_added : (from top begin bottom end below : ℕ) (runs new : List Run) → AreStacked from top runs begin bottom
-    → IsRunAdded runs begin bottom end new below → AreStacked from top new end below
-stacked_added from top begin bottom end below runs new stacked add =
+stacked_added : (base : ℕ) (is_covered : Bool) (from top begin bottom end below : ℕ) (runs new : List Run) → AreStacked from top runs begin bottom
+    → IsRunAdded base is_covered runs begin bottom end new below → AreStacked from top new end below
+stacked_added base is_covered from top begin bottom end below runs new stacked add =
     subst (λ (r : List Run). AreStacked from top r end below) (sym add.added)
     (subst (λ (b : ℕ). AreStacked from top (runs ++ (add.run ∷ [])) end b) (sym add.below)
     (subst (λ (e : ℕ). AreStacked from top (runs ++ (add.run ∷ [])) e (bottom + add.run.height)) add.ends
@@ -134,16 +134,16 @@ at_index cuts k index d cut e is =
     subst (λ (i : ℕ). (slice_index_or cuts i d).at ≡ cut.at) (sym e) (ap (λ (c : Cut). c.at) (is d))
 
 -- one more cut, up to which a run was added
-more_added : (cuts : List Cut) (index from top begin bottom below : ℕ) (runs new : List Run) (cut : Cut)
+more_added : (base : ℕ) (is_covered : Bool) (cuts : List Cut) (index from top begin bottom below : ℕ) (runs new : List Run) (cut : Cut)
     → IsUpTo cuts index from top begin bottom runs → IsNonDecreasingBy (λ (c : Cut). c.at) cuts
     → ((e : Cut) → slice_index_or cuts index e ≡ cut)
-    → IsRunAdded runs begin bottom cut.at new below → IsUpTo cuts (index + 1) from top cut.at below new
-more_added cuts index from top begin bottom below runs new cut up sorted is add = record {
-  stacked = stacked_added from top begin bottom cut.at below runs new up.stacked add;
+    → IsRunAdded base is_covered runs begin bottom cut.at new below → IsUpTo cuts (index + 1) from top cut.at below new
+more_added base is_covered cuts index from top begin bottom below runs new cut up sorted is add = record {
+  stacked = stacked_added base is_covered from top begin bottom cut.at below runs new up.stacked add;
   is_low = omega (arith, up.is_low, add.below, add.is_low);
   ahead = λ k d le lt. subst (λ (c : Cut). c.at ≤ (slice_index_or cuts k d).at) (is d) (sorted index k d (omega arith) lt);
   placed = λ k d lt. elim (cases_lt k index) [
-    | inl before ↦ inl (placed_added runs new begin bottom cut.at below (slice_index_or cuts k d).at add (up.placed k d before))
+    | inl before ↦ inl (placed_added base is_covered runs new begin bottom cut.at below (slice_index_or cuts k d).at add (up.placed k d before))
     | inr last ↦ inr (at_index cuts k index d cut (omega arith) is)
   ];
 }
@@ -167,18 +167,18 @@ more_same cuts index from top begin bottom runs cut up inside is at =
     }
 
 -- one more cut
-pub more : (cuts : List Cut) (index from top begin bottom next below : ℕ) (runs new : List Run) (d : Cut)
+pub more : (base : ℕ) (is_covered : Bool) (cuts : List Cut) (index from top begin bottom next below : ℕ) (runs new : List Run) (d : Cut)
     → IsUpTo cuts index from top begin bottom runs → IsNonDecreasingBy (λ (c : Cut). c.at) cuts → index < length cuts
     → next ≡ max begin (slice_index_or cuts index d).at
     → ((slice_index_or cuts index d).at ≤ begin → (new ≡ runs) × (below ≡ bottom))
-    → (begin < (slice_index_or cuts index d).at → IsRunAdded runs begin bottom (slice_index_or cuts index d).at new below)
+    → (begin < (slice_index_or cuts index d).at → IsRunAdded base is_covered runs begin bottom (slice_index_or cuts index d).at new below)
     → IsUpTo cuts (index + 1) from top next below new
-more cuts index from top begin bottom next below runs new d up sorted inside is same added =
+more base is_covered cuts index from top begin bottom next below runs new d up sorted inside is same added =
     let cut : Cut = slice_index_or cuts index d in
     let any : (e : Cut) → slice_index_or cuts index e ≡ cut = λ e. get_or_default cuts index e d inside in
     elim (cases_lt begin cut.at) [
       | inl less ↦ subst (λ (n : ℕ). IsUpTo cuts (index + 1) from top n below new) (omega (arith, is, less))
-          (more_added cuts index from top begin bottom below runs new cut up sorted any (added less))
+          (more_added base is_covered cuts index from top begin bottom below runs new cut up sorted any (added less))
       | inr not_less ↦ subst (λ (n : ℕ). IsUpTo cuts (index + 1) from top n below new) (omega (arith, is, not_less))
           (subst (λ (b : ℕ). IsUpTo cuts (index + 1) from top begin b new) (sym (same not_less).1)
           (subst (λ (r : List Run). IsUpTo cuts (index + 1) from top begin bottom r) (sym (same not_less).0)
@@ -205,7 +205,7 @@ rising from top end bottom low high runs stacked (inr last) (inl begins) less =
 rising from top end bottom low high runs stacked (inr last) (inr also) less = absurd (omega arith)
 
 -- behind the last cut
-cuts_rise : (cuts : List Cut) (index from top begin bottom : ℕ) (runs : List Run) → IsUpTo cuts index from top begin bottom runs
+pub cuts_rise : (cuts : List Cut) (index from top begin bottom : ℕ) (runs : List Run) → IsUpTo cuts index from top begin bottom runs
     → length cuts ≤ index → CutsRise cuts runs bottom
 cuts_rise cuts index from top begin bottom runs up all low high (i, li, ei) (j, lj, ej) less =
     rising from top begin bottom low.at high.at runs up.stacked
@@ -219,7 +219,7 @@ begins_at [] k d inside = absurd (omega arith)
 begins_at (run ∷ runs) zero d inside = inl refl
 begins_at (run ∷ runs) (suc k) d inside = inr (begins_at runs k d (omega arith))
 
-runs_rise : (from top end bottom : ℕ) (runs : List Run) → AreStacked from top runs end bottom → IsNonDecreasingBy (λ (r : Run). r.begin) runs
+pub runs_rise : (from top end bottom : ℕ) (runs : List Run) → AreStacked from top runs end bottom → IsNonDecreasingBy (λ (r : Run). r.begin) runs
 runs_rise from top end bottom [] both i j d le inside = absurd (omega arith)
 runs_rise from top end bottom (run ∷ runs) both zero zero d le inside = omega arith
 runs_rise from top end bottom (run ∷ runs) both zero (suc j) d le inside =
@@ -231,13 +231,6 @@ runs_rise from top end bottom (run ∷ runs) both zero (suc j) d le inside =
 runs_rise from top end bottom (run ∷ runs) both (suc i) zero d le inside = absurd (omega arith)
 runs_rise from top end bottom (run ∷ runs) both (suc i) (suc j) d le inside =
     runs_rise run.end (top + run.height) end bottom runs both.1 i j d (omega arith) (omega arith)
-
-pub are_heights : (cuts : List Cut) (index from top begin bottom : ℕ) (runs : List Run) → IsUpTo cuts index from top begin bottom runs
-    → length cuts ≤ index → AreHeights cuts runs bottom
-are_heights cuts index from top begin bottom runs up all = record {
-  rise = cuts_rise cuts index from top begin bottom runs up all;
-  sorted = runs_rise from top begin bottom runs up.stacked;
-}
 
 -- an address stands at the first run that isn't before it, or below all
 height_of_run : (runs : List Run) (bottom address i : ℕ) (d : Run)

@@ -3,13 +3,14 @@ use Rattle.std.specs.Prelude.{◌≡◌, ◌<◌, ◌≤◌, ◌+◌, ◌-◌, �
 use Rattle.std.specs.List.{All, AllPairs, flat_map}
 use Rattle.std.specs.List.Sorted.{IsPermutation, IsNonDecreasingBy}
 use Rattle.pci_picture.specs.Headings.{AreSectionsOf, is_lost, lines_below_headings}
+use Rattle.pci_picture.specs.Heights.{AddressRange, HasHeights}
 use Rattle.pci_picture.specs.Looks.{IsTitled, Look, looks_placed, looks_up_to}
 use Rattle.pci_picture.specs.Maps.{headed_line, headed_member, lines_of_regions, regions_of_members, regions_placed, regions_under}
 use Rattle.pci_picture.specs.Members.{member_number}
 use Rattle.pci_picture.specs.Nested.{HasNestedBoxes}
 use Rattle.pci_picture.specs.Roots.{AreLostByRoot, Listed}
 use Rattle.pci_picture.specs.Sides.{HasSides, StandBesideIn, count_in_place, sides_drawn, sides_of_width, widths_placed}
-use Rattle.pci_picture.specs.Spots.{Section, BoxSpot, first_address, region_last_address, classes_drawn, lines_drawn, all_of, spot_at, Rise, AreBoxesStanding, EachStands}
+use Rattle.pci_picture.specs.Spots.{Section, BoxSpot, first_address, region_last_address, classes_drawn, lines_drawn, all_of, spot_at, Rise, AreBoxesStanding, EachStands, IsInSomeRegion, IsCutOf, base_of_section}
 use Rattle.pci_picture.specs.Stacked.{height_at}
 use Rattle.pci_picture.specs.declared.heights.Run.{Run}
 use Rattle.pci_picture.specs.declared.lanes.Width.{Width}
@@ -35,10 +36,12 @@ pub record IsFramedAt (height_of : ℕ → ℕ) (spot : BoxSpot) : Type 0 where
   pub rises : first_address spot.line ≤ region_last_address spot.line
   pub framed : IsFramed height_of (first_address spot.line) (region_last_address spot.line) spot.y spot.height
 
--- heights by which regions can be drawn: the runs stand in their order, and the ends of the regions rise
-pub record ArePlanned (lines : List (List ℕ)) (runs : List Run) (bottom : ℕ) : Type 0 where
+-- heights by which the regions of a section can be drawn: the runs stand in their order from a height on, and the ends of the
+-- regions rise, by the rule, where both ends of some ranges are cuts, too
+pub record ArePlanned (number top : ℕ) (told : List AddressRange) (lines : List (List ℕ)) (runs : List Run) (bottom : ℕ) : Type 0 where
   pub sorted : IsNonDecreasingBy (λ (run : Run). run.begin) runs
   pub rise : Rise lines (height_at runs bottom)
+  pub by_rule : HasHeights (base_of_section number) top (IsCutOf lines told) (IsInSomeRegion lines) (height_at runs bottom)
 
 -- the boxes of regions with these widths, whose heights are those of their addresses, where the runs stand in their order
 pub record AreFramed (look : Look) (placed : List Placed) (runs : List Run) (bottom : ℕ) (spots : List BoxSpot) : Type 0 where
@@ -60,7 +63,7 @@ pub record AreOfSection (look : Look) (site : Site) (members : List Member) (end
   pub drawn : lines_drawn spots ≡ lines_of_regions (regions_of_members members)
   pub looks : classes_drawn spots ≡ looks_up_to look (count_in_place members) (regions_of_members members)
   pub titled : All (IsTitled look) spots
-  pub stand : end < 2 ^ 64 - 1 → AreBoxesStanding spots
+  pub stand : end < 2 ^ 64 - 1 → AreBoxesStanding site.section spots
   pub beside : AreDrawnBeside site members spots
 
 -- the boxes of what is off

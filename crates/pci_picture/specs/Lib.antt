@@ -2,6 +2,7 @@ pub mod Xml
 pub mod Elements
 pub mod Labels
 pub mod Whole
+pub mod Heights
 pub mod Stacked
 pub mod Lines
 pub mod Spots

@@ -1,6 +1,7 @@
 -- Where the boxes of regions stand.
-use Rattle.std.specs.Prelude.{◌≡◌, ◌⊎◌, ◌<◌, ◌≤◌, ◌+◌, ◌-◌, ◌^◌, ℕ, List, map}
+use Rattle.std.specs.Prelude.{◌≡◌, ◌⊎◌, ◌<◌, ◌≤◌, ◌==◌, ◌+◌, ◌-◌, ◌%◌, ◌^◌, ℕ, List, map, if◌then◌else◌}
 use Rattle.std.specs.List.{All, Any, Contains, flat_map, before_first, after_first}
+use Rattle.pci_picture.specs.Heights.{AddressRange, HasHeights}
 use Rattle.pci_picture.specs.Lines.{is_dash_byte, nth_word, hex_value, words_in_line}
 
 -- ---- the addresses of a region, in the first word of its line
@@ -65,17 +66,37 @@ pub record BoxStandsAt (height_of : ℕ → ℕ) (spot : BoxSpot) : Type 0 where
   pub begins : spot.y ≡ height_of (first_address spot.line)
   pub ends : spot.y + spot.height + 1 ≡ height_of (region_last_address spot.line + 1)
 
--- the boxes of a section stand at heights that rise with addresses
-pub record AreBoxesStanding (spots : List BoxSpot) : Type 0 where
+-- a range begins at an address, or ends right before it
+abbrev pub IsEndOfExtent : ℕ → AddressRange → Type 0
+IsEndOfExtent address range = (address ≡ range.first) ⊎ (address ≡ range.last + 1)
+
+-- an address is a cut of some regions and some ranges
+abbrev pub IsCutOf : List (List ℕ) → List AddressRange → ℕ → Type 0
+IsCutOf lines ranges address = Any (IsEndOf address) lines ⊎ Any (IsEndOfExtent address) ranges
+
+-- a region has an address
+abbrev pub IsInSomeRegion : List (List ℕ) → ℕ → Type 0
+IsInSomeRegion lines address = Any (λ line. (first_address line ≤ address) × (address < region_last_address line + 1)) lines
+
+-- heights grow with each doubling past 16 ports in I/O space, and past 4 KB in memory space
+abbrev pub base_of_section : ℕ → ℕ
+base_of_section number = if number % 2 == 0 then 4 else 12
+
+-- the boxes of the section with a number stand at heights that rise with addresses, by the rule. Both ends of each range that its
+-- faults tell are cuts, too
+pub record AreBoxesStanding (number : ℕ) (spots : List BoxSpot) : Type 0 where
   pub height_of : ℕ → ℕ
   pub rise : Rise (lines_drawn spots) height_of
   pub stand : All (BoxStandsAt height_of) spots
+  pub top : ℕ
+  pub told : List AddressRange
+  pub by_rule : HasHeights (base_of_section number) top (IsCutOf (lines_drawn spots) told) (IsInSomeRegion (lines_drawn spots)) height_of
 
 -- all sections do so, where the last one ends at a height that was not cut off at 64 bits
 abbrev pub EachStands : ℕ → List Section → Type 0
-EachStands end sections = end < 2 ^ 64 - 1 → All (λ section. AreBoxesStanding section.spots) sections
+EachStands end sections = end < 2 ^ 64 - 1 → All (λ section. AreBoxesStanding section.number section.spots) sections
 
 -- of two boxes of a section, the one whose last address is below the first address of the other ends above it
 abbrev pub BoxesAreApart : Type 0
-BoxesAreApart = (spots : List BoxSpot) (one other : BoxSpot) → AreBoxesStanding spots → Contains spots one → Contains spots other
+BoxesAreApart = (number : ℕ) (spots : List BoxSpot) (one other : BoxSpot) → AreBoxesStanding number spots → Contains spots one → Contains spots other
     → region_last_address one.line < first_address other.line → one.y + one.height < other.y

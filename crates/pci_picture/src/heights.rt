@@ -5,6 +5,8 @@ ghost use Rattle.std.specs.List.{slice_index_or};
 ghost use Rattle.std.specs.List.Sorted.{IsNonDecreasingBy};
 ghost use Rattle.pci_picture.specs.declared.heights.Cut.{Cut};
 ghost use Rattle.pci_picture.specs.declared.heights.Run.{Run};
+ghost use Rattle.pci_picture.specs.Cuts.{HasCutAt};
+ghost use Rattle.pci_picture.specs.Heights.{IsHeightOf};
 ghost use Rattle.pci_picture.specs.Stacked.{AreHeights, IsRunAdded, height_at};
 
 use super::memory::OutOfMemory;
@@ -44,6 +46,7 @@ pub struct Heights<A: Allocator> {
 /// The height of `count` addresses that a line covers: that of a line of words, and 1 for each doubling past 2^base.
 fn covered_height(count: u128, base: u32) -> u64
     requires { base ≤ 12 }
+    ensures exact { IsHeightOf base count result }
     ensures least { 0 < result }
     ensures most { result ≤ 142 }
 {
@@ -52,8 +55,9 @@ fn covered_height(count: u128, base: u32) -> u64
 
 /// The address of the first cut, 0 where there is none.
 fn first_address(cuts: &[Cut]) -> u128
-    ensures { IsNonDecreasingBy (λ cut. cut.at) cuts.now → (k : ℕ) (cut : Cut) → k < length cuts.now
+    ensures least { IsNonDecreasingBy (λ cut. cut.at) cuts.now → (k : ℕ) (cut : Cut) → k < length cuts.now
         → result ≤ (slice_index_or cuts.now k cut).at }
+    ensures is_cut { 0 < length cuts.now → HasCutAt cuts.now result }
 {
     if cuts.is_empty() { 0 } else { cuts[0].at }
 }
@@ -72,9 +76,9 @@ impl<A: Allocator + Copy> Heights<A> {
         ensures same { cut ≤ begin → IfOk result (λ _. (self.new.runs.items ≡ self.old.runs.items)
             × (self.new.bottom ≡ self.old.bottom)) }
         ensures added { begin < cut → self.old.bottom + 142 < 2 ^ 64 → IfOk result (λ _.
-            IsRunAdded self.old.runs.items begin self.old.bottom cut self.new.runs.items self.new.bottom) }
+            IsRunAdded base is_covered self.old.runs.items begin self.old.bottom cut self.new.runs.items self.new.bottom) }
         ensures uncut { begin < cut → IfOk result (λ _. self.new.bottom < 2 ^ 64 - 1 →
-            IsRunAdded self.old.runs.items begin self.old.bottom cut self.new.runs.items self.new.bottom) }
+            IsRunAdded base is_covered self.old.runs.items begin self.old.bottom cut self.new.runs.items self.new.bottom) }
         ensures down { IfOk result (λ _. self.old.bottom ≤ self.new.bottom) }
     {
         if cut <= begin {
@@ -101,10 +105,10 @@ impl<A: Allocator + Copy> Heights<A> {
         requires { base ≤ 12 }
         // `top` and 142 units for each cut have to fit in 64 bits
         ensures fits { IsNonDecreasingBy (λ cut. cut.at) cuts.now → top + 142 * length cuts.now < 2 ^ 64
-            → IfOk result (λ heights. AreHeights cuts.now heights.runs.items heights.bottom) }
+            → IfOk result (λ heights. AreHeights base top cuts.now heights.runs.items heights.bottom) }
         // or the bottom was not cut off at 64 bits
         ensures uncut { IsNonDecreasingBy (λ cut. cut.at) cuts.now → IfOk result (λ heights.
-            heights.bottom < 2 ^ 64 - 1 → AreHeights cuts.now heights.runs.items heights.bottom) }
+            heights.bottom < 2 ^ 64 - 1 → AreHeights base top cuts.now heights.runs.items heights.bottom) }
         ensures down { IfOk result (λ heights. top ≤ heights.bottom) }
     {
         let mut heights = Heights {

@@ -1,14 +1,14 @@
 //! Where each part of a section stands: its heights, the widths of its lines, and the ranges that its faults tell.
 
-ghost use Rattle.std.specs.Prelude.{◌≡◌, ◌<◌, ◌≤◌, ◌-◌, ◌^◌, ◌++◌, IfOk, OnOk, max, true, false};
-ghost use Rattle.std.specs.List.{All};
-ghost use Rattle.std.specs.List.Sorted.{IsNonDecreasingBy};
-ghost use Rattle.pci_picture.specs.Cuts.{AddsEnds, IsRegionCut, KeepsCuts};
+ghost use Rattle.std.specs.Prelude.{◌≡◌, ◌<◌, ◌≤◌, ◌+◌, ◌-◌, ◌^◌, ◌++◌, IfOk, OnOk, max, true, false};
+ghost use Rattle.std.specs.List.Sorted.{IsNonDecreasingBy, IsPermutation};
+ghost use Rattle.pci_picture.specs.Cuts.{cuts_told, ends_of_all_told, ends_of_kind, extents_told};
 ghost use Rattle.pci_picture.specs.Drawings.{ArePlanned, IsFramed};
 ghost use Rattle.pci_picture.specs.Lanes.{IsIndented};
 ghost use Rattle.pci_picture.specs.Looks.{Look, looks_of, looks_placed, looks_up_to};
 ghost use Rattle.pci_picture.specs.Maps.{lines_of_regions, regions_of_members, regions_placed};
 ghost use Rattle.pci_picture.specs.Sides.{AddsWidths, StandBesideIn, count_in_place, widths_placed};
+ghost use Rattle.pci_picture.specs.Spots.{base_of_section};
 ghost use Rattle.pci_picture.specs.Stacked.{height_at};
 
 use super::elements::Frame;
@@ -48,6 +48,14 @@ impl Site {
     /// Whether it is of I/O space.
     pub fn is_io(&self) -> bool {
         self.section % 2 == 0
+    }
+
+    /// Past 2 to which power each doubling of addresses adds to their height.
+    fn base(&self) -> u32
+        ensures exact { result ≡ base_of_section self.now.section }
+        ensures low { result ≤ 12 }
+    {
+        if self.section % 2 == 0 { 4 } else { 12 }
     }
 }
 
@@ -222,7 +230,7 @@ fn push_cuts<A: Allocator + Copy>(
     cuts: &mut Vec<Cut, A>,
     ranges: &[Told],
 ) -> Result<(), OutOfMemory>
-    ensures { OnOk result (KeepsCuts cuts.old.items cuts.new.items) }
+    ensures { OnOk result (cuts.new.items ≡ cuts.old.items ++ ends_of_all_told ranges.entry.now) }
 {
     for range in ranges {
         let first = u128::from(range.first);
@@ -242,7 +250,7 @@ fn push_ends<A: Allocator + Copy>(
     regions: &[Region<'_>],
     of_windows: bool,
 ) -> Result<(), OutOfMemory>
-    ensures { OnOk result (AddsEnds of_windows regions.entry.now cuts.old.items cuts.new.items) }
+    ensures { OnOk result (cuts.new.items ≡ cuts.old.items ++ ends_of_kind of_windows regions.entry.now) }
 {
     for region in regions {
         if region.is_window() == of_windows {
@@ -260,7 +268,8 @@ fn cuts_of<A: Allocator + Copy>(
     tellings: &Tellings<A>,
 ) -> Result<Vec<Cut, A>, OutOfMemory>
     ensures sorted { IfOk result (λ cuts. IsNonDecreasingBy (λ cut. cut.at) cuts.items) }
-    ensures ends { IfOk result (λ cuts. All (IsRegionCut cuts.items) regions.entry.now) }
+    ensures all { IfOk result (λ cuts. IsPermutation
+        (cuts_told regions.entry.now tellings.entry.now.shared.items tellings.entry.now.fits.items) cuts.items) }
 {
     let mut cuts = Vec::new(alloc);
     for region in regions {
@@ -298,7 +307,9 @@ impl<'a, A: Allocator + Copy> Plan<'a, A> {
     ) -> Result<Plan<'a, A>, OutOfMemory>
         ensures placed { IfOk result (λ plan. regions_placed plan.placed.items ≡ regions_of_members members.entry.now) }
         ensures planned { IfOk result (λ plan. plan.heights.bottom < 2 ^ 64 - 1
-            → ArePlanned (lines_of_regions (regions_of_members members.entry.now)) plan.heights.runs.items plan.heights.bottom) }
+            → ArePlanned site.now.section (site.now.y + 22)
+            (extents_told (plan.tellings.shared.items ++ plan.tellings.fits.items))
+            (lines_of_regions (regions_of_members members.entry.now)) plan.heights.runs.items plan.heights.bottom) }
         ensures down { IfOk result (λ plan. site.now.y ≤ plan.heights.bottom) }
         ensures looks { IfOk result (λ plan. (look : Look) → looks_placed look plan.placed.items
             ≡ looks_up_to look (count_in_place members.entry.now) (regions_of_members members.entry.now)) }
@@ -310,7 +321,7 @@ impl<'a, A: Allocator + Copy> Plan<'a, A> {
         let keys = keys_of(alloc, faults, every)?;
         let tellings = tellings_of(alloc, faults, every, keys.as_slice())?;
         let cuts = cuts_of(alloc, every, &tellings)?;
-        let base = if site.is_io() { 4 } else { 12 };
+        let base = site.base();
         let heights = Heights::of(alloc, cuts.as_slice(), base, site.y.saturating_add(22))?;
         let placed = placed_of(alloc, site, every, lost_from(members))?;
         Ok(Plan {

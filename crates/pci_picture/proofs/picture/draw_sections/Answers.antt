@@ -1,4 +1,4 @@
-use Rattle.std.proofs.Common.{arith, refl, sym, subst}
+use Rattle.std.proofs.Common.{arith, ap, refl, sym, subst}
 use Rattle.std.specs.List.{All}
 use Rattle.pci_picture.specs.BoardLooks.{look_read}
 use Rattle.pci_picture.specs.Maps.{AreMembersOf}
@@ -26,7 +26,8 @@ loop-begin-preserved g c =
           section_more (look_read c.args.board.now) c.args.first.now _ c.as_slice-members.result.now _ c.loop-begin.begin c.section_end-end.result c.loop-begin.y c.in_ok-y.y c.index-members-begin.result
           c.args.canvas.now c.loop-begin.canvas c.draw_section.new.canvas
           c.section_end-end.ensures.some c.section_end-end.ensures.within c.index-members-begin.is refl c.in_ok-y.ensures.down
-          are.sorted indented.lost_last c.section_end-end.ensures.alike (record { x_is = refl; width_is = refl }) c.loop-begin.invariant.adds c.in_ok-y.ensures.drawn;
+          are.sorted indented.lost_last c.section_end-end.ensures.alike (record { x_is = refl; width_is = refl })
+          (sym (ap (λ m. m.section) c.index-members-begin.is)) c.loop-begin.invariant.adds c.in_ok-y.ensures.drawn;
     }
 
 pub returns-clause-drawn : goal.returns-clause-drawn

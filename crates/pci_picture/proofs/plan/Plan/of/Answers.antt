@@ -1,10 +1,8 @@
-use Rattle.std.proofs.Common.{◌∙◌, List, ap₂, subst, sym}
-use Rattle.std.specs.List.{All}
+use Rattle.std.proofs.Common.{◌∙◌, arith, List, ap₂, subst, sym}
 use Rattle.std.specs.List.Sorted.{IsNonDecreasingBy}
-use Rattle.pci_picture.specs.Cuts.{IsRegionCut}
 use Rattle.pci_picture.specs.Looks.{looks_up_to}
 use Rattle.pci_picture.specs.declared.heights.Cut.{Cut}
-use Rattle.pci_picture.proofs.Marked.{planned}
+use Rattle.pci_picture.proofs.Marked.{planned_of}
 use Rattle.pci_picture.proofs.plan.Plan.of.Goals as goal
 
 pub returns-clause-placed : goal.returns-clause-placed
@@ -17,8 +15,10 @@ returns-clause-looks g c look =
 
 pub returns-clause-planned : goal.returns-clause-planned
 returns-clause-planned g c small =
-    let cuts = c.as_slice-2.result.now in
-    planned cuts c.as_slice-every.result.now _ c.in_ok-heights.heights.runs.items c.in_ok-heights.heights.bottom
+    let heights = c.in_ok-heights.heights in
+    planned_of c.args.site.now.section _ c.saturating_add.result c.args.site.now.y c.as_slice-every.result.now _
+    c.in_ok-tellings.tellings.shared.items c.in_ok-tellings.tellings.fits.items c.as_slice-2.result.now c.in_ok-cuts.cuts.items heights.runs.items heights.bottom
+    c.base-base.ensures.exact (omega (arith, c.saturating_add.ensures, c.in_ok-heights.ensures.down, small))
+    (c.as_slice-every.ensures.value ∙ c.in_ok-regions.ensures) c.as_slice-2.ensures.value
     (c.in_ok-heights.ensures.uncut (subst (λ (l : List Cut). IsNonDecreasingBy (λ cut. cut.at) l) (sym c.as_slice-2.ensures.value) c.in_ok-cuts.ensures.sorted) small)
-    (subst (λ (l : List Cut). All (IsRegionCut l) c.as_slice-every.result.now) (sym c.as_slice-2.ensures.value) c.in_ok-cuts.ensures.ends)
-    (c.as_slice-every.ensures.value ∙ c.in_ok-regions.ensures)
+    c.in_ok-cuts.ensures.all
