@@ -1,5 +1,5 @@
 -- Slots that are the same by the test of their parts.
-use Rattle.std.proofs.Common.{◌≡◌, Bool, true, ◌&&◌, refl}
+use Rattle.std.proofs.Common.{◌≡◌, true, ◌&&◌, refl}
 use Rattle.std.specs.Prelude.{◌==◌}
 use Rattle.std.proofs.lemmas.Bool.{and_parts, and_from, eqb-true, eq-eqb}
 use Rattle.pci_spec.specs.Slot.{Slot, same_slot}
