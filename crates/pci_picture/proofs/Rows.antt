@@ -1,5 +1,5 @@
 -- The row of a function in the tree.
-use Rattle.std.proofs.Common.{◌≡◌, ◌≤◌, ◌+◌, ◌-◌, ◌*◌, ◌^◌, ℕ, List, [], ◌∷◌, ◌++◌, length, sym, ap, ◌∙◌, arith}
+use Rattle.std.proofs.Common.{◌≡◌, ◌≤◌, ◌+◌, ◌-◌, ◌*◌, ◌^◌, ℕ, List, [], ◌++◌, length, ap, ◌∙◌, arith}
 use Rattle.std.specs.Prelude.{codes, min}
 use Rattle.std.proofs.lemmas.List.{append-nil, append_assoc}
 use Rattle.pci_picture.specs.Labels.{cut_words, label_text}
@@ -23,21 +23,13 @@ row_written row before between cut after room right kept words beside room_is ri
 
 -- ---- the words of a row
 
-pub none_more : (one two : List ℕ) → two ≡ one → (more : List ℕ) × (two ≡ one ++ more)
-none_more one two is = ([], is ∙ sym (append-nil one))
+pub row_of_bridge : (one to buses comma two told : List ℕ) → to ≡ one ++ codes "to " → buses ≡ to ++ told → comma ≡ buses ++ codes ", " → two ≡ comma
+    → two ≡ one ++ (codes "to " ++ told ++ codes ", ")
+row_of_bridge one to buses comma two told first second third is =
+    is ∙ third ∙ ap (λ l. l ++ codes ", ") (second ∙ ap (λ l. l ++ told) first ∙ append_assoc one (codes "to ") told)
+    ∙ append_assoc one (codes "to " ++ told) (codes ", ")
 
-pub three_more : (one to buses comma two a b c : List ℕ) → to ≡ one ++ a → buses ≡ to ++ b → comma ≡ buses ++ c → two ≡ comma
-    → (more : List ℕ) × (two ≡ one ++ more)
-three_more one to buses comma two a b c first second third is = (
-  a ++ (b ++ c),
-  is ∙ third ∙ ap (λ l. l ++ c) (second ∙ ap (λ l. l ++ b) first) ∙ append_assoc (one ++ a) b c ∙ append_assoc one a (b ++ c),
-)
-
--- words that begin with a slot and a blank
-pub words_behind : (slot one two three name : List ℕ) → one ≡ slot ++ 32 ∷ [] → (more : List ℕ) × (two ≡ one ++ more) → three ≡ two ++ name
-    → (more : List ℕ) × (three ≡ slot ++ 32 ∷ more)
-words_behind slot one two three name begins (more, adds) ends = (
-  more ++ name,
-  ends ∙ ap (λ l. l ++ name) (adds ∙ ap (λ l. l ++ more) begins)
-      ∙ append_assoc (slot ++ 32 ∷ []) more name ∙ append_assoc slot (32 ∷ []) (more ++ name),
-)
+-- behind the slot and a blank stand the buses of a bridge and the name
+pub row_named : (slot one two three bridge name : List ℕ) → one ≡ slot ++ codes " " → two ≡ one ++ bridge → three ≡ two ++ name
+    → three ≡ slot ++ codes " " ++ bridge ++ name
+row_named slot one two three bridge name begins adds ends = ends ∙ ap (λ l. l ++ name) (adds ∙ ap (λ l. l ++ bridge) begins)

@@ -36,6 +36,7 @@ pub next_there : (functions : List Function) (rest : Rest) (function : Function)
 next_there functions rest function some inside found =
     let more : rest.end - rest.next ≡ suc (rest.end - (rest.next + 1)) = omega (arith, some) in
     record {
+      own = (rest.next, inside, sym found);
       some = some;
       splits =
           ap (take (rest.end - rest.next)) (drop_more functions rest.next function inside)

@@ -2,9 +2,10 @@
 use Rattle.std.specs.Prelude.{◌≡◌, ℕ, Bool, ◌+◌, ◌-◌, ◌*◌, ◌^◌, ◌==◌, ◌&&◌, true, false, not, min, Option, Some, None, List, [], ◌∷◌, ◌++◌, codes, if◌then◌else◌}
 use Rattle.std.specs.List.{filter, list_any, range_with_len}
 use Rattle.std.specs.Option.{is_none}
+use Rattle.pci_picture.specs.Badges.{ShowBadges}
 use Rattle.pci_picture.specs.Lines.{is_nonempty_word}
 use Rattle.pci_picture.specs.Roots.{Listed, bus_above, secondary_of}
-use Rattle.pci_picture.specs.Rows.{IsRow, TreeRow, tree_row_text}
+use Rattle.pci_picture.specs.Rows.{TreeRow, tree_row_text, words_of_row}
 use Rattle.pci_picture.specs.Slots.{bus_of_slot}
 use Rattle.pci_picture.specs.declared.badge.Badge.{Badge}
 
@@ -85,11 +86,11 @@ down y units = min (y + units) (2 ^ 64 - 1)
 abbrev pub class_of_row : List ℕ → Bool → List ℕ
 class_of_row beside is_on = if is_nonempty_word beside then codes "alarm" else (if is_on then [] else codes "quiet")
 
--- a row with its top at a height; a step is 14 units wide
+-- a row with its top at a height; a step is 14 units wide. At its right end stands the number of each fault that shows beside the
+-- function, once
 pub record IsRowAt (badges : List Badge) (y : ℕ) (place : TreePlace) (row : TreeRow) : Type 0 where
-  pub slot_is : row.slot ≡ place.function.word
-  pub number_is : row.number ≡ place.function.slot
-  pub lawful : IsRow badges row
+  pub says : row.words ≡ words_of_row place.function
+  pub shows : ShowBadges (filter (λ badge. badge.slot == place.function.slot) badges) row.beside
   pub left_is : row.left ≡ 30 + 14 * place.steps
   pub base_is : row.base ≡ down y 10
   pub class_is : row.class ≡ class_of_row row.beside place.function.is_on

@@ -1,5 +1,6 @@
 -- The tree of buses, while it is drawn.
 use Rattle.std.specs.Prelude.{◌≡◌, ◌<◌, ◌+◌, ◌-◌, ◌^◌, ℕ, Bool, true, false, min, Option, Some, None, List, [], ◌∷◌, ◌++◌, take, drop, slice_index_or, slice_set, if◌then◌else◌}
+use Rattle.std.specs.List.{Contains}
 use Rattle.pci_picture.specs.Canvases.{WritesBytes}
 use Rattle.pci_picture.specs.Roots.{Listed, listed_function, secondary_of}
 use Rattle.pci_picture.specs.Rows.{TreeRow, tree_row_text}
@@ -28,6 +29,7 @@ left_of functions rest = left_between functions rest.next rest.end
 
 -- the first function that is left, and those behind it
 pub record IsNextFunction (functions : List Function) (rest : Rest) (function : Function) : Type 0 where
+  pub own : Contains functions function
   pub some : rest.next < rest.end
   pub splits : left_of functions rest ≡ function ∷ left_between functions (rest.next + 1) rest.end
 

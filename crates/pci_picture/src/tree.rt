@@ -1,9 +1,11 @@
 //! The tree of buses.
-ghost use Rattle.std.specs.Prelude.{◌≡◌, ◌++◌, ◌∷◌, [], ℕ, List, Some, None, IfOk, IfSome, OnOk};
+ghost use Rattle.std.specs.Prelude.{◌≡◌, ◌++◌, [], ℕ, List, Some, None, IfOk, IfSome, OnOk};
+ghost use Rattle.std.specs.List.{Contains};
 ghost use Rattle.pci_picture.specs.Badges.{ShowBadges, badges_beside};
 ghost use Rattle.pci_picture.specs.Ranks.{badge_word};
 ghost use Rattle.pci_picture.specs.Canvases.{AddsToCanvas, WritesBytes};
-ghost use Rattle.pci_picture.specs.Roots.{AreBusesAbove, listed_functions};
+ghost use Rattle.pci_picture.specs.Roots.{AreBusesAbove, listed_function, listed_functions};
+ghost use Rattle.pci_picture.specs.Rows.{words_of_row};
 ghost use Rattle.pci_picture.specs.Starts.{StandOnBus};
 ghost use Rattle.pci_picture.specs.Trees.{class_of_row, is_tree_root};
 ghost use Rattle.pci_picture.specs.Walks.{AreMarked, IsBusBegun, IsNextFunction, WritesBus, WritesRoot, WritesRow, WritesTree, left_of, place_of, unmarked_behind};
@@ -116,7 +118,8 @@ fn words_of<A: Allocator + Copy>(
     board: &Board<'_, A>,
     function: &Function<'_>,
 ) -> Result<Words<A>, OutOfMemory>
-    ensures { IfOk result (λ words. (more : List ℕ) × (words.bytes.items ≡ function.entry.now.slot.now ++ 32 ∷ more)) }
+    ensures { Contains board.entry.now.functions.items function.entry.now
+        → IfOk result (λ words. words.bytes.items ≡ words_of_row (listed_function function.entry.now)) }
 {
     let mut words = Words::of(alloc, function.slot)?;
     words.put(b" ")?;
@@ -152,7 +155,8 @@ fn draw_row<A: Allocator + Copy>(
     y: u64,
 ) -> Result<(), OutOfMemory>
     ensures adds { OnOk result (AddsToCanvas [] canvas.old canvas.new) }
-    ensures row { OnOk result (WritesRow board.entry.now.faults.badges.items y (place_of function.entry.now depth) canvas.old canvas.new) }
+    ensures row { Contains board.entry.now.functions.items function.entry.now
+        → OnOk result (WritesRow board.entry.now.faults.badges.items y (place_of function.entry.now depth) canvas.old canvas.new) }
 {
     let x = LEFT + STEP * depth.min(DEEPEST);
     let badges = badges_of(alloc, board, function)?;

@@ -60,7 +60,7 @@ loop-rest-preserved g c =
     let now = string_bytes c.draw_row.new.canvas.words in
     let marks = c.loop-rest.drawn in
     let function = c.in-Some-next_of.function.now in
-    let row = c.in_ok-draw_row.ensures.row in
+    let row = c.in_ok-draw_row.ensures.row c.in-Some-next_of.ensures.some.own in
     record {
       adds = then_draws [] _ _ _ c.loop-rest.invariant.adds c.in_ok-draw_row.ensures.adds;
       size = c.push_behind.array_long;

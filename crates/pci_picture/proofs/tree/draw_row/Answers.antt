@@ -1,4 +1,4 @@
-use Rattle.std.proofs.Common.{[], ◌≡◌, ◌++◌, ◌∙◌, ap, ◌+◌, ◌-◌, ◌*◌, ◌^◌, length, refl, arith}
+use Rattle.std.proofs.Common.{[], ◌≡◌, ◌++◌, ◌∙◌, ap, ◌+◌, ◌-◌, ◌*◌, ◌^◌, length, arith}
 use Rattle.std.specs.Prelude.{codes, min}
 use Rattle.std.specs.String.{string_bytes}
 use Rattle.std.proofs.lemmas.Result.{on_ok_weaker}
@@ -16,10 +16,8 @@ returns-clause-adds g c =
     c.add_words.ensures.adds
 
 pub returns-clause-row : goal.returns-clause-row
-returns-clause-row g c =
+returns-clause-row g c own =
     let row : TreeRow = record {
-      slot = c.args.function.now.slot.now;
-      number = c.args.function.now.number;
       class = c.row_class.result.now;
       words = c.in_ok-words.words.bytes.items;
       beside = c.in_ok-badges.badges.bytes.items;
@@ -32,9 +30,8 @@ returns-clause-row g c =
     (λ writes. record {
       row = row;
       stands = record {
-        slot_is = refl;
-        number_is = refl;
-        lawful = record { more = c.in_ok-words.ensures.0; named = c.in_ok-words.ensures.1; shows = c.in_ok-badges.ensures };
+        says = c.in_ok-words.ensures own;
+        shows = c.in_ok-badges.ensures;
         left_is = omega (arith, c.min.ensures);
         base_is = c.saturating_add-y.ensures;
         class_is = c.row_class.ensures ∙ ap (λ l. class_of_row l c.args.function.now.is_on) c.as_slice.ensures.value;
