@@ -46,6 +46,7 @@ pub mod Marks
 pub mod Badges
 pub mod BadgeWords
 pub mod Rows
+pub mod Legends
 pub mod Starts
 pub mod Trees
 pub mod RootRows

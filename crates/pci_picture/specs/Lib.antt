@@ -1,6 +1,7 @@
 pub mod Xml
 pub mod Elements
 pub mod Labels
+pub mod Legends
 pub mod Whole
 pub mod Heights
 pub mod Stacked

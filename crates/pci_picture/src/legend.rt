@@ -1,7 +1,9 @@
 //! The legend.
-ghost use Rattle.std.specs.Prelude.{◌≡◌, [], IfOk, OnOk};
+ghost use Rattle.std.specs.Prelude.{◌≡◌, ◌+◌, ◌^◌, ◌-◌, [], min, IfOk, OnOk};
 ghost use Rattle.pci_picture.specs.Boxes.{titled_line};
-ghost use Rattle.pci_picture.specs.Canvases.{AddsToCanvas};
+ghost use Rattle.pci_picture.specs.Canvases.{AddsToCanvas, WritesBytes};
+ghost use Rattle.pci_picture.specs.Labels.{label_text};
+ghost use Rattle.pci_picture.specs.Legends.{legend_text, marks_of_legend, words_of_mark};
 
 use super::canvas::{Canvas, Label, Shape};
 use super::elements::Frame;
@@ -84,7 +86,9 @@ impl Mark {
     }
 
     /// What stands beside its box.
-    fn words(self) -> &'static str {
+    fn words(self) -> &'static str
+        ensures { result.now ≡ words_of_mark self }
+    {
         match self {
             Mark::Window => "window",
             Mark::Bar => "BAR",
@@ -109,7 +113,8 @@ fn draw_entry<A: Allocator + Copy>(
     x: u64,
     y: u64,
 ) -> Result<(), OutOfMemory>
-    ensures { OnOk result (AddsToCanvas [] canvas.old canvas.new) }
+    ensures adds { OnOk result (AddsToCanvas [] canvas.old canvas.new) }
+    ensures writes { OnOk result (WritesBytes (label_text (min (x + 21) (2 ^ 64 - 1)) y [] (words_of_mark mark)) canvas.old canvas.new) }
 {
     let at = Frame {
         x,
@@ -133,6 +138,14 @@ fn draw_entry<A: Allocator + Copy>(
     canvas.add_words(label, mark.words().as_bytes())
 }
 
+/// The marks of a legend: those of told ranges only where there are any.
+#[tactic(auto, unfolding(crate::specs::Legends::marks_of_legend))]
+fn marks_of(is_told: bool) -> &'static [Mark]
+    ensures { result.now ≡ marks_of_legend is_told }
+{
+    if is_told { &LEGEND[..] } else { &LEGEND[..10] }
+}
+
 /// Draws the legend, where told ranges have entries only if there are any. Its answer is where its last entry begins
 /// from the left.
 pub fn draw_legend<A: Allocator + Copy>(
@@ -140,12 +153,12 @@ pub fn draw_legend<A: Allocator + Copy>(
     is_told: bool,
     y: u64,
 ) -> Result<u64, OutOfMemory>
-    ensures { IfOk result (λ _. AddsToCanvas [] canvas.old canvas.new) }
+    ensures adds { IfOk result (λ _. AddsToCanvas [] canvas.old canvas.new) }
+    ensures writes { IfOk result (λ _. WritesBytes (legend_text y 16 (marks_of_legend is_told)) canvas.old canvas.new) }
 {
     let mut x = LEFT;
     let mut last = LEFT;
-    let marks = if is_told { &LEGEND[..] } else { &LEGEND[..10] };
-    for mark in marks {
+    for mark in marks_of(is_told) {
         draw_entry(canvas, *mark, x, y)?;
         last = x;
         let room = (mark.words().len() as u64).saturating_mul(7);

@@ -1,0 +1,31 @@
+-- The words of the legend.
+use Rattle.std.specs.Prelude.{ℕ, Bool, ◌+◌, ◌*◌, List, [], ◌∷◌, ◌++◌, codes, length, if◌then◌else◌}
+use Rattle.pci_picture.specs.Labels.{label_text}
+use Rattle.pci_picture.specs.declared.legend.Mark.{Mark}
+use Rattle.pci_picture.specs.declared.legend.Mark.TheVariants.{Window, Bar, Prefetchable, Rom, Free, Clash, Lost, Off, Shared, Fits, Told, Held}
+
+-- what stands beside the box of a mark
+abbrev pub words_of_mark : Mark → List ℕ
+words_of_mark Window = codes "window"
+words_of_mark Bar = codes "BAR"
+words_of_mark Prefetchable = codes "prefetchable"
+words_of_mark Rom = codes "ROM"
+words_of_mark Free = codes "free"
+words_of_mark Clash = codes "clash"
+words_of_mark Lost = codes "not reached"
+words_of_mark Off = codes "off"
+words_of_mark Shared = codes "shared addresses"
+words_of_mark Fits = codes "where it would fit"
+words_of_mark Told = codes "told"
+words_of_mark Held = codes "held"
+
+-- the marks of a legend: those of told ranges stand there where there are any
+unfoldable pub marks_of_legend : Bool → List Mark
+marks_of_legend is_told =
+    Window ∷ Bar ∷ Prefetchable ∷ Rom ∷ Free ∷ Clash ∷ Lost ∷ Off ∷ Shared ∷ Fits ∷ (if is_told then Told ∷ Held ∷ [] else [])
+
+-- marks from a left end on: the words of each stand 21 units behind its beginning, and it has 34 units and seven for each character
+abbrev pub legend_text : ℕ → ℕ → List Mark → List ℕ
+legend_text base left [] = []
+legend_text base left (mark ∷ marks) =
+    label_text (left + 21) base [] (words_of_mark mark) ++ legend_text base (left + 34 + 7 * length (words_of_mark mark)) marks
