@@ -1,5 +1,7 @@
 -- What is out of place stands beside what is in place.
-use Rattle.std.proofs.Common.{◌≡◌, ◌≤◌, ◌<◌, ◌+◌, ◌-◌, ◌*◌, ◌/◌, ◌^◌, ℕ, zero, suc, List, [], ◌++◌, length, take, drop, min, refl, sym, ap, subst, ◌∙◌, arith}
+use Rattle.std.proofs.Common.{◌≡◌, ◌≤◌, ◌<◌, ◌+◌, ◌-◌, ◌*◌, ◌/◌, ◌^◌, ◌==◌, if◌then◌else◌, ℕ, zero, suc, List, [], ◌++◌, length, take, drop, min, refl, sym, ap, ap₂, subst, ◌∙◌, arith}
+use Rattle.pci_picture.specs.Columns.{HasColumnsOf, deepest, width_of_lost}
+use Rattle.pci_picture.specs.Headings.{Headed}
 use Rattle.std.specs.List.{Contains}
 use Rattle.std.proofs.Math.Nat.{le-div_iff_mul-le}
 use Rattle.std.proofs.lemmas.List.{drop_min, take_min}
@@ -65,6 +67,17 @@ not_zero (suc n) some = omega arith
 pub columns_of_some : (column behind : ℕ) → (behind ≡ 0 → ⊥) → column ≡ min 126 (1260 / behind) → column * behind ≤ 1260
 columns_of_some column behind some is =
     (le-div_iff_mul-le {k = behind} {x = column} {y = 1260} (omega (arith, not_zero behind some))).0 (omega (arith, is))
+
+pub has_columns : (regions : List Headed) (site : Site) (behind lost product : ℕ) → site.x ≡ 436 → behind ≡ deepest regions - 1 → lost ≡ width_of_lost regions
+    → site.column ≡ (if behind == 0 then 126 else min 126 (1260 / behind)) → site.column * behind ≤ 1260 → lost ≤ 240
+    → product ≡ min (site.column * behind) (2 ^ 64 - 1) → site.width ≡ min (product + (330 + lost)) (2 ^ 64 - 1) → HasColumnsOf regions site
+has_columns regions site behind lost product left behind_is lost_is column few low product_is width_is = record {
+  x_is = left;
+  column_is = column ∙ ap (λ n. if n == 0 then 126 else min 126 (1260 / n)) behind_is;
+  width_is =
+      (let sum : site.width ≡ site.column * behind + 330 + lost = omega (arith, few, low, product_is, width_is) in
+      sum ∙ ap₂ (λ n l. site.column * n + 330 + l) behind_is lost_is);
+}
 
 pub has_room : (site : Site) (columns lost product : ℕ) → site.x ≡ 436 → columns ≤ 1260 → lost ≤ 240 → product ≡ min columns (2 ^ 64 - 1)
     → site.width ≡ min (product + (330 + lost)) (2 ^ 64 - 1) → HasSides site

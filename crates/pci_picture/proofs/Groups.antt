@@ -329,8 +329,8 @@ grouped look first functions lines members count end spots past are indented sor
       };
       by_root = groups_by_root look functions done.groups done.each (subst (All (IsLostByRoot functions)) (sym taken) by_root);
       stand = done.stand;
-      nested = λ sides.
+      nested = λ sides columns.
           All-map (HasNestedBoxes look regions) (λ g. g.section) done.groups
-          (λ k d inside. nested_group look first regions members (get_or done.groups k d) sides (done.rooms k d inside) (sorted ((get_or done.groups k d).section.number)) indented
+          (λ k d inside. nested_group look first regions members (get_or done.groups k d) sides columns (done.rooms k d inside) (sorted ((get_or done.groups k d).section.number)) indented
           (has k d inside) (done.each k d inside));
     }

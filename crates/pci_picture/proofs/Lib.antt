@@ -32,6 +32,7 @@ pub mod Looks
 pub mod Groups
 pub mod Once
 pub mod Sections
+pub mod Columns
 pub mod Listings
 pub mod Named
 pub mod LowDigits

@@ -76,12 +76,12 @@ any_filtered p q (x ∷ xs) = elim (q x) as (λ b. list_any p (cond b (x ∷ fil
   | false ↦ any_filtered p q xs
 ]
 
-any_alike : {X : Type 0} (p q : X → Bool) (xs : List X) → All (λ x. p x ≡ q x) xs → list_any p xs ≡ list_any q xs
+pub any_alike : {X : Type 0} (p q : X → Bool) (xs : List X) → All (λ x. p x ≡ q x) xs → list_any p xs ≡ list_any q xs
 any_alike p q [] all = refl
 any_alike p q (x ∷ xs) all =
     ap (λ b. b || list_any p xs) (All-head (λ y. p y ≡ q y) x xs all) ∙ ap (λ b. q x || b) (any_alike p q xs (All-tail (λ y. p y ≡ q y) x xs all))
 
-any_of_map : {X Y : Type 0} (p : Y → Bool) (f : X → Y) (xs : List X) → list_any p (map f xs) ≡ list_any (λ x. p (f x)) xs
+pub any_of_map : {X Y : Type 0} (p : Y → Bool) (f : X → Y) (xs : List X) → list_any p (map f xs) ≡ list_any (λ x. p (f x)) xs
 any_of_map p f [] = refl
 any_of_map p f (x ∷ xs) = ap (λ b. p (f x) || b) (any_of_map p f xs)
 

@@ -1,12 +1,13 @@
 -- The members of a section in place, and how deep they stand.
-use Rattle.std.proofs.Common.{arith, ◌≡◌, ◌≤◌, ◌+◌, ◌*◌, ◌==◌, ◌&&◌, not, ℕ, zero, suc, Bool, true, false, cond, if◌then◌else◌, IsTrue, List, [], ◌∷◌, ◌++◌, map, take, drop, refl, sym, ap, ap₂, subst, ◌∙◌, inl, inr}
+use Rattle.std.proofs.Common.{arith, ◌≡◌, ◌≤◌, ◌+◌, ◌*◌, ◌==◌, ◌&&◌, not, ℕ, zero, suc, Bool, true, false, cond, if◌then◌else◌, IsTrue, List, [], ◌∷◌, ◌++◌, map, take, drop, fold, max, get_or, ◌-◌, refl, sym, ap, ap₂, subst, ◌∙◌, inl, inr}
 use Rattle.std.specs.List.{All, filter, position_or_len, slice_index_or}
 use Rattle.std.specs.List.Sorted.{IsNonDecreasingBy}
 use Rattle.std.proofs.lemmas.Bool.{cases_Bool}
 use Rattle.std.proofs.lemmas.List.{take-append-drop}
 use Rattle.std.proofs.lemmas.List.Elements.{All-filter, All-head, All-tail, filter_agree}
+use Rattle.pci_picture.specs.Columns.{HasColumnsOf, column_at, deepest, width_of_lost}
 use Rattle.pci_picture.specs.Drawings.{Group, HasRoomOf, IsGroup}
-use Rattle.pci_picture.specs.Headings.{Headed, is_below_heading, is_below_no_heading, is_lost, is_section, lines_below_headings}
+use Rattle.pci_picture.specs.Headings.{Headed, is_below_heading, is_below_no_heading, is_in_section, is_lost, is_section, lines_below_headings}
 use Rattle.pci_picture.specs.Lanes.{IsIndented}
 use Rattle.pci_picture.specs.Maps.{headed_member, lines_of_regions, regions_of_members}
 use Rattle.pci_picture.specs.Members.{AreIndentedBySection, IsFlatIfLost, is_member_in_place, member_number}
@@ -21,6 +22,7 @@ use Rattle.pci_picture.specs.declared.plan.Site.{Site}
 use Rattle.pci_picture.specs.declared.region.Region.{Region}
 use Rattle.pci_picture.proofs.Chained.{Steps, indented_by}
 use Rattle.pci_picture.proofs.Looks.{SameLooks, titled_same}
+use Rattle.pci_picture.proofs.Marks.{any_alike, any_filtered}
 use Rattle.pci_picture.proofs.Filtered.{filter_twice}
 
 -- ---- what is out of place stands last
@@ -134,14 +136,21 @@ sides_like first site sides room = record {
   uncut = (let low = sides.uncut in let same = room.width_is in let left = room.x_is in omega (arith, low, same, left));
 }
 
+columns_like : (regions : List Headed) (first site : Site) → HasColumnsOf regions first → HasRoomOf first site → HasColumnsOf regions site
+columns_like regions first site columns room = record {
+  x_is = room.x_is ∙ columns.x_is;
+  column_is = room.column_is ∙ columns.column_is;
+  width_is = room.width_is ∙ columns.width_is ∙ ap (λ n. n * (deepest regions - 1) + 330 + width_of_lost regions) (sym room.column_is);
+}
+
 abbrev pub is_in : ℕ → Member → Bool
 is_in number member = member.section == number
 
-pub nested_group : (look : Look) (first : Site) (regions : List Headed) (members : List Member) (group : Group) → HasSides first → HasRoomOf first group.site
+pub nested_group : (look : Look) (first : Site) (regions : List Headed) (members : List Member) (group : Group) → HasSides first → HasColumnsOf regions first → HasRoomOf first group.site
     → AreSortedByTop (headed_in group.section.number regions) (map headed_member (filter (is_member_in_place group.section.number) members))
     → AreIndentedBySection members → filter (is_in group.section.number) members ≡ group.members
     → IsGroup look group → HasNestedBoxes look regions group.section
-nested_group look first regions members group sides room sorted are has is =
+nested_group look first regions members group sides columns room sorted are has is =
     let n : ℕ = group.section.number in
     let ms : List Member = group.members in
     let count : ℕ = count_in_place ms in
@@ -168,6 +177,7 @@ nested_group look first regions members group sides room sorted are has is =
       indented = indented;
       site = group.site;
       room = sides_like first group.site sides room;
+      columns = columns_like regions first group.site columns room;
       widths = is.beside.widths;
       sides = is.beside.sides;
       beside = subst (λ l. StandBeside group.site l (drop count every) is.beside.widths) front (is.beside.beside both);
@@ -186,6 +196,34 @@ looks_same one other same is_lost [] = refl
 looks_same one other same is_lost (region ∷ regions) =
     ap₂ (λ l ls. l ∷ ls) (same.class is_lost region.line.now) (looks_same one other same is_lost regions)
 
+in_section_kept : (heading : Heading) → (is_in_section heading && not (is_below_no_heading heading)) ≡ is_in_section heading
+in_section_kept (InSection m) = refl
+in_section_kept Lost = refl
+in_section_kept Off = refl
+
+lost_among_kept : (heading : Heading) → (not (is_below_no_heading heading) && is_lost heading) ≡ is_lost heading
+lost_among_kept (InSection m) = refl
+lost_among_kept Lost = refl
+lost_among_kept Off = refl
+
+columns_of_all : (regions : List Headed) (site : Site) → HasColumnsOf (filter is_below_heading regions) site → HasColumnsOf regions site
+columns_of_all regions site columns =
+    let deep : deepest (filter is_below_heading regions) ≡ deepest regions =
+    ap (fold (λ depth (region : Headed). max depth region.depth) 1)
+    (filter_twice (λ region. is_in_section region.heading) is_below_heading regions
+    ∙ filter_agree (λ region. is_in_section region.heading && is_below_heading region) (λ region. is_in_section region.heading)
+    (λ region. in_section_kept region.heading) regions) in
+    let lost : width_of_lost (filter is_below_heading regions) ≡ width_of_lost regions =
+    ap (λ b. if b then 240 else 0)
+    (any_filtered (λ (region : Headed). is_lost region.heading) is_below_heading regions
+    ∙ any_alike (λ (region : Headed). is_below_heading region && is_lost region.heading) (λ region. is_lost region.heading) regions
+    (λ k d inside. lost_among_kept (get_or regions k d).heading)) in
+    record {
+      x_is = columns.x_is;
+      column_is = columns.column_is ∙ ap column_at deep;
+      width_is = columns.width_is ∙ ap₂ (λ d l. site.column * (d - 1) + 330 + l) deep lost;
+    }
+
 -- the same with looks that agree, and of all regions
 pub nested_of_all : (one other : Look) → SameLooks one other → (regions : List Headed) (section : Section)
     → HasNestedBoxes one (filter is_below_heading regions) section → HasNestedBoxes other regions section
@@ -203,6 +241,7 @@ nested_of_all one other same regions section is = record {
   indented = is.indented;
   site = is.site;
   room = is.room;
+  columns = columns_of_all regions is.site is.columns;
   widths = is.widths;
   sides = is.sides;
   beside = is.beside;

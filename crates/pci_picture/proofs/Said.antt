@@ -162,6 +162,24 @@ window_by_word Told = refl
 window_by_word Held = refl
 window_by_word Free = refl
 
+told_by_word : (part : Part) → sameb the_type part Told ≡ says (word_of_part part) (codes "told")
+told_by_word Bar = refl
+told_by_word Prefetchable = refl
+told_by_word Rom = refl
+told_by_word Window = refl
+told_by_word Told = refl
+told_by_word Held = refl
+told_by_word Free = refl
+
+held_by_word : (part : Part) → sameb the_type part Held ≡ says (word_of_part part) (codes "held")
+held_by_word Bar = refl
+held_by_word Prefetchable = refl
+held_by_word Rom = refl
+held_by_word Window = refl
+held_by_word Told = refl
+held_by_word Held = refl
+held_by_word Free = refl
+
 -- a word that is neither `bar` nor `pref` is the third one where the look of a part has it
 word_by_look : (words : List (List ℕ)) (word : List ℕ) → says (codes "bar") word ≡ false → says (codes "pref") word ≡ false
     → says (look_of_part words) word ≡ says (nth_word words 2) word
@@ -180,6 +198,12 @@ part_free part words looks = free_by_word part ∙ ap (λ w. says w (codes "free
 
 pub part_window : (part : Part) (words : List (List ℕ)) → word_of_part part ≡ look_of_part words → sameb the_type part Window ≡ says_window words
 part_window part words looks = window_by_word part ∙ ap (λ w. says w (codes "window")) looks ∙ word_by_look words (codes "window") refl refl
+
+pub part_told : (part : Part) (words : List (List ℕ)) → word_of_part part ≡ look_of_part words → sameb the_type part Told ≡ says (nth_word words 2) (codes "told")
+part_told part words looks = told_by_word part ∙ ap (λ w. says w (codes "told")) looks ∙ word_by_look words (codes "told") refl refl
+
+pub part_held : (part : Part) (words : List (List ℕ)) → word_of_part part ≡ look_of_part words → sameb the_type part Held ≡ says (nth_word words 2) (codes "held")
+part_held part words looks = held_by_word part ∙ ap (λ w. says w (codes "held")) looks ∙ word_by_look words (codes "held") refl refl
 
 -- ---- titles
 

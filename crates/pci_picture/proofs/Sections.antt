@@ -8,11 +8,12 @@ use Rattle.std.proofs.lemmas.List.Sorted.{IsNonDecreasingBy-drop, IsNonDecreasin
 use Rattle.std.proofs.lemmas.List.Elements.{All-nil, All-push, All-weaker}
 use Rattle.pci_picture.specs.Boxes.{IsDrawnOf, IsPictureOf}
 use Rattle.pci_picture.specs.Canvases.{AddsToCanvas, AddsSome, HasDrawn}
+use Rattle.pci_picture.specs.Columns.{HasColumnsOf}
 use Rattle.pci_picture.specs.Drawings.{AreGrouped, AreOffBoxes, AreOfSection, AreOfSections, HasRoomOf, IsBoxOf, IsRunOfSection, sections_of}
 use Rattle.pci_picture.specs.Headings.{AreSectionsOf, headed_regions, is_below_heading}
 use Rattle.pci_picture.specs.Lines.{is_feed, region_lines}
 use Rattle.pci_picture.specs.Looks.{IsTitled, Look, look_told}
-use Rattle.pci_picture.specs.Maps.{AreMembersOf, IsReadOf, lines_of_regions, regions_under, regions_of_members, regions_placed, lines_read}
+use Rattle.pci_picture.specs.Maps.{AreMembersOf, IsReadOf, lines_of_regions, regions_under, regions_of_members, regions_placed, kept_regions, lines_read}
 use Rattle.pci_picture.specs.Members.{AreIndentedBySection, AreSortedBySection, member_number}
 use Rattle.pci_picture.specs.Nested.{HasNestedBoxes}
 use Rattle.pci_picture.specs.Roots.{IsLostByRoot, Listed}
@@ -171,13 +172,13 @@ sorted_members lines before after is moved =
 -- ---- the whole
 
 pub whole_picture : {A T E : Type 0} (look : Look) (row : Site) (functions : List Listed) (map faults : List ℕ) (read : Map A) (new before between last : Canvas A) (y height : ℕ) (result : Result T E) (bytes : T → List ℕ)
-    → SameLooks look (look_told functions faults) → HasSides row → IsReadOf (slice_split is_feed map) read → y ≤ height
+    → SameLooks look (look_told functions faults) → HasSides row → HasColumnsOf (kept_regions read) row → IsReadOf (slice_split is_feed map) read → y ≤ height
     → HasDrawn [] new → AddsToCanvas [] new before → AddsSome (AreOfSections look row functions read.lines.items y) before between
     → AddsSome (AreOffBoxes look read.off.items) between last
     → ((spots : List BoxSpot) → HasDrawn spots last → IfOk result (λ text. IsDrawnOf spots height (bytes text)))
     → IfOk result (λ text. IsPictureOf functions map faults (bytes text))
-whole_picture look row functions map faults read new before between last y height (Err e) bytes same sides told down none kept some off finished = tt
-whole_picture look row functions map faults read new before between last y height (Ok text) bytes same sides told down none kept some off finished =
+whole_picture look row functions map faults read new before between last y height (Err e) bytes same sides columns told down none kept some off finished = tt
+whole_picture look row functions map faults read new before between last y height (Ok text) bytes same sides columns told down none kept some off finished =
     let joined : some.spots ++ off.spots ≡ all_of some.hold.sections ++ off.spots = ap (λ l. l ++ off.spots) (sym some.hold.joined) in
     let both : lines_drawn (some.spots ++ off.spots) ≡ lines_drawn some.spots ++ lines_of_regions read.off.items =
     map-append (λ s. s.line) some.spots off.spots ∙ ap (λ l. lines_drawn some.spots ++ l) off.hold.drawn in
@@ -203,6 +204,6 @@ whole_picture look row functions map faults read new before between last y heigh
       nested =
           All-weaker (HasNestedBoxes look (filter is_below_heading (headed_regions map))) (HasNestedBoxes (look_told functions faults) (headed_regions map))
           (nested_of_all look (look_told functions faults) same (headed_regions map)) some.hold.sections
-          (subst (λ l. All (HasNestedBoxes look l) some.hold.sections) told.kept (some.hold.nested sides));
+          (subst (λ l. All (HasNestedBoxes look l) some.hold.sections) told.kept (some.hold.nested sides columns));
       by_root = some.hold.by_root;
     }

@@ -2,6 +2,7 @@
 use Rattle.std.specs.Prelude.{◌≡◌, ◌<◌, ◌≤◌, ◌+◌, ◌-◌, ◌^◌, ℕ, List, [], ◌∷◌, ◌++◌, codes, map, take, length, slice_index_or}
 use Rattle.std.specs.List.{All, AllPairs, flat_map}
 use Rattle.std.specs.List.Sorted.{IsPermutation, IsNonDecreasingBy}
+use Rattle.pci_picture.specs.Columns.{HasColumnsOf}
 use Rattle.pci_picture.specs.Headings.{AreSectionsOf, is_lost, lines_below_headings}
 use Rattle.pci_picture.specs.Heights.{AddressRange, HasHeights}
 use Rattle.pci_picture.specs.Looks.{IsTitled, Look, looks_placed, looks_up_to}
@@ -96,10 +97,11 @@ pub record IsGroup (look : Look) (group : Group) : Type 0 where
   pub lost_last : IsNonDecreasingBy member_number group.members
   pub beside : AreDrawnBeside group.site group.members group.section.spots
 
--- two sections have boxes from the same left end to the same right end
+-- two sections have boxes from the same left end to the same right end, and columns of one width
 pub record HasRoomOf (first site : Site) : Type 0 where
   pub x_is : site.x ≡ first.x
   pub width_is : site.width ≡ first.width
+  pub column_is : site.column ≡ first.column
 
 abbrev pub sections_of : List Group → List Section
 sections_of groups = map (λ group. group.section) groups
@@ -128,4 +130,4 @@ pub record AreOfSections (look : Look) (first : Site) (functions : List Listed) 
   pub below_headings : AreSectionsOf (map headed_line lines) sections
   pub by_root : All (AreLostByRoot functions) sections
   pub stand : EachStands end sections
-  pub nested : HasSides first → All (HasNestedBoxes look (map headed_line lines)) sections
+  pub nested : HasSides first → HasColumnsOf (map headed_line lines) first → All (HasNestedBoxes look (map headed_line lines)) sections

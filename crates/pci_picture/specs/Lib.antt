@@ -31,6 +31,7 @@ pub mod ByRoots
 pub mod Lanes
 pub mod Seats
 pub mod Sides
+pub mod Columns
 pub mod Nested
 pub mod Members
 pub mod Siblings

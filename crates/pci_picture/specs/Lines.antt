@@ -144,3 +144,7 @@ indented_if_region line = if nat_lt (leading_blanks line) 2 then [] else line_if
 -- the regions of a map's text, in their order
 abbrev pub region_lines : List ℕ → List (List ℕ)
 region_lines map = flat_map indented_if_region (slice_split is_feed map)
+
+-- a line is one of a told range, or of a range that somebody holds
+abbrev pub is_told_line : List ℕ → Bool
+is_told_line line = says (nth_word (words_in_line line) 2) (codes "told") || says (nth_word (words_in_line line) 2) (codes "held")

@@ -40,6 +40,10 @@ headed_line line = headed (heading_in line.section) line.region.depth line.top l
 abbrev pub headed_member : Member → Headed
 headed_member member = headed (if member.is_lost then Lost else Section member.section) member.region.depth member.top member.region.line.now
 
+-- the regions of a map that stand in sections or are out of place
+abbrev pub kept_regions : {A : Type 0} → Map A → List Headed
+kept_regions read = map headed_line read.lines.items
+
 -- a map has the regions of some lines of text, each with its heading, its depth and its line of depth 1; those that are off stand
 -- apart
 pub record IsReadOf {A : Type 0} (lines : List (List ℕ)) (read : Map A) : Type 0 where

@@ -2,6 +2,7 @@
 use Rattle.std.specs.Prelude.{◌≡◌, ℕ, ◌==◌, List, ◌++◌, false, map, true}
 use Rattle.std.specs.List.{All, filter}
 use Rattle.std.specs.List.Sorted.{IsNonDecreasingBy}
+use Rattle.pci_picture.specs.Columns.{HasColumnsOf}
 use Rattle.pci_picture.specs.Headings.{Headed, is_section}
 use Rattle.pci_picture.specs.Lanes.{IsIndented}
 use Rattle.pci_picture.specs.Looks.{IsTitled, Look, looks_of}
@@ -30,7 +31,8 @@ pub record AreSortedByTop (told drawn : List Headed) : Type 0 where
 -- the boxes of a section are those of regions in place, and behind them those of regions out of place. The regions in place are
 -- those below its headings, each with its depth in the map's text, in the order of this text but that lines of depth 1 rise. Each
 -- is one step deeper at most than the one before it. Their boxes stand inside those of their parents, and side by side where they
--- have an address in common. Each box looks as its line says, and so does its title
+-- have an address in common. Each box looks as its line says, and so does its title. All
+-- sections have columns as wide as the deepest line of the map asks for
 pub record HasNestedBoxes (look : Look) (regions : List Headed) (section : Section) : Type 0 where
   pub inside : List Member
   pub lost : List Region
@@ -42,6 +44,7 @@ pub record HasNestedBoxes (look : Look) (regions : List Headed) (section : Secti
   pub indented : IsIndented (regions_of_members inside)
   pub site : Site
   pub room : HasSides site
+  pub columns : HasColumnsOf regions site
   pub widths : List Width
   pub sides : sides_drawn section.spots ≡ map sides_of_width widths
   pub beside : StandBeside site (regions_of_members inside) lost widths

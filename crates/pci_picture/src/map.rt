@@ -1,10 +1,11 @@
 //! The text of a map.
 ghost use Rattle.std.specs.Prelude.{◌≡◌, ◌/◌, [], ◌∷◌, IsTrue, IfOk, OnOk};
-ghost use Rattle.std.specs.List.{slice_split};
+ghost use Rattle.std.specs.List.{list_any, slice_split};
+ghost use Rattle.pci_picture.specs.Columns.{deepest};
 ghost use Rattle.pci_picture.specs.Depths.{AreChained, KnowsDepths, StandsWithin, reading_of};
-ghost use Rattle.pci_picture.specs.Headings.{depth_behind, headed, headed_behind, heading_told, number_of_section, read_on};
-ghost use Rattle.pci_picture.specs.Lines.{is_feed, is_one_line};
-ghost use Rattle.pci_picture.specs.Maps.{IsReadOf, TakesUp};
+ghost use Rattle.pci_picture.specs.Headings.{Headed, depth_behind, headed, headed_behind, heading_told, is_lost, number_of_section, read_on};
+ghost use Rattle.pci_picture.specs.Lines.{is_feed, is_one_line, is_told_line};
+ghost use Rattle.pci_picture.specs.Maps.{IsReadOf, TakesUp, kept_regions, lines_read};
 
 use super::memory::OutOfMemory;
 use super::reading::{hex_byte, indent, stripped, word};
@@ -189,7 +190,9 @@ impl<'a, A: Allocator + Copy> Map<'a, A> {
     }
 
     /// How deep the deepest line of a section stands.
-    pub fn depth(&self) -> usize {
+    pub fn depth(&self) -> usize
+        ensures { result ≡ deepest (kept_regions self.entry.now) }
+    {
         let mut depth = 1;
         for line in &self.lines {
             if line.section.is_some() {
@@ -208,14 +211,17 @@ impl<'a, A: Allocator + Copy> Map<'a, A> {
     }
 
     /// Whether a line is of a told range.
-    pub fn has_told(&self) -> bool {
-        let mut regions = self.lines.iter().map(|line| &line.region);
-        regions.any(|region| region.is_told_range())
+    pub fn has_told(&self) -> bool
+        ensures { result ≡ list_any is_told_line (lines_read self.entry.now) }
+    {
+        self.lines.iter().any(|line| line.region.is_told_range())
             || self.off.iter().any(|region| region.is_told_range())
     }
 
     /// Whether a line is out of place or not reached.
-    pub fn has_lost(&self) -> bool {
+    pub fn has_lost(&self) -> bool
+        ensures { result ≡ list_any (λ (region : Headed). is_lost region.heading) (kept_regions self.entry.now) }
+    {
         self.lines.iter().any(|line| line.section.is_none())
     }
 }

@@ -4,11 +4,12 @@ ghost use Rattle.std.specs.List.{All};
 ghost use Rattle.std.specs.String.{string_bytes};
 ghost use Rattle.pci_picture.specs.BoardLooks.{look_read};
 ghost use Rattle.pci_picture.specs.Canvases.{AddsToCanvas, AddsSome};
+ghost use Rattle.pci_picture.specs.Columns.{HasColumnsOf};
 ghost use Rattle.pci_picture.specs.Depths.{AreChained};
 ghost use Rattle.pci_picture.specs.Drawings.{AreOffBoxes, AreOfSections, IsBoxOf, IsRunOfSection};
 ghost use Rattle.pci_picture.specs.ByRoots.{IsDrawnByRootsOfShow};
 ghost use Rattle.pci_picture.specs.FaultLines.{HasFaultList};
-ghost use Rattle.pci_picture.specs.Maps.{AreMembersOf};
+ghost use Rattle.pci_picture.specs.Maps.{AreMembersOf, kept_regions};
 ghost use Rattle.pci_picture.specs.Members.{AreIndentedBySection, AreSortedBySection};
 ghost use Rattle.pci_picture.specs.Roots.{IsLostByRoot, listed_functions};
 ghost use Rattle.pci_picture.specs.Sides.{HasSides};
@@ -253,6 +254,7 @@ fn bottom_of(end: u64, tree_end: u64) -> u64
 /// each has less width.
 fn first_site<A: Allocator + Copy>(map: &Map<'_, A>, y: u64) -> Site
     ensures room { HasSides result }
+    ensures columns { HasColumnsOf (kept_regions map.entry.now) result }
     ensures y { result.y ≡ y }
 {
     let behind = (map.depth() as u64).saturating_sub(1);

@@ -50,6 +50,7 @@ pub struct Region<'a> {
 
 impl Region<'_> {
     ghost use Rattle.pci_picture.specs.Cuts.{is_window_part};
+    ghost use Rattle.pci_picture.specs.Lines.{is_told_line};
 
     /// Whether it is a window of a bridge.
     pub fn is_window(&self) -> bool
@@ -59,7 +60,9 @@ impl Region<'_> {
     }
 
     /// Whether it is told beside the registers.
-    pub fn is_told_range(&self) -> bool {
+    pub fn is_told_range(&self) -> bool
+        ensures { result ≡ is_told_line self.entry.now.line.now }
+    {
         self.part == Part::Told || self.part == Part::Held
     }
 }

@@ -26,7 +26,7 @@ loop-begin-preserved g c =
           section_more (look_read c.args.board.now) c.args.first.now _ c.as_slice-members.result.now _ c.loop-begin.begin c.section_end-end.result c.loop-begin.y c.in_ok-y.y c.index-members-begin.result
           c.args.canvas.now c.loop-begin.canvas c.draw_section.new.canvas
           c.section_end-end.ensures.some c.section_end-end.ensures.within c.index-members-begin.is refl c.in_ok-y.ensures.down
-          are.sorted indented.lost_last c.section_end-end.ensures.alike (record { x_is = refl; width_is = refl })
+          are.sorted indented.lost_last c.section_end-end.ensures.alike (record { x_is = refl; width_is = refl; column_is = refl })
           (sym (ap (λ m. m.section) c.index-members-begin.is)) c.loop-begin.invariant.adds c.in_ok-y.ensures.drawn;
     }
 
