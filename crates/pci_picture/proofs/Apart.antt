@@ -14,7 +14,7 @@ not_above height_of low high rises le =
     ]
 
 pub boxes_are_apart : BoxesAreApart
-boxes_are_apart number spots one other standing here there less =
+boxes_are_apart told_of number spots one other standing here there less =
     let f = standing.height_of in
     let past : ℕ = region_last_address one.line + 1 in
     let first : ℕ = first_address other.line in

@@ -36,7 +36,7 @@ reason_at (line ∷ lines) zero d inside = refl
 reason_at (line ∷ lines) (suc k) d inside =
     get_or-map further_line lines k [] d (omega (arith, inside)) ∙ ap (λ b. fault_line b (get_or lines k [])) (sym (ne_eqb (suc k) 0 (λ e. omega (arith, e))))
 
-line_there : {A : Type 0} (faults : Faults A) (fault : Fault) (k : ℕ) → k < fault.end - fault.begin
+pub line_there : {A : Type 0} (faults : Faults A) (fault : Fault) (k : ℕ) → k < fault.end - fault.begin
     → get_or (lines_of_fault faults (Some fault)) k [] ≡ get_or (map (λ line. line.now) faults.lines.items) (fault.begin + k) []
 line_there faults fault k inside =
     let now = λ (line : Bor (List ℕ)). line.now in

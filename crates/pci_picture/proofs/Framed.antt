@@ -6,7 +6,7 @@ use Rattle.std.proofs.lemmas.List.{map-append, map_more, take_all}
 use Rattle.std.proofs.lemmas.List.Elements.{All-append, All-cons, All-nil, All-push, Contains-get_or}
 use Rattle.pci_picture.specs.Canvases.{AddsToCanvas, AddsSome}
 use Rattle.pci_picture.specs.Drawings.{IsFramed, IsFramedAt, ArePlanned, AreFramed, AreOfSection, IsBoxOf}
-use Rattle.pci_picture.specs.Heights.{AddressRange, HasHeights}
+use Rattle.pci_picture.specs.Heights.{HasHeights}
 use Rattle.pci_picture.specs.Looks.{IsTitled, Look, looks_placed, looks_up_to}
 use Rattle.pci_picture.specs.Maps.{lines_of_regions, regions_of_members, regions_placed}
 use Rattle.pci_picture.specs.Sides.{sides_of_width, StandBesideIn, count_in_place, widths_placed}
@@ -113,12 +113,12 @@ all_stand height_of spots rise framed k d lt =
     (omega (arith, up)))
     (framed k d lt)
 
-of_section : (look : Look) (site : Site) (members : List Member) (placed : List Placed) (told : List AddressRange) (runs : List Run) (top bottom end : ℕ) (spots : List BoxSpot) → AreFramed look placed runs bottom spots
+of_section : (look : Look) (site : Site) (members : List Member) (placed : List Placed) (runs : List Run) (top bottom end : ℕ) (spots : List BoxSpot) → AreFramed look placed runs bottom spots
     → regions_placed placed ≡ regions_of_members members → bottom ≤ end
-    → (bottom < 2 ^ 64 - 1 → ArePlanned site.section top told (lines_of_regions (regions_of_members members)) runs bottom)
+    → (bottom < 2 ^ 64 - 1 → ArePlanned site.section top (look.told (lines_of_regions (regions_of_members members))) (lines_of_regions (regions_of_members members)) runs bottom)
     → looks_placed look placed ≡ looks_up_to look (count_in_place members) (regions_of_members members)
     → StandBesideIn site (count_in_place members) (regions_of_members members) (widths_placed placed) → AreOfSection look site members end spots
-of_section look site members placed told runs top bottom end spots framed is above planned looks beside =
+of_section look site members placed runs top bottom end spots framed is above planned looks beside =
     let drawn : lines_drawn spots ≡ lines_of_regions (regions_of_members members) = framed.drawn ∙ ap lines_of_regions is in
     record {
       drawn = drawn;
@@ -132,21 +132,20 @@ of_section look site members placed told runs top bottom end spots framed is abo
             rise = rise;
             stand = all_stand (height_at runs bottom) spots rise (framed.framed plan.sorted);
             top = top;
-            told = told;
             by_rule =
-                subst (λ l. HasHeights (base_of_section site.section) top (IsCutOf l told) (IsInSomeRegion l) (height_at runs bottom)) (sym drawn) plan.by_rule;
+                subst (λ l. HasHeights (base_of_section site.section) top (IsCutOf l (look.told l)) (IsInSomeRegion l) (height_at runs bottom)) (sym drawn) plan.by_rule;
           };
       beside = record { widths = widths_placed placed; sides = framed.sides; beside = beside };
     }
 
-pub adds_section : {A : Type 0} (look : Look) (site : Site) (members : List Member) (placed : List Placed) (told : List AddressRange) (runs : List Run) (top bottom end : ℕ) (before between after : Canvas A)
+pub adds_section : {A : Type 0} (look : Look) (site : Site) (members : List Member) (placed : List Placed) (runs : List Run) (top bottom end : ℕ) (before between after : Canvas A)
     → AddsToCanvas [] before between → AddsSome (AreFramed look placed runs bottom) between after → regions_placed placed ≡ regions_of_members members
-    → bottom ≤ end → (bottom < 2 ^ 64 - 1 → ArePlanned site.section top told (lines_of_regions (regions_of_members members)) runs bottom)
+    → bottom ≤ end → (bottom < 2 ^ 64 - 1 → ArePlanned site.section top (look.told (lines_of_regions (regions_of_members members))) (lines_of_regions (regions_of_members members)) runs bottom)
     → looks_placed look placed ≡ looks_up_to look (count_in_place members) (regions_of_members members)
     → StandBesideIn site (count_in_place members) (regions_of_members members) (widths_placed placed) → AddsSome (AreOfSection look site members end) before after
-adds_section look site members placed told runs top bottom end before between after head done is above planned looks beside =
+adds_section look site members placed runs top bottom end before between after head done is above planned looks beside =
     then_some (AreOfSection look site members end) before between after head (record {
       spots = done.spots;
-      hold = of_section look site members placed told runs top bottom end done.spots done.hold is above planned looks beside;
+      hold = of_section look site members placed runs top bottom end done.spots done.hold is above planned looks beside;
       adds = done.adds;
     })

@@ -250,7 +250,7 @@ no_group look first members y = record {
   each = All-nil (IsGroup look);
   rise = λ i j d less inside. absurd (omega (arith, inside));
   below = λ d inside. All-nil (λ section. section.number < (get_or members 0 d).section);
-  stand = λ small. All-nil (λ section. AreBoxesStanding section.number section.spots);
+  stand = λ small. All-nil (λ section. AreBoxesStanding look.told section.number section.spots);
   rooms = All-nil (λ group. HasRoomOf first group.site);
 }
 
@@ -292,8 +292,8 @@ group_more look first site members part begin end y bottom number spots more don
           (All-weaker (λ s. s.number < number) (λ s. s.number < (get_or members end d).section) (λ s low. omega (arith, low, above)) before less)
           above);
       stand = λ small.
-          subst (All (λ s. AreBoxesStanding s.number s.spots)) (sym behind)
-          (All-push (λ s. AreBoxesStanding s.number s.spots) before section (done.stand (omega (arith, down, small))) (subst (λ n. AreBoxesStanding n more) is (last.stand small)));
+          subst (All (λ s. AreBoxesStanding look.told s.number s.spots)) (sym behind)
+          (All-push (λ s. AreBoxesStanding look.told s.number s.spots) before section (done.stand (omega (arith, down, small))) (subst (λ n. AreBoxesStanding look.told n more) is (last.stand small)));
       rooms = All-push (λ g. HasRoomOf first g.site) done.groups group done.rooms room;
     }
 

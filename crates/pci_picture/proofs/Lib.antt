@@ -28,6 +28,7 @@ pub mod Nested
 pub mod Tops
 pub mod Said
 pub mod ReadSaid
+pub mod Namings
 pub mod Looks
 pub mod Groups
 pub mod Once
@@ -52,6 +53,8 @@ pub mod Starts
 pub mod Trees
 pub mod RootRows
 pub mod FaultLines
+pub mod About
+pub mod Told
 pub mod Examples
 pub mod SideBySide
 pub mod Seated

@@ -1,15 +1,18 @@
 -- The looks of boxes while their regions are placed, and by the faults of a text.
-use Rattle.std.proofs.Common.{◌≡◌, ◌<◌, ◌+◌, ℕ, Bool, true, false, ◌||◌, if◌then◌else◌, List, [], ◌∷◌, ◌++◌, take, drop, length, get_or, sym, ap, ap₂, ◌∙◌}
+use Rattle.std.proofs.Common.{◌≡◌, ◌<◌, ◌+◌, ℕ, Bool, true, false, ◌||◌, if◌then◌else◌, List, [], ◌∷◌, ◌++◌, take, drop, length, get_or, sym, ap, ap₂, subst, ◌∙◌}
 use Rattle.std.specs.List.{All}
 use Rattle.std.proofs.lemmas.List.{append_assoc, map-append, map_more}
 use Rattle.std.proofs.lemmas.List.Elements.{All-weaker}
+use Rattle.pci_picture.specs.Heights.{AddressRange, HasHeights}
 use Rattle.pci_picture.specs.Lines.{words_in_line}
 use Rattle.pci_picture.specs.BoardLooks.{look_read}
 use Rattle.pci_picture.specs.Looks.{IsTitled, Look, look_told, looks_of, looks_placed, looks_up_to}
-use Rattle.pci_picture.specs.Marks.{AreFaultsOf, key_of_region, look_of_part, look_with}
+use Rattle.pci_picture.specs.Marks.{key_of_region, look_of_part, look_with}
 use Rattle.pci_picture.specs.Roots.{listed_functions}
-use Rattle.pci_picture.specs.Said.{AreSaidOf}
-use Rattle.pci_picture.specs.Spots.{BoxSpot}
+use Rattle.pci_picture.specs.FaultLines.{faults_read}
+use Rattle.pci_picture.specs.Said.{AreFaultsOf, AreSaidOf, faults_said}
+use Rattle.pci_picture.specs.Spots.{AreBoxesStanding, BoxSpot, IsCutOf, IsInSomeRegion, Section, base_of_section, lines_drawn}
+use Rattle.pci_picture.specs.Tellings.{ranges_of_faults}
 use Rattle.pci_picture.specs.Titles.{says_free, said_of_function}
 use Rattle.pci_picture.specs.declared.board.Board.{Board}
 use Rattle.pci_picture.specs.declared.plan.Placed.{Placed}
@@ -40,19 +43,35 @@ both_looks look regions front back n none some all empty is_front is_back first 
 pub record SameLooks (one other : Look) : Type 0 where
   pub class : (is_lost : Bool) (line : List ℕ) → one.class is_lost line ≡ other.class is_lost line
   pub said : (line : List ℕ) → one.said line ≡ other.said line
+  pub told : (lines : List (List ℕ)) → one.told lines ≡ other.told lines
 
 pub titled_same : (one other : Look) → SameLooks one other → (spots : List BoxSpot) → All (IsTitled one) spots → All (IsTitled other) spots
 titled_same one other same spots titled =
     All-weaker (IsTitled one) (IsTitled other) (λ spot says. says ∙ ap (λ said. spot.line ++ said) (same.said spot.line)) spots titled
 
+-- ranges that agree are the same cuts
+pub stands_same : (one other : List (List ℕ) → List AddressRange) → ((lines : List (List ℕ)) → one lines ≡ other lines) → (section : Section)
+    → AreBoxesStanding one section.number section.spots → AreBoxesStanding other section.number section.spots
+stands_same one other same section is =
+    let lines = lines_drawn section.spots in
+    record {
+      height_of = is.height_of;
+      rise = is.rise;
+      stand = is.stand;
+      top = is.top;
+      by_rule =
+          subst (λ ranges. HasHeights (base_of_section section.number) is.top (IsCutOf lines ranges) (IsInSomeRegion lines) is.height_of) (same lines) is.by_rule;
+    }
+
 -- the faults that were read are those of the text
-pub looks_told : {A : Type 0} (board : Board A) (text : List ℕ) → AreFaultsOf text board.faults → AreSaidOf text board.faults
+pub looks_told : {A : Type 0} (board : Board A) (text : List ℕ) → AreFaultsOf text board.faults → AreSaidOf text board.faults → faults_read board.faults ≡ faults_said text
     → SameLooks (look_read board) (look_told (listed_functions board.functions.items) text)
-looks_told board text are say = record {
+looks_told board text are say same = record {
   class = λ is_lost line.
       let words = words_in_line line in
       ap₂ (λ clashes lost. look_with clashes (is_lost || lost) (look_of_part words)) (are 61 62 (key_of_region words)) (are 60 63 (key_of_region words));
   said = λ line.
       let words = words_in_line line in
       ap (λ said. if says_free words then [] else 10 ∷ (said_of_function (listed_functions board.functions.items) words ++ said)) (say (key_of_region words));
+  told = λ lines. ap (λ faults. ranges_of_faults faults lines) same;
 }

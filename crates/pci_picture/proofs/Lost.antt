@@ -8,7 +8,7 @@ use Rattle.pci_picture.specs.Headings.{Headed, headed, is_lost, lines_below_head
 use Rattle.pci_picture.specs.Looks.{Look}
 use Rattle.pci_picture.specs.Maps.{headed_member}
 use Rattle.pci_picture.specs.Roots.{AreRoots, IsLostByRoot, AreLostByRoot, Listed, section_by_root, root_bus_of}
-use Rattle.pci_picture.specs.Slots.{IsOfLine, bus_of_line, bus_of_slot, slot_of_key}
+use Rattle.pci_picture.specs.Slots.{IsOfLine, bus_of_line, bus_of_slot, is_io_line, slot_of_key}
 use Rattle.pci_picture.specs.declared.map.Heading.TheVariants.{Section as InSection, Lost}
 use Rattle.pci_picture.specs.declared.plan.Member.{Member}
 
@@ -17,9 +17,10 @@ use Rattle.pci_picture.specs.declared.plan.Member.{Member}
 pub section_told : (functions : List Listed) (roots : List ℕ) (line : List ℕ) (key digits slot bus number : ℕ) → AreRoots functions roots → IsOfLine line key digits
     → slot ≡ slot_of_key key → bus ≡ bus_of_slot slot → bus < 256 → number ≡ number_of_section (get_or roots bus 0) (digits == 8)
     → number ≡ section_by_root functions line
+unfolding is_io_line
 section_told functions roots line key digits slot bus number are of_line is_slot is_bus small is =
     let there : bus ≡ bus_of_line line = is_bus ∙ ap bus_of_slot is_slot ∙ of_line.bus in
-    is ∙ ap₂ number_of_section (are bus small ∙ ap (root_bus_of functions) there) of_line.space
+    is ∙ ap₂ number_of_section (are bus small ∙ ap (root_bus_of functions) there) (ap (λ (n : ℕ). n == 8) of_line.digits_are)
 
 pub section_if_lost : (told : Option ℕ) (number section own : ℕ) (lost : Bool) → is_some told ≡ not lost → section ≡ unwrap_or told number → number ≡ own
     → IsTrue lost → section ≡ own

@@ -13,7 +13,7 @@ use Rattle.pci_picture.specs.Spots.{IsInSomeRegion, IsCutOf, IsEndOf, IsEndOfExt
 use Rattle.pci_picture.specs.Stacked.{height_at, AreHeights, IsCoveredIn}
 use Rattle.pci_picture.specs.declared.heights.Cut.{Cut}
 use Rattle.pci_picture.specs.declared.heights.Run.{Run}
-use Rattle.pci_picture.specs.declared.plan.Told.{Told}
+use Rattle.pci_picture.specs.declared.tellings.Told.{Told}
 use Rattle.pci_picture.specs.declared.region.Region.{Region}
 use Rattle.pci_picture.proofs.Anys.{any_cases, any_first, any_flat, any_flattened, any_kept, any_map, any_mapped, any_more, any_moved, any_next, any_none, any_of_filter, any_right, any_split, any_weaken}
 
@@ -235,11 +235,12 @@ planned number top regions shared fits cuts runs bottom heights moved =
           (height_at runs bottom) same_cuts same_covered heights.by_rule;
     }
 
-pub planned_of : (number base top y : ℕ) (every regions : List Region) (shared fits : List Told) (cuts sorted : List Cut) (runs : List Run) (bottom : ℕ)
-    → base ≡ base_of_section number → top ≡ y + 22 → every ≡ regions → cuts ≡ sorted
+pub planned_of : (number base top y : ℕ) (every regions : List Region) (told : List AddressRange) (shared fits : List Told) (cuts sorted : List Cut) (runs : List Run) (bottom : ℕ)
+    → extents_told (shared ++ fits) ≡ told → base ≡ base_of_section number → top ≡ y + 22 → every ≡ regions → cuts ≡ sorted
     → AreHeights base top cuts runs bottom → IsPermutation (cuts_told every shared fits) sorted
-    → ArePlanned number (y + 22) (extents_told (shared ++ fits)) (lines_of_regions regions) runs bottom
-planned_of number base top y every regions shared fits cuts sorted runs bottom base_is top_is same sorted_is heights moved =
-    planned number (y + 22) regions shared fits cuts runs bottom
+    → ArePlanned number (y + 22) told (lines_of_regions regions) runs bottom
+planned_of number base top y every regions told shared fits cuts sorted runs bottom told_is base_is top_is same sorted_is heights moved =
+    subst (λ ranges. ArePlanned number (y + 22) ranges (lines_of_regions regions) runs bottom) told_is
+    (planned number (y + 22) regions shared fits cuts runs bottom
     (subst (λ t. AreHeights (base_of_section number) t cuts runs bottom) top_is (subst (λ b. AreHeights b top cuts runs bottom) base_is heights))
-    (subst (IsPermutation (cuts_told regions shared fits)) (sym sorted_is) (subst (λ l. IsPermutation (cuts_told l shared fits) sorted) same moved))
+    (subst (IsPermutation (cuts_told regions shared fits)) (sym sorted_is) (subst (λ l. IsPermutation (cuts_told l shared fits) sorted) same moved)))

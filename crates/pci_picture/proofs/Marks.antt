@@ -85,7 +85,7 @@ pub any_of_map : {X Y : Type 0} (p : Y → Bool) (f : X → Y) (xs : List X) →
 any_of_map p f [] = refl
 any_of_map p f (x ∷ xs) = ap (λ b. p (f x) || b) (any_of_map p f xs)
 
-any_and : {X : Type 0} (p : X → Bool) (b : Bool) (xs : List X) → list_any (λ x. p x && b) xs ≡ (b && list_any p xs)
+pub any_and : {X : Type 0} (p : X → Bool) (b : Bool) (xs : List X) → list_any (λ x. p x && b) xs ≡ (b && list_any p xs)
 any_and p b [] = elim b as (λ c. false ≡ (c && false)) [ true ↦ refl | false ↦ refl ]
 any_and p b (x ∷ xs) = ap (λ c. (p x && b) || c) (any_and p b xs) ∙ both (p x) b (list_any p xs)
   where

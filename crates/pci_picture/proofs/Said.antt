@@ -47,7 +47,7 @@ range_long xs begin end inside =
     let long : length (drop begin xs) ≡ length xs - begin = length-drop begin xs in
     length-take-le (end - begin) (drop begin xs) (omega (arith, long, inside))
 
-more_of_range : (lines : List (List ℕ)) (begin index : ℕ) → begin ≤ index → index < length lines
+pub more_of_range : (lines : List (List ℕ)) (begin index : ℕ) → begin ≤ index → index < length lines
     → slice_range lines begin (index + 1) ≡ slice_range lines begin index ++ get_or lines index [] ∷ []
 more_of_range lines begin index from inside =
     let all = drop begin lines in

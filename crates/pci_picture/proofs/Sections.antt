@@ -18,7 +18,7 @@ use Rattle.pci_picture.specs.Members.{AreIndentedBySection, AreSortedBySection, 
 use Rattle.pci_picture.specs.Nested.{HasNestedBoxes}
 use Rattle.pci_picture.specs.Roots.{IsLostByRoot, Listed}
 use Rattle.pci_picture.specs.Sides.{HasSides}
-use Rattle.pci_picture.specs.Spots.{BoxSpot, spot_at, lines_drawn, all_of}
+use Rattle.pci_picture.specs.Spots.{AreBoxesStanding, BoxSpot, spot_at, lines_drawn, all_of}
 use Rattle.pci_picture.specs.declared.canvas.Canvas.{Canvas}
 use Rattle.pci_picture.specs.declared.map.Line.{Line}
 use Rattle.pci_picture.specs.declared.map.Map.{Map}
@@ -27,7 +27,7 @@ use Rattle.pci_picture.specs.declared.plan.Site.{Site}
 use Rattle.pci_picture.specs.declared.plan.Placed.{Placed}
 use Rattle.pci_picture.specs.declared.region.Region.{Region}
 use Rattle.pci_picture.proofs.Boxes.{then_adds, then_some, unchanged}
-use Rattle.pci_picture.proofs.Looks.{SameLooks, titled_same}
+use Rattle.pci_picture.proofs.Looks.{SameLooks, stands_same, titled_same}
 use Rattle.pci_picture.proofs.Nested.{nested_of_all}
 use Rattle.pci_picture.proofs.Groups.{no_group, group_more, grouped, sections_of_all}
 
@@ -200,7 +200,10 @@ whole_picture look row functions map faults read new before between last y heigh
       drawn =
           subst (λ l. IsDrawnOf l height (bytes text)) joined
           (finished (some.spots ++ off.spots) (off.adds.behind some.spots (some.adds.behind [] (kept.behind [] none))));
-      stand = λ small. some.hold.stand (omega (arith, down, small));
+      stand = λ small.
+          let told = (look_told functions faults).told in
+          All-weaker (λ section. AreBoxesStanding look.told section.number section.spots) (λ section. AreBoxesStanding told section.number section.spots)
+          (stands_same look.told told same.told) some.hold.sections (some.hold.stand (omega (arith, down, small)));
       nested =
           All-weaker (HasNestedBoxes look (filter is_below_heading (headed_regions map))) (HasNestedBoxes (look_told functions faults) (headed_regions map))
           (nested_of_all look (look_told functions faults) same (headed_regions map)) some.hold.sections

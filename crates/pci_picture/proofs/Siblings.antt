@@ -89,9 +89,9 @@ siblings_are_apart look text section nested i j standing rise less within same =
     let left_i = side_at spots placed.inner placed.outer side_is i (omega (arith, count, less, inside)) in
     let left_j = side_at spots placed.inner placed.outer side_is j (omega (arith, count, inside)) in
     elim (cases_lt (last_address_at regions i) (first_address_at regions j)) [
-      | inl before ↦ inl (inl (boxes_are_apart section.number spots (box_at spots i) (box_at spots j) standing here there (omega (arith, one.last, two.first, before))))
+      | inl before ↦ inl (inl (boxes_are_apart look.told section.number spots (box_at spots i) (box_at spots j) standing here there (omega (arith, one.last, two.first, before))))
       | inr meet ↦ elim (cases_lt (last_address_at regions j) (first_address_at regions i)) [
-        | inl behind ↦ inr (inl (boxes_are_apart section.number spots (box_at spots j) (box_at spots i) standing there here (omega (arith, two.last, one.first, behind))))
+        | inl behind ↦ inr (inl (boxes_are_apart look.told section.number spots (box_at spots j) (box_at spots i) standing there here (omega (arith, two.last, one.first, behind))))
         | inr also ↦
             let ends = placed.sides nested.room in
             let row : placed.left ≤ placed.split = row_of nested.site nested.lost placed.left placed.split placed.beside placed.edge nested.room ends in

@@ -74,7 +74,8 @@ pub record IsDrawnOf (spots : List BoxSpot) (height : ℕ) (text : List ℕ) : T
 -- in the map, and no other title begins with such a line. A section has what stands below the headings with its number, and
 -- some of what is out of place. What stands below no such heading is off, in its order. In each section the boxes stand at
 -- heights that rise with addresses, where the height of the picture was not cut off at 64 bits, and inside each other as deep as
--- the lines of the map. A box has the class of its part, with marks for the faults that name it; what is off is grey. Each title
+-- the lines of the map. Both ends of each range that the faults tell of these lines are cuts of its heights, too.
+-- A box has the class of its part, with marks for the faults that name it; what is off is grey. Each title
 -- is the line, below it the name of the function by those that are listed and the buses behind a window, and below that the lines of
 -- these faults. Each region out of place is in the section of the root from which its bus is reached, by the same functions, and of
 -- its space
@@ -88,7 +89,7 @@ pub record IsPictureOf (functions : List Listed) (map faults text : List ℕ) : 
   pub off_titled : All (IsTitled (look_told functions faults)) off
   pub height : ℕ
   pub drawn : IsDrawnOf (all_of sections ++ off) height text
-  pub stand : EachStands height sections
+  pub stand : EachStands (look_told functions faults).told height sections
   pub nested : All (HasNestedBoxes (look_told functions faults) (headed_regions map)) sections
   pub by_root : All (AreLostByRoot functions) sections
 

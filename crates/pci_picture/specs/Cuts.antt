@@ -3,7 +3,7 @@ use Rattle.std.specs.Prelude.{◌≡◌, ◌+◌, ℕ, Bool, true, false, not, L
 use Rattle.std.specs.List.{Any, filter, flat_map}
 use Rattle.pci_picture.specs.Heights.{AddressRange}
 use Rattle.pci_picture.specs.declared.heights.Cut.{Cut}
-use Rattle.pci_picture.specs.declared.plan.Told.{Told as ToldRange}
+use Rattle.pci_picture.specs.declared.tellings.Told.{Told as ToldRange}
 use Rattle.pci_picture.specs.declared.region.Part.{Part}
 use Rattle.pci_picture.specs.declared.region.Part.TheVariants.{Bar, Prefetchable, Rom, Window, Told, Held, Free}
 use Rattle.pci_picture.specs.declared.region.Region.{Region}

@@ -64,7 +64,7 @@ pub record AreOfSection (look : Look) (site : Site) (members : List Member) (end
   pub drawn : lines_drawn spots ≡ lines_of_regions (regions_of_members members)
   pub looks : classes_drawn spots ≡ looks_up_to look (count_in_place members) (regions_of_members members)
   pub titled : All (IsTitled look) spots
-  pub stand : end < 2 ^ 64 - 1 → AreBoxesStanding site.section spots
+  pub stand : end < 2 ^ 64 - 1 → AreBoxesStanding look.told site.section spots
   pub beside : AreDrawnBeside site members spots
 
 -- the boxes of what is off
@@ -118,7 +118,7 @@ pub record AreGrouped (look : Look) (first : Site) (members : List Member) (coun
   pub rise : AllPairs (λ one other. one.number < other.number) (sections_of groups)
   pub below : (d : Member) → count < length members
       → All (λ section. section.number < (slice_index_or members count d).section) (sections_of groups)
-  pub stand : EachStands end (sections_of groups)
+  pub stand : EachStands look.told end (sections_of groups)
   pub rooms : All (λ group. HasRoomOf first group.site) groups
 
 -- the boxes of lines in sections, of which the last one ends at a height: each region once. What is out of place is in the
@@ -129,5 +129,5 @@ pub record AreOfSections (look : Look) (first : Site) (functions : List Listed) 
   pub each_once : IsPermutation (lines_of_regions (regions_under lines)) (lines_drawn spots)
   pub below_headings : AreSectionsOf (map headed_line lines) sections
   pub by_root : All (AreLostByRoot functions) sections
-  pub stand : EachStands end sections
+  pub stand : EachStands look.told end sections
   pub nested : HasSides first → HasColumnsOf (map headed_line lines) first → All (HasNestedBoxes look (map headed_line lines)) sections

@@ -15,13 +15,15 @@ pub mod Ranks
 pub mod Badges
 pub mod Said
 pub mod Titles
+pub mod Slots
+pub mod Tellings
 pub mod Looks
 pub mod BoardLooks
 pub mod Maps
 pub mod Depths
 pub mod Drawings
 pub mod Cuts
-pub mod Slots
+pub mod Keyed
 pub mod Starts
 pub mod Roots
 pub mod Bits

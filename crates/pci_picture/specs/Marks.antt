@@ -1,9 +1,8 @@
 -- Which regions the text of `faults --why` names, and how their boxes look.
-use Rattle.std.specs.Prelude.{◌≡◌, ℕ, Bool, false, ◌==◌, ◌&&◌, ◌||◌, ◌+◌, ◌-◌, ◌*◌, Option, Some, None, unwrap_or, List, [], ◌∷◌, ◌++◌, drop, length, map, min, slice_index, codes, if◌then◌else◌}
-use Rattle.std.specs.List.{list_any, slice_get, slice_split}
+use Rattle.std.specs.Prelude.{◌≡◌, ℕ, Bool, false, ◌==◌, ◌&&◌, ◌||◌, ◌<◌, ◌+◌, ◌-◌, ◌*◌, Option, Some, None, unwrap_or, List, [], ◌∷◌, ◌++◌, drop, length, map, min, slice_index, slice_index_or, codes, if◌then◌else◌}
+use Rattle.std.specs.List.{All, list_any, slice_get, slice_split}
 use Rattle.pci_picture.specs.Lines.{decimal_digit_value, decimal_value, hex_value, is_decimal, is_feed, is_register, is_slot, is_told_number, nth_word, says, slot_number_of, words_in_line}
 use Rattle.pci_picture.specs.declared.faults.Fault.{Fault}
-use Rattle.pci_picture.specs.declared.faults.Faults.{Faults}
 use Rattle.pci_picture.specs.declared.faults.Keys.{Keys}
 use Rattle.pci_picture.specs.declared.faults.Keys.TheVariants.{One, Two}
 use Rattle.pci_picture.specs.declared.faults.Keys.TheVariants.{None as NoKey}
@@ -128,10 +127,24 @@ pub record AddsFault {A : Type 0} (number : Option ℕ) (line : List ℕ) (old n
   pub numbers : fault_numbers new.faults.items ≡ fault_numbers old.faults.items ++ numbers_begun number
   pub namings : new.namings.items ≡ old.namings.items ++ namings_of (length old.faults.items) (keys_begun number line)
 
--- what was read names the regions that a text does
-abbrev pub AreFaultsOf : {A : Type 0} → List ℕ → Faults A → Type 0
-AreFaultsOf text faults =
-    (one other key : ℕ) → has_naming faults.faults.items faults.namings.items one other key ≡ is_named text one other key
+-- the namings of faults, of which the first one has this index
+abbrev pub namings_of_faults : ℕ → List Fault → List Naming
+namings_of_faults index [] = []
+namings_of_faults index (fault ∷ faults) = namings_of index (keys_told fault.keys) ++ namings_of_faults (index + 1) faults
+
+-- a fault has the keys that its first line names
+pub record HasKeysOfLine (lines : List (List ℕ)) (fault : Fault) : Type 0 where
+  pub inside : fault.begin < length lines
+  pub keys_are : keys_told fault.keys ≡ keys_of_fault fault.number (words_in_line (slice_index_or lines fault.begin []))
+
+-- each fault has the keys that its first line names, and a test finds one of their namings exactly where it finds one of those that were
+-- read
+pub record AreNamings (lines : List (List ℕ)) (faults : List Fault) (namings : List Naming) : Type 0 where
+  pub each : All (HasKeysOfLine lines) faults
+  pub all : (test : Naming → Bool) → list_any test (namings_of_faults 0 faults) ≡ list_any test namings
+
+abbrev pub HasNamings : {A : Type 0} → Reader A → Type 0
+HasNamings reader = AreNamings (map (λ line. line.now) reader.lines.items) reader.faults.items reader.namings.items
 
 -- ---- how a box looks
 

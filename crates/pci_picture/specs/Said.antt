@@ -2,7 +2,7 @@
 use Rattle.std.specs.Prelude.{◌≡◌, ◌+◌, ◌<◌, ℕ, length, ◌==◌, ◌-◌, Option, Some, None, List, [], ◌∷◌, ◌++◌, take, drop, fold, map, nat_eq, codes, slice_index_or, if◌then◌else◌}
 use Rattle.std.specs.List.{All, filter, flat_map, slice_get, slice_split, starts_with}
 use Rattle.pci_picture.specs.Lines.{is_feed, unindented_line, words_in_line}
-use Rattle.pci_picture.specs.Marks.{keys_of_fault, number_before_blank}
+use Rattle.pci_picture.specs.Marks.{has_naming, is_named, keys_of_fault, number_before_blank}
 use Rattle.pci_picture.specs.declared.faults.Fault.{Fault}
 use Rattle.pci_picture.specs.declared.faults.Faults.{Faults}
 use Rattle.pci_picture.specs.declared.faults.Reader.{Reader}
@@ -83,3 +83,8 @@ said_by faults key =
 -- what was read says of each region what the text does
 abbrev pub AreSaidOf : {A : Type 0} → List ℕ → Faults A → Type 0
 AreSaidOf text faults = (key : ℕ) → said_by faults key ≡ said_of_key text key
+
+-- what was read names the regions that a text does
+abbrev pub AreFaultsOf : {A : Type 0} → List ℕ → Faults A → Type 0
+AreFaultsOf text faults =
+    (one other key : ℕ) → has_naming faults.faults.items faults.namings.items one other key ≡ is_named text one other key

@@ -25,6 +25,6 @@ InnerLinesRise regions = (p i j : ℕ) → i < j → j < length regions → IsPa
 -- two boxes of depth 1, too
 abbrev pub SiblingsAreApart : Type 0
 SiblingsAreApart = (look : Look) (text : List ℕ) (section : Section) (nested : HasNestedBoxes look (headed_regions text) section) (i j : ℕ)
-    → AreBoxesStanding section.number section.spots → InnerLinesRise (regions_of_members nested.inside) → i < j → j < length nested.inside
+    → AreBoxesStanding look.told section.number section.spots → InnerLinesRise (regions_of_members nested.inside) → i < j → j < length nested.inside
     → SameParent (regions_of_members nested.inside) i j
     → EndsAboveOrBeside (box_at section.spots i) (box_at section.spots j) ⊎ EndsAboveOrBeside (box_at section.spots j) (box_at section.spots i)

@@ -40,8 +40,8 @@ digits_of_word word = position_or_len is_dash_byte word
 unfoldable pub is_io_line : List ℕ → Bool
 is_io_line line = digits_of_word (nth_word (words_in_line line) 0) == 8
 
--- a key and a number of digits are those of a line
+-- a key is that of a line, and the addresses of the line have so many digits
 pub record IsOfLine (line : List ℕ) (key digits : ℕ) : Type 0 where
   pub key_is : key ≡ key_of_region (words_in_line line)
   pub bus : bus_of_slot (slot_of_key key) ≡ bus_of_line line
-  pub space : (digits == 8) ≡ is_io_line line
+  pub digits_are : digits ≡ digits_of_word (nth_word (words_in_line line) 0)

@@ -82,21 +82,22 @@ IsInSomeRegion lines address = Any (λ line. (first_address line ≤ address) ×
 abbrev pub base_of_section : ℕ → ℕ
 base_of_section number = if number % 2 == 0 then 4 else 12
 
--- the boxes of the section with a number stand at heights that rise with addresses, by the rule. Both ends of each range that its
--- faults tell are cuts, too
-pub record AreBoxesStanding (number : ℕ) (spots : List BoxSpot) : Type 0 where
+-- the boxes of the section with a number stand at heights that rise with addresses, by the rule. Both ends of each range that is told
+-- of its lines are cuts, too
+pub record AreBoxesStanding (told_of : List (List ℕ) → List AddressRange) (number : ℕ) (spots : List BoxSpot) : Type 0 where
   pub height_of : ℕ → ℕ
   pub rise : Rise (lines_drawn spots) height_of
   pub stand : All (BoxStandsAt height_of) spots
   pub top : ℕ
-  pub told : List AddressRange
-  pub by_rule : HasHeights (base_of_section number) top (IsCutOf (lines_drawn spots) told) (IsInSomeRegion (lines_drawn spots)) height_of
+  pub by_rule :
+      HasHeights (base_of_section number) top (IsCutOf (lines_drawn spots) (told_of (lines_drawn spots))) (IsInSomeRegion (lines_drawn spots)) height_of
 
 -- all sections do so, where the last one ends at a height that was not cut off at 64 bits
-abbrev pub EachStands : ℕ → List Section → Type 0
-EachStands end sections = end < 2 ^ 64 - 1 → All (λ section. AreBoxesStanding section.number section.spots) sections
+abbrev pub EachStands : (List (List ℕ) → List AddressRange) → ℕ → List Section → Type 0
+EachStands told_of end sections = end < 2 ^ 64 - 1 → All (λ section. AreBoxesStanding told_of section.number section.spots) sections
 
 -- of two boxes of a section, the one whose last address is below the first address of the other ends above it
 abbrev pub BoxesAreApart : Type 0
-BoxesAreApart = (number : ℕ) (spots : List BoxSpot) (one other : BoxSpot) → AreBoxesStanding number spots → Contains spots one → Contains spots other
+BoxesAreApart = (told_of : List (List ℕ) → List AddressRange) (number : ℕ) (spots : List BoxSpot) (one other : BoxSpot)
+    → AreBoxesStanding told_of number spots → Contains spots one → Contains spots other
     → region_last_address one.line < first_address other.line → one.y + one.height < other.y

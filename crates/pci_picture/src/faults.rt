@@ -1,7 +1,8 @@
 //! The text of `faults --why`.
-ghost use Rattle.std.specs.Prelude.{◌≤◌, ◌<◌, length};
+ghost use Rattle.std.specs.Prelude.{◌≤◌, ◌<◌, length, map};
 ghost use Rattle.std.specs.List.{All};
 ghost use Rattle.std.specs.List.Sorted.{IsNonDecreasingBy};
+ghost use Rattle.pci_picture.specs.Marks.{AreNamings};
 ghost use Rattle.pci_picture.specs.Ranks.{rank_of_badge};
 ghost use Rattle.pci_picture.specs.declared.badge.Badge.{Badge};
 ghost use Rattle.pci_picture.specs.declared.faults.Fault.{Fault};
@@ -22,6 +23,7 @@ pub enum Keys {
 
 impl Keys {
     ghost use Rattle.std.specs.Prelude.{◌≡◌};
+    ghost use Rattle.pci_picture.specs.Tellings.{last_key};
     ghost use Rattle.pci_picture.specs.Lines.{words_in_line};
     ghost use Rattle.pci_picture.specs.Marks.{keys_of_fault, keys_told};
 
@@ -56,7 +58,9 @@ impl Keys {
     }
 
     /// The last of them, which a line `fits` is about.
-    pub fn last(self) -> Option<u64> {
+    pub fn last(self) -> Option<u64>
+        ensures { result ≡ last_key (keys_told self) }
+    {
         match self {
             Keys::None => None,
             Keys::One(key) | Keys::Two(_, key) => Some(key),
@@ -120,6 +124,7 @@ pub struct Faults<'a, A: Allocator> {
     ghost ranked: { IsNonDecreasingBy (λ (badge : Badge). rank_of_badge badge) badges.items },
     ghost sorted: { IsNonDecreasingBy (λ (naming : Naming). naming.key) namings.items },
     ghost within: { All (λ (fault : Fault). (fault.begin < fault.end) × (fault.end ≤ length lines.items)) faults.items },
+    ghost named: { AreNamings (map (λ line. line.now) lines.items) faults.items namings.items },
 }
 
 /// The faults of the lines that were read. What they name and what the tree shows of them stands in their order.
@@ -135,7 +140,7 @@ impl<'a, A: Allocator + Copy> Reader<'a, A> {
     ghost use Rattle.std.specs.Prelude.{◌≡◌, ◌++◌, ◌∷◌, ◌-◌, [], true, false, length, map, Some, List, OnOk};
     ghost use Rattle.pci_picture.specs.Badges.{badge_of, badges_begun, badges_of_fault, badges_of_line, bridge_slots, slots_of_keys};
     ghost use Rattle.pci_picture.specs.Lines.{nth_word, words_in_line};
-    ghost use Rattle.pci_picture.specs.Marks.{AddsFault, fault_numbers, keys_told, namings_of, number_before_blank};
+    ghost use Rattle.pci_picture.specs.Marks.{AddsFault, HasNamings, fault_numbers, keys_told, namings_of, number_before_blank};
     ghost use Rattle.pci_picture.specs.Said.{AreLinesOf, FaultSaid, with_fault_line, with_reason};
 
     /// Adds a fault, by its first line.
@@ -145,6 +150,7 @@ impl<'a, A: Allocator + Copy> Reader<'a, A> {
             (self.new.badges.items ≡ self.old.badges.items ++ badges_begun (Some number) line.entry.now) }
         ensures said { OnOk result ((said : List FaultSaid) → AreLinesOf said self.old
             → AreLinesOf (with_fault_line said line.entry.now (Some number)) self.new) }
+        ensures named { OnOk result (HasNamings self.old → HasNamings self.new) }
     {
         let keys = Keys::of(number, line);
         let fault = self.faults.len();
@@ -252,6 +258,7 @@ impl<'a, A: Allocator + Copy> Reader<'a, A> {
         ensures badges { self.new.badges ≡ self.old.badges }
         ensures said { OnOk result ((said : List FaultSaid) → AreLinesOf said self.old
             → AreLinesOf (with_reason said line.entry.now) self.new) }
+        ensures named { OnOk result (HasNamings self.old → HasNamings self.new) }
     {
         if let Some(fault) = self.faults.last_mut() {
             self.lines.push(line)?;
@@ -267,6 +274,7 @@ impl<'a, A: Allocator + Copy> Reader<'a, A> {
             (self.new.badges.items ≡ self.old.badges.items ++ badges_of_line line.entry.now) }
         ensures said { OnOk result ((said : List FaultSaid) → AreLinesOf said self.old
             → AreLinesOf (with_fault_line said line.entry.now (number_before_blank line.entry.now)) self.new) }
+        ensures named { OnOk result (HasNamings self.old → HasNamings self.new) }
     {
         if let Some(number) = Fault::number_of(line) {
             self.begin(number, line)
@@ -282,8 +290,8 @@ impl<'a, A: Allocator + Copy> Faults<'a, A> {
     ghost use Rattle.std.specs.Prelude.{◌≡◌, ◌==◌, [], map, slice_index_or, IfOk};
     ghost use Rattle.std.specs.List.{filter, slice_get};
     ghost use Rattle.pci_picture.specs.Badges.{AreBadgesOf, badges_beside};
-    ghost use Rattle.pci_picture.specs.Marks.{AreFaultsOf, has_naming, has_one_of};
-    ghost use Rattle.pci_picture.specs.Said.{AreSaidOf, faults_said};
+    ghost use Rattle.pci_picture.specs.Marks.{has_naming, has_one_of};
+    ghost use Rattle.pci_picture.specs.Said.{AreFaultsOf, AreSaidOf, faults_said};
     ghost use Rattle.pci_picture.specs.FaultLines.{faults_read};
 
     /// Reads the faults from what `faults --why` prints.

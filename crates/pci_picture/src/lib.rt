@@ -26,5 +26,6 @@ pub mod reading;
 pub mod region;
 pub mod section;
 pub mod style;
+pub mod tellings;
 pub mod tree;
 pub mod words;

@@ -1,23 +1,25 @@
-//! Where each part of a section stands: its heights, the widths of its lines, and the ranges that its faults tell.
+//! Where each part of a section stands: its heights and the widths of its lines.
 
 ghost use Rattle.std.specs.Prelude.{◌≡◌, ◌<◌, ◌≤◌, ◌+◌, ◌-◌, ◌^◌, ◌++◌, IfOk, OnOk, max, true, false};
 ghost use Rattle.std.specs.List.Sorted.{IsNonDecreasingBy, IsPermutation};
-ghost use Rattle.pci_picture.specs.Cuts.{cuts_told, ends_of_all_told, ends_of_kind, extents_told};
+ghost use Rattle.pci_picture.specs.Cuts.{cuts_told, ends_of_all_told, ends_of_kind};
 ghost use Rattle.pci_picture.specs.Drawings.{ArePlanned, IsFramed};
+ghost use Rattle.pci_picture.specs.FaultLines.{faults_read};
 ghost use Rattle.pci_picture.specs.Lanes.{IsIndented};
 ghost use Rattle.pci_picture.specs.Looks.{Look, looks_of, looks_placed, looks_up_to};
 ghost use Rattle.pci_picture.specs.Maps.{lines_of_regions, regions_of_members, regions_placed};
 ghost use Rattle.pci_picture.specs.Sides.{AddsWidths, StandBesideIn, count_in_place, widths_placed};
 ghost use Rattle.pci_picture.specs.Spots.{base_of_section};
 ghost use Rattle.pci_picture.specs.Stacked.{height_at};
+ghost use Rattle.pci_picture.specs.Tellings.{ranges_of_faults};
 
 use super::elements::Frame;
 use super::faults::Faults;
 use super::heights::{Cut, Heights};
 use super::lanes::{Width, widths};
 use super::memory::OutOfMemory;
-use super::reading::{extent_of, word};
 use super::region::Region;
+use super::tellings::{Index, Tellings, Told, keys_of, tellings_of};
 use std::alloc::Allocator;
 
 /// The width of the axis.
@@ -87,21 +89,6 @@ impl Member<'_> {
     }
 }
 
-/// A range that a line of a fault tells.
-#[derive(Clone, Copy)]
-pub struct Told {
-    pub fault: usize,
-    pub first: u64,
-    pub last: u64,
-}
-
-/// The ranges that the faults of a section tell: shared ones, and those where a region would fit.
-#[derive(Drop)]
-pub struct Tellings<A: Allocator> {
-    pub shared: Vec<Told, A>,
-    pub fits: Vec<Told, A>,
-}
-
 /// A region with its place.
 #[derive(Clone, Copy)]
 pub struct Placed<'a> {
@@ -109,120 +96,6 @@ pub struct Placed<'a> {
     pub width: Width,
     /// Whether it is out of place or not reached.
     pub is_lost: bool,
-}
-
-/// A key and the index of the region that has it.
-#[derive(Clone, Copy)]
-pub struct Index {
-    pub key: u64,
-    pub index: usize,
-}
-
-/// The faults that are about some regions, each once, in their order.
-fn faults_about<A: Allocator + Copy>(
-    alloc: A,
-    faults: &Faults<'_, A>,
-    regions: &[Region<'_>],
-) -> Result<Vec<usize, A>, OutOfMemory> {
-    let mut about = Vec::new(alloc);
-    for region in regions {
-        for naming in faults.of(region.key) {
-            about.push(naming.fault)?;
-        }
-    }
-    about.sort()?;
-    about.dedup();
-    Ok(about)
-}
-
-/// The keys of some regions, by rising key; none where no fault is about a region, as then nobody asks for them.
-fn keys_of<A: Allocator + Copy>(
-    alloc: A,
-    faults: &Faults<'_, A>,
-    regions: &[Region<'_>],
-) -> Result<Vec<Index, A>, OutOfMemory> {
-    let mut keys = Vec::new(alloc);
-    if faults.namings.is_empty() {
-        return Ok(keys);
-    }
-    for (index, region) in regions.iter().enumerate() {
-        keys.push(Index {
-            key: region.key,
-            index,
-        })?;
-    }
-    keys.sort_by_key(|one| one.key)?;
-    Ok(keys)
-}
-
-/// The indexes of the regions with a key.
-pub fn with_key(keys: &[Index], key: u64) -> &[Index] {
-    let begin = keys.partition_point(|one| one.key < key);
-    let end = keys.partition_point(|one| one.key <= key);
-    keys.get(begin..end).unwrap_or(&[])
-}
-
-/// The range of a line `shared F-L N` or `fits F-L N`, where its addresses have `digits` digits.
-fn range_told(fault: usize, line: &[u8], digits: usize) -> Option<Told> {
-    let range = extent_of(word(line, 1))?;
-    if range.digits != digits {
-        return None;
-    }
-    Some(Told {
-        fault,
-        first: range.first,
-        last: range.last,
-    })
-}
-
-/// The ranges that the faults about some regions tell.
-fn tellings_of<A: Allocator + Copy>(
-    alloc: A,
-    faults: &Faults<'_, A>,
-    regions: &[Region<'_>],
-    keys: &[Index],
-) -> Result<Tellings<A>, OutOfMemory> {
-    let mut tellings = Tellings {
-        shared: Vec::new(alloc),
-        fits: Vec::new(alloc),
-    };
-    let digits = match regions.first() {
-        Some(region) => region.digits,
-        None => 0,
-    };
-    let about = faults_about(alloc, faults, regions)?;
-    for index in &about {
-        let Some(fault) = faults.faults.get(*index) else {
-            continue;
-        };
-        let moves_here = match fault.keys.last() {
-            Some(key) => !with_key(keys, key).is_empty(),
-            None => false,
-        };
-        for place in fault.begin..fault.end {
-            let line = faults.line(place);
-            if let Some(range) = range_told(*index, line, digits) {
-                add_telling(&mut tellings, line, range, moves_here)?;
-            }
-        }
-    }
-    Ok(tellings)
-}
-
-/// Adds the range that a line tells: addresses that are shared, or where the region that a fault names last fits.
-fn add_telling<A: Allocator + Copy>(
-    tellings: &mut Tellings<A>,
-    line: &[u8],
-    range: Told,
-    moves_here: bool,
-) -> Result<(), OutOfMemory> {
-    if line.starts_with(b"shared") {
-        tellings.shared.push(range)?;
-    }
-    if moves_here && line.starts_with(b"fits ") {
-        tellings.fits.push(range)?;
-    }
-    Ok(())
 }
 
 /// Adds both ends of each range as cuts. Such a range doesn't count as covered.
@@ -308,7 +181,7 @@ impl<'a, A: Allocator + Copy> Plan<'a, A> {
         ensures placed { IfOk result (λ plan. regions_placed plan.placed.items ≡ regions_of_members members.entry.now) }
         ensures planned { IfOk result (λ plan. plan.heights.bottom < 2 ^ 64 - 1
             → ArePlanned site.now.section (site.now.y + 22)
-            (extents_told (plan.tellings.shared.items ++ plan.tellings.fits.items))
+            (ranges_of_faults (faults_read faults.entry.now) (lines_of_regions (regions_of_members members.entry.now)))
             (lines_of_regions (regions_of_members members.entry.now)) plan.heights.runs.items plan.heights.bottom) }
         ensures down { IfOk result (λ plan. site.now.y ≤ plan.heights.bottom) }
         ensures looks { IfOk result (λ plan. (look : Look) → looks_placed look plan.placed.items

@@ -13,8 +13,9 @@ use super::heights::{Heights, LINE, Run};
 use super::lanes::Width;
 use super::look::{class_of, put_marks};
 use super::memory::OutOfMemory;
-use super::plan::{AXIS, Member, Placed, Plan, Site, Told, frame_of, with_key};
+use super::plan::{AXIS, Member, Placed, Plan, Site, frame_of};
 use super::region::{Part, Region};
+use super::tellings::{Told, with_key};
 use super::words::{Words, hex_digits};
 use std::alloc::Allocator;
 

@@ -16,7 +16,7 @@ returns g c =
     let functions = listed_functions c.in_ok-board.board.functions.items in
     let whole =
     whole_picture (look_read c.in_ok-board.board) c.first_site-site.result functions c.args.texts.now.map.now c.args.texts.now.faults.now c.in_ok-board.board.map c.new-canvas.result _ _ _ c.in_ok-y.y c.bottom_of-bottom.result c.finish.result (λ text. string_bytes text)
-    (looks_told c.in_ok-board.board c.args.texts.now.faults.now c.in_ok-board.ensures.faults c.in_ok-board.ensures.said) c.first_site-site.ensures.room c.first_site-site.ensures.columns c.in_ok-board.ensures.map (up_to c.in_ok-y.y c.in_ok-end.end c.bottom_of-bottom.result c.in_ok-end.ensures.down c.bottom_of-bottom.ensures) c.new-canvas.ensures
+    (looks_told c.in_ok-board.board c.args.texts.now.faults.now c.in_ok-board.ensures.faults c.in_ok-board.ensures.said c.in_ok-board.ensures.lines) c.first_site-site.ensures.room c.first_site-site.ensures.columns c.in_ok-board.ensures.map (up_to c.in_ok-y.y c.in_ok-end.end c.bottom_of-bottom.result c.in_ok-end.ensures.down c.bottom_of-bottom.ensures) c.new-canvas.ensures
     (then_draws [] _ _ _ (then_draws [] _ _ _ (then_draws [] _ _ _ c.in_ok-write_counts.ensures c.in_ok-legend.ensures.adds) c.in_ok-write_faults.ensures.adds) c.in_ok-tree_end.ensures.adds)
     c.in_ok-y.ensures.drawn c.in_ok-end.ensures.drawn c.finish.ensures.drawn in
     record {

@@ -1,5 +1,4 @@
-use Rattle.std.proofs.Common.{◌+◌, ◌++◌}
-use Rattle.pci_picture.specs.Cuts.{extents_told}
+use Rattle.std.proofs.Common.{◌+◌}
 use Rattle.pci_picture.specs.Drawings.{AreFramed}
 use Rattle.pci_picture.specs.BoardLooks.{look_read}
 use Rattle.pci_picture.proofs.Boxes.{then_draws, keeps_some, up_to}
@@ -10,11 +9,10 @@ pub returns : goal.returns
 returns g c =
     let heights = c.in_ok-plan.plan.heights in
     let placed = c.in_ok-plan.plan.placed.items in
-    let told = extents_told (c.in_ok-plan.plan.tellings.shared.items ++ c.in_ok-plan.plan.tellings.fits.items) in
     let look = look_read c.args.board.now in
     record {
       drawn =
-          adds_section look c.args.site.now c.args.members.now placed told heights.runs.items (c.args.site.now.y + 22) heights.bottom c.end_of.result
+          adds_section look c.args.site.now c.args.members.now placed heights.runs.items (c.args.site.now.y + 22) heights.bottom c.end_of.result
           c.args.canvas.now c.draw_axis.new.canvas _
           (then_draws _ _ _ _ c.in_ok-write_heading.ensures c.in_ok-draw_axis.ensures)
           (keeps_some (AreFramed look placed heights.runs.items heights.bottom) _ _ _ c.in_ok-draw_regions.ensures c.in_ok-draw_tellings.ensures)

@@ -6,6 +6,7 @@ use Rattle.pci_picture.specs.Ranks.{rank_of_badge}
 use Rattle.pci_picture.specs.declared.faults.Faults.{Faults}
 use Rattle.pci_picture.proofs.Badges.{badges_more, badges_whole, text_small}
 use Rattle.pci_picture.proofs.Marks.{none_read, one_more, whole_text}
+use Rattle.pci_picture.proofs.Namings.{namings_moved, no_namings}
 use Rattle.pci_picture.proofs.ReadSaid.{faults_within, lines_more, no_lines, text_read, text_said}
 use Rattle.pci_picture.proofs.faults.Faults.read.Goals as goal
 
@@ -13,6 +14,7 @@ pub loop-line-init : goal.loop-line-init
 loop-line-init g c = record {
   named = none_read _ _ c.new-3.ensures.items;
   said = no_lines _ c.new.ensures.items c.new-2.ensures.items c.new-3.ensures.items;
+  keyed = no_namings _ _ _ c.new-2.ensures.items c.new-3.ensures.items;
   shown = c.new-4.ensures.items;
 }
 
@@ -26,6 +28,7 @@ loop-line-preserved g c =
       said =
           lines_more now c.loop-line.yielded c.in-Some.line c.as_bytes.result.now c.loop-line.reader c.take.new.self
           c.as_bytes.ensures.value c.loop-line.invariant.said c.in_ok-take.ensures.adds c.in_ok-take.ensures.said;
+      keyed = c.in_ok-take.ensures.named c.loop-line.invariant.keyed;
       shown =
           badges_more now c.loop-line.yielded c.in-Some.line c.as_bytes.result.now c.loop-line.reader.badges.items c.take.new.self.badges.items
           c.as_bytes.ensures.value c.loop-line.invariant.shown c.in_ok-take.ensures.shows;
@@ -50,6 +53,7 @@ returns g c =
           IsNonDecreasingBy-from_sort (λ n. n.key) c.sort_by_key.new.self.items
           (c.in_ok-sort_by_key.ensures.sorted (λ n. n.key) (answers_always _ _ _ (λ f a r h k. search rules)));
       within = faults_within _ reader c.loop-line.invariant.said;
+      named = namings_moved _ _ _ _ c.loop-line.invariant.keyed c.in_ok-sort_by_key.ensures.permutation;
     } in
     record {
       named =
@@ -76,4 +80,5 @@ invariant_of-result g c = record {
       IsNonDecreasingBy-from_sort (λ n. n.key) c.sort_by_key.new.self.items
       (c.in_ok-sort_by_key.ensures.sorted (λ n. n.key) (answers_always _ _ _ (λ f a r h k. search rules)));
   within = faults_within _ c.loop-line.reader c.loop-line.invariant.said;
+  named = namings_moved _ _ _ _ c.loop-line.invariant.keyed c.in_ok-sort_by_key.ensures.permutation;
 }
