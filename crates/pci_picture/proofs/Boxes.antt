@@ -8,8 +8,7 @@ use Rattle.pci_picture.specs.Elements.{box_text, words_text, axis_text, tick_tex
 use Rattle.pci_picture.specs.Boxes.{HasTitles, no_element, a_box, a_line, at_axis, a_tick, a_gap, Titled, titled, titled_line, titled_spot, HasSpots, AreDrawn, IsDrawnOf}
 use Rattle.pci_picture.specs.Spots.{BoxSpot, spot_at}
 use Rattle.pci_picture.specs.Whole.{picture_text}
-use Rattle.pci_picture.specs.Canvases.{HasDrawn, AddsToCanvas, AddsSome}
-use Rattle.pci_picture.specs.Drawings.{IsBoxOf}
+use Rattle.pci_picture.specs.Canvases.{HasDrawn, AddsToCanvas, AddsBoxOf, AddsSome, WritesBytes}
 use Rattle.pci_picture.specs.declared.canvas.Canvas.{Canvas}
 
 -- boxes behind boxes
@@ -151,21 +150,40 @@ pub then_keeps : {A : Type 0} (spots : List BoxSpot) (before between after : Can
 then_keeps spots before between after one other =
     subst (λ l. AddsToCanvas l before after) (append-nil spots) (then_adds spots [] before between after one other)
 
--- the same of some of which something holds
-pub then_some : {A : Type 0} (Hold : List BoxSpot → Type 0) (before between after : Canvas A)
-    → AddsToCanvas [] before between → AddsSome Hold between after → AddsSome Hold before after
-then_some Hold before between after one other = record {
+-- ---- words behind words
+
+pub writes_none : {A : Type 0} (before after : Canvas A) → string_bytes after.words ≡ string_bytes before.words → WritesBytes [] before after
+writes_none before after same = same ∙ sym (append-nil (string_bytes before.words))
+
+pub writes_both : {A : Type 0} (one other : List ℕ) (before between after : Canvas A)
+    → WritesBytes one before between → WritesBytes other between after → WritesBytes (one ++ other) before after
+writes_both one other before between after first second =
+    second ∙ ap (λ l. l ++ other) first ∙ append_assoc (string_bytes before.words) one other
+
+-- at the end of a function, whose last step may fail
+pub none_ok : {A T E : Type 0} (result : Result T E) (before between after : Canvas A) → string_bytes between.words ≡ string_bytes before.words
+    → IfOk result (λ _. string_bytes after.words ≡ string_bytes between.words) → IfOk result (λ _. WritesBytes [] before after)
+none_ok (Err e) before between after one other = tt
+none_ok (Ok t) before between after one other = writes_none before after (other ∙ one)
+
+-- nothing, and then some of which something holds
+pub then_some : {A : Type 0} (Hold : List BoxSpot → List ℕ → Type 0) (before between after : Canvas A)
+    → AddsToCanvas [] before between → WritesBytes [] before between → AddsSome Hold between after → AddsSome Hold before after
+then_some Hold before between after one none other = record {
   spots = other.spots;
+  bytes = other.bytes;
   hold = other.hold;
   adds = then_draws other.spots before between after one other.adds;
+  writes = writes_both [] other.bytes before between after none other.writes;
 }
 
-pub keeps_some : {A : Type 0} (Hold : List BoxSpot → Type 0) (before between after : Canvas A)
-    → AddsSome Hold before between → AddsToCanvas [] between after → AddsSome Hold before after
-keeps_some Hold before between after one other = record {
-  spots = one.spots;
-  hold = one.hold;
-  adds = then_keeps one.spots before between after one.adds other;
+-- a box, and then nothing
+pub keeps_box : {A : Type 0} (class said line : List ℕ) (x y width height : ℕ) (before between after : Canvas A)
+    → AddsBoxOf class said line x y width height before between → AddsToCanvas [] between after → AddsBoxOf class said line x y width height before after
+keeps_box class said line x y width height before between after one other = record {
+  title = one.title;
+  titled = one.titled;
+  adds = then_keeps (spot_at x y width height class one.title line ∷ []) before between after one.adds other;
 }
 
 -- nothing is drawn
@@ -178,12 +196,10 @@ none_titles text none = subst (HasTitles []) (sym none) no_element
 -- the picture of what is drawn
 pub drawn_of : {T E : Type 0} (result : Result T E) (bytes : T → List ℕ) (is_told : Bool) (boxes words : List ℕ) (width height : ℕ)
     (spots : List BoxSpot) → AreDrawn spots boxes words
-    → IfOk result (λ t. bytes t ≡ picture_text is_told boxes words width height) → IfOk result (λ t. IsDrawnOf spots height (bytes t))
+    → IfOk result (λ t. bytes t ≡ picture_text is_told boxes words width height) → IfOk result (λ t. IsDrawnOf is_told spots words height (bytes t))
 drawn_of (Err e) bytes is_told boxes words width height spots drawn is = tt
 drawn_of (Ok t) bytes is_told boxes words width height spots drawn is = record {
-  is_told = is_told;
   boxes = boxes;
-  words = words;
   width = width;
   drawn = subst (λ l. HasSpots l (boxes ++ words)) (append-nil spots) (spots_append spots [] boxes words drawn.in_boxes (bare_spots words drawn.in_words));
   says = is;
@@ -215,17 +231,15 @@ bare_title box none = ap (map (spot_at box.x box.y box.width box.height box.clas
 
 pub one_box : {A : Type 0} (box : Titled) (class said line : List ℕ) (before after : Canvas A) → titled_line box.title ≡ line ∷ [] → box.class ≡ class
     → box.title ≡ line ++ said → AddsToCanvas (titled_spot box) before after
-    → AddsSome (IsBoxOf class said line box.x box.y box.width box.height) before after
+    → AddsBoxOf class said line box.x box.y box.width box.height before after
 one_box box class said line before after own look says adds = record {
-  spots = titled_spot box;
-  hold = record {
-    title = box.title;
-    one =
-        ap (map (spot_at box.x box.y box.width box.height box.class box.title)) own
-        ∙ ap (λ k. spot_at box.x box.y box.width box.height k box.title line ∷ []) look;
-    titled = says;
-  };
-  adds = adds;
+  title = box.title;
+  titled = says;
+  adds =
+      adds_same (spot_at box.x box.y box.width box.height class box.title line ∷ []) (titled_spot box) before after
+      (ap (map (spot_at box.x box.y box.width box.height box.class box.title)) own
+      ∙ ap (λ k. spot_at box.x box.y box.width box.height k box.title line ∷ []) look)
+      adds;
 }
 
 -- no height falls

@@ -2,12 +2,12 @@
 use Rattle.std.proofs.Common.{◌≡◌, ◌≤◌, ◌<◌, ◌+◌, ◌-◌, ◌^◌, ℕ, List, [], ◌∷◌, ◌++◌, take, length, map, max, get_or, refl, inl, inr, sym, ap, subst, ◌∙◌, arith}
 use Rattle.std.specs.List.{All, Any, Contains}
 use Rattle.std.specs.List.Sorted.{IsNonDecreasingBy}
-use Rattle.std.proofs.lemmas.List.{map-append, map_more, take_all}
+use Rattle.std.proofs.lemmas.List.{length-map, map-append, map_more, take_all}
 use Rattle.std.proofs.lemmas.List.Elements.{All-append, All-cons, All-nil, All-push, Contains-get_or}
-use Rattle.pci_picture.specs.Canvases.{AddsToCanvas, AddsSome}
-use Rattle.pci_picture.specs.Drawings.{IsFramed, IsFramedAt, ArePlanned, AreFramed, AreOfSection, IsBoxOf}
+use Rattle.pci_picture.specs.Canvases.{AddsToCanvas, AddsBoxOf, AddsSome, WritesBytes}
+use Rattle.pci_picture.specs.Drawings.{IsFramed, IsFramedAt, ArePlanned, AreFramed, AreOfSection}
 use Rattle.pci_picture.specs.Heights.{HasHeights}
-use Rattle.pci_picture.specs.Looks.{IsTitled, Look, looks_placed, looks_up_to}
+use Rattle.pci_picture.specs.Looks.{IsTitled, Look, looks_placed, looks_up_to, words_of_boxes}
 use Rattle.pci_picture.specs.Maps.{lines_of_regions, regions_of_members, regions_placed}
 use Rattle.pci_picture.specs.Sides.{sides_of_width, StandBesideIn, count_in_place, widths_placed}
 use Rattle.pci_picture.specs.Spots.{BoxSpot, first_address, region_last_address, spot_at, lines_drawn, IsInSomeRegion, IsCutOf, IsEndOf, Rise, BoxStandsAt, base_of_section}
@@ -19,7 +19,8 @@ use Rattle.pci_picture.specs.declared.plan.Placed.{Placed}
 use Rattle.pci_picture.specs.declared.plan.Site.{Site}
 use Rattle.pci_picture.specs.declared.region.Region.{Region}
 use Rattle.pci_picture.proofs.Anys.{any_at, any_mapped}
-use Rattle.pci_picture.proofs.Boxes.{then_adds, then_keeps, then_some, unchanged}
+use Rattle.pci_picture.proofs.Boxes.{then_adds, then_keeps, then_some, unchanged, writes_both, writes_none}
+use Rattle.pci_picture.proofs.Looks.{words_more}
 
 -- ---- one box more
 
@@ -40,8 +41,10 @@ framed_at region height_of x y width height class title framed =
 pub none_framed : {A : Type 0} (look : Look) (runs : List Run) (bottom : ℕ) (canvas : Canvas A) → AddsSome (AreFramed look [] runs bottom) canvas canvas
 none_framed look runs bottom canvas = record {
   spots = [];
-  hold = record { drawn = refl; looks = refl; titled = All-nil (IsTitled look); sides = refl; framed = λ sorted. All-nil (IsFramedAt (height_at runs bottom)) };
+  bytes = [];
+  hold = record { drawn = refl; looks = refl; titled = All-nil (IsTitled look); sides = refl; framed = λ sorted. All-nil (IsFramedAt (height_at runs bottom)); written = refl };
   adds = unchanged canvas;
+  writes = writes_none canvas canvas refl;
 }
 
 pub box_more : {A : Type 0} (look : Look) (places : List Placed) (i : ℕ) (placed : Placed) (runs : List Run) (bottom x y width height : ℕ) (first before between after : Canvas A)
@@ -49,9 +52,11 @@ pub box_more : {A : Type 0} (look : Look) (places : List Placed) (i : ℕ) (plac
     → AddsSome (AreFramed look (take i places) runs bottom) first before
     → (IsNonDecreasingBy (λ (run : Run). run.begin) runs → IsFramed (height_at runs bottom) placed.region.first placed.region.last y height)
     → x ≡ placed.width.left → width ≡ max 1 (placed.width.right - placed.width.left - 2)
-    → AddsSome (IsBoxOf (look.class placed.is_lost placed.region.line.now) (look.said placed.region.line.now) placed.region.line.now x y width height) before between → AddsToCanvas [] between after
+    → AddsBoxOf (look.class placed.is_lost placed.region.line.now) (look.said placed.region.line.now) placed.region.line.now x y width height before between → WritesBytes [] before between
+    → AddsToCanvas [] between after
+    → ((span : ℕ) (class title : List ℕ) → WritesBytes (look.words placed.width (spot_at placed.width.left y span height class title placed.region.line.now)) between after)
     → AddsSome (AreFramed look (take (i + 1) places) runs bottom) first after
-box_more look places i placed runs bottom x y width height first before between after inside at done framed left wide one kept =
+box_more look places i placed runs bottom x y width height first before between after inside at done framed left wide one bare kept words =
     let more : lines_of_regions (regions_placed (take (i + 1) places)) ≡ lines_of_regions (regions_placed (take i places)) ++ placed.region.line.now ∷ [] =
     ap lines_of_regions (map_more (λ p. p.region) places i placed inside)
     ∙ map-append (λ r. r.line.now) (regions_placed (take i places)) _
@@ -66,21 +71,32 @@ box_more look places i placed runs bottom x y width height first before between 
     let looks : looks_placed look (take (i + 1) places) ≡ looks_placed look (take i places) ++ class ∷ [] =
     map_more (λ p. look.class p.is_lost p.region.line.now) places i placed inside
     ∙ ap (λ (p : Placed). looks_placed look (take i places) ++ look.class p.is_lost p.region.line.now ∷ []) (sym at) in
-    let spot : BoxSpot = spot_at x y width height class one.hold.title placed.region.line.now in
+    let spot : BoxSpot = spot_at x y width height class one.title placed.region.line.now in
+    let own : List ℕ = look.words placed.width spot in
+    let long : length done.spots ≡ length (widths_placed (take i places)) =
+    sym (length-map done.spots (λ (s : BoxSpot). (s.x, s.width))) ∙ ap length done.hold.sides ∙ length-map (widths_placed (take i places)) sides_of_width in
+    let says : WritesBytes own between after =
+    subst (λ (s : ℕ). WritesBytes (look.words placed.width (spot_at s y width height class one.title placed.region.line.now)) between after) (sym left)
+    (words width class one.title) in
     record {
       spots = done.spots ++ spot ∷ [];
+      bytes = done.bytes ++ own;
       hold = record {
         drawn = map-append (λ s. s.line) done.spots (spot ∷ []) ∙ ap (λ l. l ++ placed.region.line.now ∷ []) done.hold.drawn ∙ sym more;
         looks = map-append (λ s. s.class) done.spots (spot ∷ []) ∙ ap (λ l. l ++ class ∷ []) done.hold.looks ∙ sym looks;
-        titled = All-push (IsTitled look) done.spots spot done.hold.titled one.hold.titled;
+        titled = All-push (IsTitled look) done.spots spot done.hold.titled one.titled;
         sides = map-append (λ (s : BoxSpot). (s.x, s.width)) done.spots (spot ∷ []) ∙ ap (λ l. l ++ (x, width) ∷ []) done.hold.sides ∙ sym sides;
         framed = λ sorted.
             All-append (IsFramedAt (height_at runs bottom)) done.spots (spot ∷ []) (done.hold.framed sorted)
-            (All-cons (IsFramedAt (height_at runs bottom)) spot [] (framed_at placed.region (height_at runs bottom) x y width height class one.hold.title (framed sorted))
+            (All-cons (IsFramedAt (height_at runs bottom)) spot [] (framed_at placed.region (height_at runs bottom) x y width height class one.title (framed sorted))
             (All-nil (IsFramedAt (height_at runs bottom))));
+        written =
+            ap (λ l. l ++ own) done.hold.written
+            ∙ sym (words_more look (widths_placed (take i places)) done.spots placed.width spot long)
+            ∙ ap (λ l. words_of_boxes look l (done.spots ++ spot ∷ [])) (sym widths);
       };
-      adds = then_keeps (done.spots ++ spot ∷ []) first between after (then_adds done.spots (spot ∷ []) first before between done.adds
-          (subst (λ l. AddsToCanvas l before between) one.hold.one one.adds)) kept;
+      adds = then_keeps (done.spots ++ spot ∷ []) first between after (then_adds done.spots (spot ∷ []) first before between done.adds one.adds) kept;
+      writes = writes_both done.bytes own first before after done.writes (writes_both [] own before between after bare says);
     }
 
 pub all_framed : {A : Type 0} (look : Look) (places : List Placed) (i : ℕ) (runs : List Run) (bottom : ℕ) (first after : Canvas A) → length places ≤ i
@@ -113,12 +129,12 @@ all_stand height_of spots rise framed k d lt =
     (omega (arith, up)))
     (framed k d lt)
 
-of_section : (look : Look) (site : Site) (members : List Member) (placed : List Placed) (runs : List Run) (top bottom end : ℕ) (spots : List BoxSpot) → AreFramed look placed runs bottom spots
+of_section : (look : Look) (site : Site) (members : List Member) (placed : List Placed) (runs : List Run) (top bottom end : ℕ) (spots : List BoxSpot) (bytes fits : List ℕ) → AreFramed look placed runs bottom spots bytes
     → regions_placed placed ≡ regions_of_members members → bottom ≤ end
     → (bottom < 2 ^ 64 - 1 → ArePlanned site.section top (look.told (lines_of_regions (regions_of_members members))) (lines_of_regions (regions_of_members members)) runs bottom)
     → looks_placed look placed ≡ looks_up_to look (count_in_place members) (regions_of_members members)
-    → StandBesideIn site (count_in_place members) (regions_of_members members) (widths_placed placed) → AreOfSection look site members end spots
-of_section look site members placed runs top bottom end spots framed is above planned looks beside =
+    → StandBesideIn site (count_in_place members) (regions_of_members members) (widths_placed placed) → AreOfSection look site members end spots (bytes ++ fits)
+of_section look site members placed runs top bottom end spots bytes fits framed is above planned looks beside =
     let drawn : lines_drawn spots ≡ lines_of_regions (regions_of_members members) = framed.drawn ∙ ap lines_of_regions is in
     record {
       drawn = drawn;
@@ -135,17 +151,20 @@ of_section look site members placed runs top bottom end spots framed is above pl
             by_rule =
                 subst (λ l. HasHeights (base_of_section site.section) top (IsCutOf l (look.told l)) (IsInSomeRegion l) (height_at runs bottom)) (sym drawn) plan.by_rule;
           };
-      beside = record { widths = widths_placed placed; sides = framed.sides; beside = beside };
+      beside = record { widths = widths_placed placed; sides = framed.sides; beside = beside; fits = fits; written = ap (λ l. l ++ fits) framed.written };
     }
 
-pub adds_section : {A : Type 0} (look : Look) (site : Site) (members : List Member) (placed : List Placed) (runs : List Run) (top bottom end : ℕ) (before between after : Canvas A)
-    → AddsToCanvas [] before between → AddsSome (AreFramed look placed runs bottom) between after → regions_placed placed ≡ regions_of_members members
+pub adds_section : {A : Type 0} (look : Look) (site : Site) (members : List Member) (placed : List Placed) (runs : List Run) (top bottom end : ℕ) (before between drawn after : Canvas A)
+    → AddsToCanvas [] before between → WritesBytes [] before between → AddsSome (AreFramed look placed runs bottom) between drawn → AddsToCanvas [] drawn after
+    → regions_placed placed ≡ regions_of_members members
     → bottom ≤ end → (bottom < 2 ^ 64 - 1 → ArePlanned site.section top (look.told (lines_of_regions (regions_of_members members))) (lines_of_regions (regions_of_members members)) runs bottom)
     → looks_placed look placed ≡ looks_up_to look (count_in_place members) (regions_of_members members)
     → StandBesideIn site (count_in_place members) (regions_of_members members) (widths_placed placed) → AddsSome (AreOfSection look site members end) before after
-adds_section look site members placed runs top bottom end before between after head done is above planned looks beside =
-    then_some (AreOfSection look site members end) before between after head (record {
+adds_section look site members placed runs top bottom end before between drawn after head bare done rest is above planned looks beside =
+    then_some (AreOfSection look site members end) before between after head bare (record {
       spots = done.spots;
-      hold = of_section look site members placed runs top bottom end done.spots done.hold is above planned looks beside;
-      adds = done.adds;
+      bytes = done.bytes ++ rest.bytes;
+      hold = of_section look site members placed runs top bottom end done.spots done.bytes rest.bytes done.hold is above planned looks beside;
+      adds = then_keeps done.spots between drawn after done.adds rest;
+      writes = writes_both done.bytes rest.bytes between drawn after done.writes rest.writes;
     })

@@ -16,7 +16,7 @@ use Rattle.pci_picture.specs.Maps.{AreMembersOf, headed_line, headed_member, lin
 use Rattle.pci_picture.specs.Members.{AreIndentedBySection, AreSortedBySection, member_number}
 use Rattle.pci_picture.specs.Nested.{HasNestedBoxes}
 use Rattle.pci_picture.specs.Roots.{IsLostByRoot, Listed}
-use Rattle.pci_picture.specs.Spots.{AreBoxesStanding, Section, BoxSpot, all_of, lines_drawn}
+use Rattle.pci_picture.specs.Spots.{AreBoxesStanding, Section, BoxSpot, all_of, words_of_sections, lines_drawn}
 use Rattle.pci_picture.specs.declared.map.Heading.{Heading}
 use Rattle.pci_picture.specs.declared.map.Heading.TheVariants.{Section as InSection, Lost, Off}
 use Rattle.pci_picture.specs.declared.map.Line.{Line}
@@ -242,10 +242,15 @@ all_more : (sections : List Section) (section : Section) → all_of (sections ++
 all_more sections section =
     flat_map-append (λ s. s.spots) sections (section ∷ []) ∙ ap (λ l. all_of sections ++ l) (append-nil section.spots)
 
-pub no_group : (look : Look) (first : Site) (members : List Member) (y : ℕ) → AreGrouped look first members 0 y []
+words_of_more : (sections : List Section) (section : Section) → words_of_sections (sections ++ section ∷ []) ≡ words_of_sections sections ++ section.words
+words_of_more sections section =
+    flat_map-append (λ s. s.words) sections (section ∷ []) ∙ ap (λ l. words_of_sections sections ++ l) (append-nil section.words)
+
+pub no_group : (look : Look) (first : Site) (members : List Member) (y : ℕ) → AreGrouped look first members 0 y [] []
 no_group look first members y = record {
   groups = [];
   joined = refl;
+  written = refl;
   taken = refl;
   each = All-nil (IsGroup look);
   rise = λ i j d less inside. absurd (omega (arith, inside));
@@ -254,22 +259,23 @@ no_group look first members y = record {
   rooms = All-nil (λ group. HasRoomOf first group.site);
 }
 
-pub group_more : (look : Look) (first site : Site) (members part : List Member) (begin end y bottom number : ℕ) (spots more : List BoxSpot) (done : AreGrouped look first members begin y spots)
+pub group_more : (look : Look) (first site : Site) (members part : List Member) (begin end y bottom number : ℕ) (spots more : List BoxSpot) (bytes words : List ℕ) (done : AreGrouped look first members begin y spots bytes)
     → take end members ≡ take begin members ++ part → y ≤ bottom
     → All (λ member. member.section ≡ number) part
     → All (λ section. section.number < number) (sections_of done.groups)
     → ((d : Member) → end < length members → number < (get_or members end d).section)
     → IsNonDecreasingBy member_number part → HasRoomOf first site → site.section ≡ number
-    → AreOfSection look site part bottom more
-    → AreGrouped look first members end bottom (spots ++ more)
-group_more look first site members part begin end y bottom number spots more done joined down alike less next lost_last room is last =
-    let section : Section = record { number = number; spots = more; lost = lines_below_headings is_lost (map headed_member part) } in
+    → AreOfSection look site part bottom more words
+    → AreGrouped look first members end bottom (spots ++ more) (bytes ++ words)
+group_more look first site members part begin end y bottom number spots more bytes words done joined down alike less next lost_last room is last =
+    let section : Section = record { number = number; spots = more; lost = lines_below_headings is_lost (map headed_member part); words = words } in
     let group : Group = record { section = section; members = part; site = site } in
     let before : List Section = sections_of done.groups in
     let behind : sections_of (done.groups ++ group ∷ []) ≡ before ++ section ∷ [] = map-append (λ g. g.section) done.groups (group ∷ []) in
     record {
       groups = done.groups ++ group ∷ [];
       joined = ap all_of behind ∙ all_more before section ∙ ap (λ l. l ++ more) done.joined;
+      written = ap words_of_sections behind ∙ words_of_more before section ∙ ap (λ l. l ++ words) done.written;
       taken =
           flat_map-append (λ g. g.members) done.groups (group ∷ [])
           ∙ ap (λ l. members_of_groups done.groups ++ l) (append-nil part) ∙ ap (λ l. l ++ part) done.taken ∙ sym joined;
@@ -297,10 +303,10 @@ group_more look first site members part begin end y bottom number spots more don
       rooms = All-push (λ g. HasRoomOf first g.site) done.groups group done.rooms room;
     }
 
-pub grouped : (look : Look) (first : Site) (functions : List Listed) (lines : List Line) (members : List Member) (count end : ℕ) (spots : List BoxSpot) → length members ≤ count
+pub grouped : (look : Look) (first : Site) (functions : List Listed) (lines : List Line) (members : List Member) (count end : ℕ) (spots : List BoxSpot) (bytes : List ℕ) → length members ≤ count
     → AreMembersOf lines members → AreIndentedBySection members → AreSortedBySection lines members → All (IsLostByRoot functions) members
-    → AreGrouped look first members count end spots → AreOfSections look first functions lines end spots
-grouped look first functions lines members count end spots past are indented sorted by_root done =
+    → AreGrouped look first members count end spots bytes → AreOfSections look first functions lines end spots bytes
+grouped look first functions lines members count end spots bytes past are indented sorted by_root done =
     let regions : List Headed = map headed_line lines in
     let taken : members_of_groups done.groups ≡ members = done.taken ∙ take_all count members past in
     let drawn : lines_of_regions (regions_of_members members) ≡ lines_drawn spots =
@@ -310,6 +316,7 @@ grouped look first functions lines members count end spots past are indented sor
     record {
       sections = sections_of done.groups;
       joined = done.joined;
+      written = done.written;
       each_once =
           subst (λ l. IsPermutation (lines_of_regions (regions_under lines)) l) drawn
           (IsPermutation-map (λ r. r.line.now) (regions_under lines) (regions_of_members members) are.moved);

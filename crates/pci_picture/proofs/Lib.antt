@@ -49,6 +49,8 @@ pub mod Badges
 pub mod BadgeWords
 pub mod Rows
 pub mod Legends
+pub mod RegionWords
+pub mod BoxWords
 pub mod Starts
 pub mod Trees
 pub mod RootRows

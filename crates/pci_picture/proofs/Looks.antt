@@ -1,13 +1,13 @@
 -- The looks of boxes while their regions are placed, and by the faults of a text.
-use Rattle.std.proofs.Common.{◌≡◌, ◌<◌, ◌+◌, ℕ, Bool, true, false, ◌||◌, if◌then◌else◌, List, [], ◌∷◌, ◌++◌, take, drop, length, get_or, sym, ap, ap₂, subst, ◌∙◌}
-use Rattle.std.specs.List.{All}
-use Rattle.std.proofs.lemmas.List.{append_assoc, map-append, map_more}
+use Rattle.std.proofs.Common.{◌≡◌, ◌<◌, ◌+◌, ℕ, Bool, true, false, ◌||◌, if◌then◌else◌, List, [], ◌∷◌, ◌++◌, take, drop, length, get_or, refl, sym, ap, ap₂, subst, ◌∙◌, arith}
+use Rattle.std.specs.List.{All, flat_map}
+use Rattle.std.proofs.lemmas.List.{append_assoc, append-nil, map-append, map_more}
 use Rattle.std.proofs.lemmas.List.Elements.{All-weaker}
 use Rattle.pci_picture.specs.Heights.{AddressRange, HasHeights}
 use Rattle.pci_picture.specs.Lines.{words_in_line}
 use Rattle.pci_picture.specs.BoardLooks.{look_read}
-use Rattle.pci_picture.specs.Looks.{IsTitled, Look, look_told, looks_of, looks_placed, looks_up_to}
-use Rattle.pci_picture.specs.Marks.{key_of_region, look_of_part, look_with}
+use Rattle.pci_picture.specs.Looks.{IsTitled, Look, look_told, looks_of, looks_placed, looks_up_to, words_of_boxes}
+use Rattle.pci_picture.specs.Marks.{has_naming, is_named, key_of_region, look_of_part, look_with}
 use Rattle.pci_picture.specs.Roots.{listed_functions}
 use Rattle.pci_picture.specs.FaultLines.{faults_read}
 use Rattle.pci_picture.specs.Said.{AreFaultsOf, AreSaidOf, faults_said}
@@ -15,8 +15,10 @@ use Rattle.pci_picture.specs.Spots.{AreBoxesStanding, BoxSpot, IsCutOf, IsInSome
 use Rattle.pci_picture.specs.Tellings.{ranges_of_faults}
 use Rattle.pci_picture.specs.Titles.{says_free, said_of_function}
 use Rattle.pci_picture.specs.declared.board.Board.{Board}
+use Rattle.pci_picture.specs.declared.lanes.Width.{Width}
 use Rattle.pci_picture.specs.declared.plan.Placed.{Placed}
 use Rattle.pci_picture.specs.declared.region.Region.{Region}
+use Rattle.pci_picture.proofs.BoxWords.{same_words}
 
 -- one region more
 pub looks_more : (look : Look) (old : List (List ℕ)) (is_lost : Bool) (regions : List Region) (i : ℕ) (region : Region) (before after : List Placed) (placed : Placed)
@@ -43,11 +45,34 @@ both_looks look regions front back n none some all empty is_front is_back first 
 pub record SameLooks (one other : Look) : Type 0 where
   pub class : (is_lost : Bool) (line : List ℕ) → one.class is_lost line ≡ other.class is_lost line
   pub said : (line : List ℕ) → one.said line ≡ other.said line
+  pub words : (width : Width) (spot : BoxSpot) → one.words width spot ≡ other.words width spot
+  pub off_words : (spot : BoxSpot) → one.off_words spot ≡ other.off_words spot
   pub told : (lines : List (List ℕ)) → one.told lines ≡ other.told lines
 
 pub titled_same : (one other : Look) → SameLooks one other → (spots : List BoxSpot) → All (IsTitled one) spots → All (IsTitled other) spots
 titled_same one other same spots titled =
     All-weaker (IsTitled one) (IsTitled other) (λ spot says. says ∙ ap (λ said. spot.line ++ said) (same.said spot.line)) spots titled
+
+-- ---- the words of boxes
+
+pub words_more : (look : Look) (widths : List Width) (spots : List BoxSpot) (width : Width) (spot : BoxSpot) → length spots ≡ length widths
+    → words_of_boxes look (widths ++ width ∷ []) (spots ++ spot ∷ []) ≡ words_of_boxes look widths spots ++ look.words width spot
+words_more look [] [] width spot same = append-nil (look.words width spot)
+words_more look [] (s ∷ spots) width spot same = absurd (omega (arith, same))
+words_more look (w ∷ widths) [] width spot same = absurd (omega (arith, same))
+words_more look (w ∷ widths) (s ∷ spots) width spot same =
+    ap (λ l. look.words w s ++ l) (words_more look widths spots width spot (omega (arith, same)))
+    ∙ sym (append_assoc (look.words w s) (words_of_boxes look widths spots) (look.words width spot))
+
+pub words_same : (one other : Look) → SameLooks one other → (widths : List Width) (spots : List BoxSpot)
+    → words_of_boxes one widths spots ≡ words_of_boxes other widths spots
+words_same one other same [] spots = refl
+words_same one other same (width ∷ widths) [] = refl
+words_same one other same (width ∷ widths) (spot ∷ spots) = ap₂ (λ l ls. l ++ ls) (same.words width spot) (words_same one other same widths spots)
+
+pub off_words_same : (one other : Look) → SameLooks one other → (spots : List BoxSpot) → flat_map one.off_words spots ≡ flat_map other.off_words spots
+off_words_same one other same [] = refl
+off_words_same one other same (spot ∷ spots) = ap₂ (λ l ls. l ++ ls) (same.off_words spot) (off_words_same one other same spots)
 
 -- ranges that agree are the same cuts
 pub stands_same : (one other : List (List ℕ) → List AddressRange) → ((lines : List (List ℕ)) → one lines ≡ other lines) → (section : Section)
@@ -73,5 +98,7 @@ looks_told board text are say same = record {
   said = λ line.
       let words = words_in_line line in
       ap (λ said. if says_free words then [] else 10 ∷ (said_of_function (listed_functions board.functions.items) words ++ said)) (say (key_of_region words));
+  words = same_words (has_naming board.faults.faults.items board.faults.namings.items) (is_named text) are (listed_functions board.functions.items);
+  off_words = λ spot. refl;
   told = λ lines. ap (λ faults. ranges_of_faults faults lines) same;
 }

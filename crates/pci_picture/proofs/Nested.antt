@@ -21,7 +21,7 @@ use Rattle.pci_picture.specs.declared.plan.Member.{Member}
 use Rattle.pci_picture.specs.declared.plan.Site.{Site}
 use Rattle.pci_picture.specs.declared.region.Region.{Region}
 use Rattle.pci_picture.proofs.Chained.{Steps, indented_by}
-use Rattle.pci_picture.proofs.Looks.{SameLooks, titled_same}
+use Rattle.pci_picture.proofs.Looks.{SameLooks, titled_same, words_same}
 use Rattle.pci_picture.proofs.Marks.{any_alike, any_filtered}
 use Rattle.pci_picture.proofs.Filtered.{filter_twice}
 
@@ -181,6 +181,8 @@ nested_group look first regions members group sides columns room sorted are has 
       widths = is.beside.widths;
       sides = is.beside.sides;
       beside = subst (λ l. StandBeside group.site l (drop count every) is.beside.widths) front (is.beside.beside both);
+      fits = is.beside.fits;
+      written = is.beside.written;
     }
 
 -- ---- regions that are kept
@@ -245,4 +247,6 @@ nested_of_all one other same regions section is = record {
   widths = is.widths;
   sides = is.sides;
   beside = is.beside;
+  fits = is.fits;
+  written = is.written ∙ ap (λ l. l ++ is.fits) (words_same one other same is.widths section.spots);
 }

@@ -205,6 +205,41 @@ part_told part words looks = told_by_word part ∙ ap (λ w. says w (codes "told
 pub part_held : (part : Part) (words : List (List ℕ)) → word_of_part part ≡ look_of_part words → sameb the_type part Held ≡ says (nth_word words 2) (codes "held")
 part_held part words looks = held_by_word part ∙ ap (λ w. says w (codes "held")) looks ∙ word_by_look words (codes "held") refl refl
 
+-- the same of a part that is known
+
+pub is_free : (part : Part) (words : List (List ℕ)) → word_of_part part ≡ look_of_part words → part ≡ Free → says_free words ≡ true
+is_free part words looks is = sym (part_free part words looks) ∙ ap (λ p. sameb the_type p Free) is
+
+pub is_window : (part : Part) (words : List (List ℕ)) → word_of_part part ≡ look_of_part words → part ≡ Window → says_window words ≡ true
+is_window part words looks is = sym (part_window part words looks) ∙ ap (λ p. sameb the_type p Window) is
+
+pub window_isnt_free : (part : Part) (words : List (List ℕ)) → word_of_part part ≡ look_of_part words → part ≡ Window → says_free words ≡ false
+window_isnt_free part words looks is = sym (part_free part words looks) ∙ ap (λ p. sameb the_type p Free) is
+
+other_free : (part : Part) → (part ≡ Free → ⊥) → sameb the_type part Free ≡ false
+other_free Bar other = refl
+other_free Prefetchable other = refl
+other_free Rom other = refl
+other_free Window other = refl
+other_free Told other = refl
+other_free Held other = refl
+other_free Free other = absurd (other refl)
+
+other_window : (part : Part) → (part ≡ Window → ⊥) → sameb the_type part Window ≡ false
+other_window Bar other = refl
+other_window Prefetchable other = refl
+other_window Rom other = refl
+other_window Window other = absurd (other refl)
+other_window Told other = refl
+other_window Held other = refl
+other_window Free other = refl
+
+pub isnt_free : (part : Part) (words : List (List ℕ)) → word_of_part part ≡ look_of_part words → (part ≡ Free → ⊥) → says_free words ≡ false
+isnt_free part words looks other = sym (part_free part words looks) ∙ other_free part other
+
+pub isnt_window : (part : Part) (words : List (List ℕ)) → word_of_part part ≡ look_of_part words → (part ≡ Window → ⊥) → says_window words ≡ false
+isnt_window part words looks other = sym (part_window part words looks) ∙ other_window part other
+
 -- ---- titles
 
 -- the lines of faults begin behind what is said of a window

@@ -1,24 +1,26 @@
 -- The regions of sections while they are drawn.
-use Rattle.std.proofs.Common.{◌≡◌, ◌≤◌, ◌<◌, ◌+◌, ◌-◌, ◌==◌, ℕ, true, List, [], ◌∷◌, ◌++◌, map, take, drop, length, get_or, Result, Ok, Err, IfOk, refl, sym, ap, subst, ◌∙◌, arith, inl, inr, codes}
-use Rattle.std.specs.List.{All, filter, slice_split}
+use Rattle.std.proofs.Common.{◌≡◌, ◌≤◌, ◌<◌, ◌+◌, ◌-◌, ◌==◌, ℕ, Bool, true, List, [], ◌∷◌, ◌++◌, map, take, drop, length, get_or, Result, Ok, Err, IfOk, refl, sym, ap, ap₂, subst, ◌∙◌, arith, inl, inr, codes}
+use Rattle.std.specs.List.{All, filter, flat_map, list_any, slice_split}
 use Rattle.std.specs.List.Sorted.{IsNonDecreasingBy, IsPermutation}
+use Rattle.std.specs.String.{string_bytes}
 use Rattle.std.proofs.lemmas.Bool.{cases_lt, eqb-true}
-use Rattle.std.proofs.lemmas.List.{append_assoc, map-append, map_more, take_more, take-append-drop, take-take, drop-take, take_all, length-take, length-drop, get_or-take, get_or-drop, get_or_default}
-use Rattle.std.proofs.lemmas.List.Sorted.{IsNonDecreasingBy-drop, IsNonDecreasingBy-take, IsPermutation-trans, IsPermutation-append_left, IsPermutation-map}
+use Rattle.std.proofs.lemmas.List.{append_assoc, append-nil, map-append, map_more, take_more, take-append-drop, take-take, drop-take, take_all, length-take, length-drop, get_or-take, get_or-drop, get_or_default}
+use Rattle.std.proofs.lemmas.List.Concat.{flat_map-append}
+use Rattle.std.proofs.lemmas.List.Sorted.{IsNonDecreasingBy-drop, IsNonDecreasingBy-take, IsPermutation-trans, IsPermutation-append_left, IsPermutation-map, list_any-IsPermutation}
 use Rattle.std.proofs.lemmas.List.Elements.{All-nil, All-push, All-weaker}
-use Rattle.pci_picture.specs.Boxes.{IsDrawnOf, IsPictureOf}
-use Rattle.pci_picture.specs.Canvases.{AddsToCanvas, AddsSome, HasDrawn}
+use Rattle.pci_picture.specs.Boxes.{IsDrawnOf, IsPictureOf, tells_ranges, words_above, words_drawn}
+use Rattle.pci_picture.specs.Canvases.{AddsToCanvas, AddsBoxOf, AddsSome, HasDrawn, WritesBytes}
 use Rattle.pci_picture.specs.Columns.{HasColumnsOf}
-use Rattle.pci_picture.specs.Drawings.{AreGrouped, AreOffBoxes, AreOfSection, AreOfSections, HasRoomOf, IsBoxOf, IsRunOfSection, sections_of}
+use Rattle.pci_picture.specs.Drawings.{AreGrouped, AreOffBoxes, AreOfSection, AreOfSections, HasRoomOf, IsRunOfSection, sections_of}
 use Rattle.pci_picture.specs.Headings.{AreSectionsOf, headed_regions, is_below_heading}
-use Rattle.pci_picture.specs.Lines.{is_feed, region_lines}
+use Rattle.pci_picture.specs.Lines.{is_feed, is_told_line, region_lines}
 use Rattle.pci_picture.specs.Looks.{IsTitled, Look, look_told}
 use Rattle.pci_picture.specs.Maps.{AreMembersOf, IsReadOf, lines_of_regions, regions_under, regions_of_members, regions_placed, kept_regions, lines_read}
 use Rattle.pci_picture.specs.Members.{AreIndentedBySection, AreSortedBySection, member_number}
 use Rattle.pci_picture.specs.Nested.{HasNestedBoxes}
 use Rattle.pci_picture.specs.Roots.{IsLostByRoot, Listed}
 use Rattle.pci_picture.specs.Sides.{HasSides}
-use Rattle.pci_picture.specs.Spots.{AreBoxesStanding, BoxSpot, spot_at, lines_drawn, all_of}
+use Rattle.pci_picture.specs.Spots.{AreBoxesStanding, BoxSpot, spot_at, lines_drawn, all_of, words_of_sections}
 use Rattle.pci_picture.specs.declared.canvas.Canvas.{Canvas}
 use Rattle.pci_picture.specs.declared.map.Line.{Line}
 use Rattle.pci_picture.specs.declared.map.Map.{Map}
@@ -26,8 +28,9 @@ use Rattle.pci_picture.specs.declared.plan.Member.{Member}
 use Rattle.pci_picture.specs.declared.plan.Site.{Site}
 use Rattle.pci_picture.specs.declared.plan.Placed.{Placed}
 use Rattle.pci_picture.specs.declared.region.Region.{Region}
-use Rattle.pci_picture.proofs.Boxes.{then_adds, then_some, unchanged}
-use Rattle.pci_picture.proofs.Looks.{SameLooks, stands_same, titled_same}
+use Rattle.pci_picture.proofs.Boxes.{then_adds, then_some, unchanged, writes_both, writes_none}
+use Rattle.pci_picture.proofs.Pictured.{HasAbove}
+use Rattle.pci_picture.proofs.Looks.{SameLooks, off_words_same, stands_same, titled_same}
 use Rattle.pci_picture.proofs.Nested.{nested_of_all}
 use Rattle.pci_picture.proofs.Groups.{no_group, group_more, grouped, sections_of_all}
 
@@ -74,7 +77,13 @@ both_places regions front back n none some all empty is_front is_back first seco
 -- ---- one row of what is off more
 
 pub no_rows : {A : Type 0} (look : Look) (canvas : Canvas A) → AddsSome (AreOffBoxes look []) canvas canvas
-no_rows look canvas = record { spots = []; hold = record { drawn = refl; grey = All-nil (λ spot. spot.class ≡ codes "off"); titled = All-nil (IsTitled look) }; adds = unchanged canvas }
+no_rows look canvas = record {
+  spots = [];
+  bytes = [];
+  hold = record { drawn = refl; grey = All-nil (λ spot. spot.class ≡ codes "off"); titled = All-nil (IsTitled look); written = refl };
+  adds = unchanged canvas;
+  writes = writes_none canvas canvas refl;
+}
 
 pub none_off : {A : Type 0} (look : Look) (regions : List Region) (canvas : Canvas A) → (length regions == 0) ≡ true → AddsSome (AreOffBoxes look regions) canvas canvas
 none_off look [] canvas is = no_rows look canvas
@@ -82,27 +91,34 @@ none_off look (region ∷ regions) canvas is = let l : length (region ∷ region
 
 pub row_more : {A : Type 0} (look : Look) (regions : List Region) (i : ℕ) (region : Region) (x y width : ℕ) (first before after : Canvas A) → i < length regions
     → region ≡ get_or regions i region
-    → AddsSome (AreOffBoxes look (take i regions)) first before → AddsSome (IsBoxOf (codes "off") (look.said region.line.now) region.line.now x y width 13) before after
+    → AddsSome (AreOffBoxes look (take i regions)) first before → AddsBoxOf (codes "off") (look.said region.line.now) region.line.now x y width 13 before after
+    → ((title : List ℕ) → WritesBytes (look.off_words (spot_at x y width 13 (codes "off") title region.line.now)) before after)
     → AddsSome (AreOffBoxes look (take (i + 1) regions)) first after
-row_more look regions i region x y width first before after inside at done one =
+row_more look regions i region x y width first before after inside at done one words =
     let more : lines_of_regions (take (i + 1) regions) ≡ lines_of_regions (take i regions) ++ region.line.now ∷ [] =
     map_more (λ r. r.line.now) regions i region inside
     ∙ ap (λ r. lines_of_regions (take i regions) ++ r.line.now ∷ []) (sym at) in
-    let spot : BoxSpot = spot_at x y width 13 (codes "off") one.hold.title region.line.now in
+    let spot : BoxSpot = spot_at x y width 13 (codes "off") one.title region.line.now in
     record {
       spots = done.spots ++ spot ∷ [];
+      bytes = done.bytes ++ look.off_words spot;
       hold = record {
         drawn = map-append (λ s. s.line) done.spots (spot ∷ []) ∙ ap (λ l. l ++ region.line.now ∷ []) done.hold.drawn ∙ sym more;
         grey = All-push (λ s. s.class ≡ codes "off") done.spots spot done.hold.grey refl;
-        titled = All-push (IsTitled look) done.spots spot done.hold.titled one.hold.titled;
+        titled = All-push (IsTitled look) done.spots spot done.hold.titled one.titled;
+        written =
+            ap (λ l. l ++ look.off_words spot) done.hold.written
+            ∙ sym (flat_map-append look.off_words done.spots (spot ∷ []) ∙ ap (λ l. flat_map look.off_words done.spots ++ l) (append-nil (look.off_words spot)));
       };
-      adds = then_adds done.spots (spot ∷ []) first before after done.adds (subst (λ l. AddsToCanvas l before after) one.hold.one one.adds);
+      adds = then_adds done.spots (spot ∷ []) first before after done.adds one.adds;
+      writes = writes_both done.bytes (look.off_words spot) first before after done.writes (words one.title);
     }
 
 pub all_rows : {A : Type 0} (look : Look) (regions every : List Region) (i : ℕ) (first before after : Canvas A) → length regions ≤ i → regions ≡ every
-    → AddsToCanvas [] first before → AddsSome (AreOffBoxes look (take i regions)) before after → AddsSome (AreOffBoxes look every) first after
-all_rows look regions every i first before after past is head done =
-    then_some (AreOffBoxes look every) first before after head (subst (λ l. AddsSome (AreOffBoxes look l) before after) (take_all i regions past ∙ is) done)
+    → AddsToCanvas [] first before → string_bytes before.words ≡ string_bytes first.words → AddsSome (AreOffBoxes look (take i regions)) before after
+    → AddsSome (AreOffBoxes look every) first after
+all_rows look regions every i first before after past is head same done =
+    then_some (AreOffBoxes look every) first before after head (writes_none first before same) (subst (λ l. AddsSome (AreOffBoxes look l) before after) (take_all i regions past ∙ is) done)
 
 pub same_rows : {A : Type 0} (look : Look) (regions every : List Region) (first after : Canvas A) → regions ≡ every → AddsSome (AreOffBoxes look regions) first after → AddsSome (AreOffBoxes look every) first after
 same_rows look regions every first after is done = subst (λ l. AddsSome (AreOffBoxes look l) first after) is done
@@ -110,7 +126,13 @@ same_rows look regions every first after is done = subst (λ l. AddsSome (AreOff
 -- ---- one section more
 
 pub no_section : {A : Type 0} (look : Look) (first : Site) (members : List Member) (y : ℕ) (canvas : Canvas A) → AddsSome (AreGrouped look first members 0 y) canvas canvas
-no_section look first members y canvas = record { spots = []; hold = no_group look first members y; adds = unchanged canvas }
+no_section look first members y canvas = record {
+  spots = [];
+  bytes = [];
+  hold = no_group look first members y;
+  adds = unchanged canvas;
+  writes = writes_none canvas canvas refl;
+}
 
 part_alike : (members : List Member) (begin end number : ℕ) → begin ≤ end → end ≤ length members
     → ((d : Member) → (get_or members begin d).section ≡ number) → IsRunOfSection members begin end
@@ -142,8 +164,9 @@ section_more look row site members part begin end y bottom member first before a
     λ d. ap (λ m. m.section) (get_or_default members begin d member (omega arith) ∙ sym at) in
     record {
       spots = done.spots ++ adds.spots;
+      bytes = done.bytes ++ adds.bytes;
       hold =
-          group_more look row site members part begin end y bottom number done.spots adds.spots done.hold joined down
+          group_more look row site members part begin end y bottom number done.spots adds.spots done.bytes adds.bytes done.hold joined down
           (subst (All (λ m. m.section ≡ number)) (sym is) (part_alike members begin end number (omega arith) within there run))
           (subst (λ n. All (λ section. section.number < n) (sections_of done.hold.groups)) (there member) (done.hold.below member (omega arith)))
           (λ d inside. between number ((get_or members begin d).section) ((get_or members end d).section) (there d)
@@ -152,6 +175,7 @@ section_more look row site members part begin end y bottom member first before a
           (IsNonDecreasingBy-take member_number (end - begin) (drop begin members) (IsNonDecreasingBy-drop member_number begin members lost_last)))
           room named adds.hold;
       adds = then_adds done.spots adds.spots first before after done.adds adds.adds;
+      writes = writes_both done.bytes adds.bytes first before after done.writes adds.writes;
     }
 
 pub all_sections : {A : Type 0} (look : Look) (row : Site) (functions : List Listed) (lines : List Line) (members : List Member) (begin y : ℕ) (first after : Canvas A) → length members ≤ begin
@@ -160,8 +184,10 @@ pub all_sections : {A : Type 0} (look : Look) (row : Site) (functions : List Lis
     → AddsSome (AreOfSections look row functions lines y) first after
 all_sections look row functions lines members begin y first after past are indented sorted by_root done = record {
   spots = done.spots;
-  hold = grouped look row functions lines members begin y done.spots past are indented sorted by_root done.hold;
+  bytes = done.bytes;
+  hold = grouped look row functions lines members begin y done.spots done.bytes past are indented sorted by_root done.hold;
   adds = done.adds;
+  writes = done.writes;
 }
 
 pub sorted_members : (lines : List Line) (before after : List Member) → regions_of_members before ≡ regions_under lines → IsPermutation before after
@@ -171,17 +197,25 @@ sorted_members lines before after is moved =
 
 -- ---- the whole
 
-pub whole_picture : {A T E : Type 0} (look : Look) (row : Site) (functions : List Listed) (map faults : List ℕ) (read : Map A) (new before between last : Canvas A) (y height : ℕ) (result : Result T E) (bytes : T → List ℕ)
-    → SameLooks look (look_told functions faults) → HasSides row → HasColumnsOf (kept_regions read) row → IsReadOf (slice_split is_feed map) read → y ≤ height
+pub whole_picture : {A T E : Type 0} (look : Look) (row : Site) (functions : List Listed) (map faults : List ℕ) (read : Map A) (new before between last : Canvas A) (is_told : Bool) (y height : ℕ) (result : Result T E) (bytes : T → List ℕ)
+    → is_told ≡ list_any is_told_line (lines_read read) → HasAbove functions is_told faults (string_bytes before.words) → SameLooks look (look_told functions faults) → HasSides row → HasColumnsOf (kept_regions read) row → IsReadOf (slice_split is_feed map) read → y ≤ height
     → HasDrawn [] new → AddsToCanvas [] new before → AddsSome (AreOfSections look row functions read.lines.items y) before between
     → AddsSome (AreOffBoxes look read.off.items) between last
-    → ((spots : List BoxSpot) → HasDrawn spots last → IfOk result (λ text. IsDrawnOf spots height (bytes text)))
+    → ((spots : List BoxSpot) → HasDrawn spots last → IfOk result (λ text. IsDrawnOf is_told spots (string_bytes last.words) height (bytes text)))
     → IfOk result (λ text. IsPictureOf functions map faults (bytes text))
-whole_picture look row functions map faults read new before between last y height (Err e) bytes same sides columns told down none kept some off finished = tt
-whole_picture look row functions map faults read new before between last y height (Ok text) bytes same sides columns told down none kept some off finished =
+whole_picture look row functions map faults read new before between last is_told y height (Err e) bytes tells above same sides columns told down none kept some off finished = tt
+whole_picture look row functions map faults read new before between last is_told y height (Ok text) bytes tells above same sides columns told down none kept some off finished =
     let joined : some.spots ++ off.spots ≡ all_of some.hold.sections ++ off.spots = ap (λ l. l ++ off.spots) (sym some.hold.joined) in
     let both : lines_drawn (some.spots ++ off.spots) ≡ lines_drawn some.spots ++ lines_of_regions read.off.items =
     map-append (λ s. s.line) some.spots off.spots ∙ ap (λ l. lines_drawn some.spots ++ l) off.hold.drawn in
+    let front : List ℕ = string_bytes before.words in
+    let told_is : is_told ≡ tells_ranges map =
+    tells ∙ sym (list_any-IsPermutation is_told_line (region_lines map) (lines_read read) told.each_once) in
+    let words : string_bytes last.words ≡ words_drawn functions map faults above.tree some.hold.sections off.spots =
+    off.writes ∙ ap (λ l. l ++ off.bytes) some.writes ∙ append_assoc front some.bytes off.bytes
+    ∙ ap₂ (λ s o. front ++ (s ++ o)) (sym some.hold.written) (off.hold.written ∙ off_words_same look (look_told functions faults) same off.spots)
+    ∙ ap (λ l. l ++ (words_of_sections some.hold.sections ++ flat_map ((look_told functions faults).off_words) off.spots))
+    (above.are ∙ ap (λ b. words_above b faults above.tree) told_is) in
     record {
       sections = some.hold.sections;
       off = off.spots;
@@ -197,9 +231,13 @@ whole_picture look row functions map faults read new before between last y heigh
       grey = off.hold.grey;
       off_titled = titled_same look (look_told functions faults) same off.spots off.hold.titled;
       height = height;
+      tree = above.tree;
+      rows = above.rows;
       drawn =
-          subst (λ l. IsDrawnOf l height (bytes text)) joined
-          (finished (some.spots ++ off.spots) (off.adds.behind some.spots (some.adds.behind [] (kept.behind [] none))));
+          subst (λ w. IsDrawnOf (tells_ranges map) (all_of some.hold.sections ++ off.spots) w height (bytes text)) words
+          (subst (λ b. IsDrawnOf b (all_of some.hold.sections ++ off.spots) (string_bytes last.words) height (bytes text)) told_is
+          (subst (λ l. IsDrawnOf is_told l (string_bytes last.words) height (bytes text)) joined
+          (finished (some.spots ++ off.spots) (off.adds.behind some.spots (some.adds.behind [] (kept.behind [] none))))));
       stand = λ small.
           let told = (look_told functions faults).told in
           All-weaker (λ section. AreBoxesStanding look.told section.number section.spots) (λ section. AreBoxesStanding told section.number section.spots)

@@ -1,15 +1,21 @@
 -- Which boxes a picture has, by their titles and where they stand.
 use Rattle.std.specs.Prelude.{◌≡◌, ℕ, Bool, List, [], ◌∷◌, ◌++◌, codes, if◌then◌else◌, map}
-use Rattle.std.specs.List.{All, flat_map}
+use Rattle.std.specs.List.{All, flat_map, list_any}
 use Rattle.std.specs.List.Sorted.{IsPermutation}
+use Rattle.pci_picture.specs.Badges.{badges_told}
 use Rattle.pci_picture.specs.Elements.{box_text, words_text, axis_text, tick_text, gap_text}
+use Rattle.pci_picture.specs.FaultLines.{fault_list_text, tree_top}
 use Rattle.pci_picture.specs.Headings.{AreSectionsOf, headed_regions, is_below_no_heading, lines_below_headings}
-use Rattle.pci_picture.specs.Lines.{is_feed, line_if_region, region_lines}
+use Rattle.pci_picture.specs.Legends.{legend_text, marks_of_legend}
+use Rattle.pci_picture.specs.Lines.{is_feed, is_told_line, line_if_region, region_lines}
 use Rattle.pci_picture.specs.Looks.{IsTitled, look_told}
 use Rattle.pci_picture.specs.Nested.{HasNestedBoxes}
 use Rattle.pci_picture.specs.Roots.{AreLostByRoot, Listed}
-use Rattle.pci_picture.specs.Spots.{Section, BoxSpot, spot_at, lines_drawn, all_of, EachStands}
+use Rattle.pci_picture.specs.Said.{faults_said}
+use Rattle.pci_picture.specs.Spots.{Section, BoxSpot, spot_at, lines_drawn, all_of, words_of_sections, EachStands}
+use Rattle.pci_picture.specs.Trees.{IsTreeText}
 use Rattle.pci_picture.specs.Whole.{picture_text}
+use Rattle.pci_picture.specs.declared.badge.Badge.{Badge}
 
 -- a box by its title, its class, its left end and its top, its width and its height
 pub record Titled : Type 0 where
@@ -61,14 +67,31 @@ pub record AreDrawn (spots : List BoxSpot) (boxes words : List ℕ) : Type 0 whe
   pub in_boxes : HasSpots spots boxes
   pub in_words : HasTitles [] words
 
--- a picture with these regions, and with this height
-pub record IsDrawnOf (spots : List BoxSpot) (height : ℕ) (text : List ℕ) : Type 0 where
-  pub is_told : Bool
+-- a picture with these regions, with these words behind its boxes, and with this height, that has told ranges or none
+pub record IsDrawnOf (is_told : Bool) (spots : List BoxSpot) (words : List ℕ) (height : ℕ) (text : List ℕ) : Type 0 where
   pub boxes : List ℕ
-  pub words : List ℕ
   pub width : ℕ
   pub drawn : HasSpots spots (boxes ++ words)
   pub says : text ≡ picture_text is_told boxes words width height
+
+-- a map has a line of a told range, or of one that somebody holds
+abbrev pub tells_ranges : List ℕ → Bool
+tells_ranges map = list_any is_told_line (region_lines map)
+
+-- the words above the sections: those of the legend, below them the lines of the faults, and below these the tree
+abbrev pub words_above : Bool → List ℕ → List ℕ → List ℕ
+words_above is_told faults tree = legend_text 66 16 (marks_of_legend is_told) ++ (fault_list_text (faults_said faults) ++ tree)
+
+-- the tree of some functions, with the faults of a text
+pub record IsTreeBelowFaults (functions : List Listed) (faults tree : List ℕ) : Type 0 where
+  pub badges : List Badge
+  pub shown : IsPermutation (badges_told faults) badges
+  pub below : IsTreeText functions badges (tree_top (faults_said faults)) tree
+
+-- the words of a picture with the tree of its functions: those above the sections, those of the sections, and those of what is off
+abbrev pub words_drawn : List Listed → List ℕ → List ℕ → List ℕ → List Section → List BoxSpot → List ℕ
+words_drawn functions map faults tree sections off =
+    words_above (tells_ranges map) faults tree ++ (words_of_sections sections ++ flat_map ((look_told functions faults).off_words) off)
 
 -- a picture of a map: each line that is a region is the first line of the title of exactly one box, as often as it stands
 -- in the map, and no other title begins with such a line. A section has what stands below the headings with its number, and
@@ -78,7 +101,7 @@ pub record IsDrawnOf (spots : List BoxSpot) (height : ℕ) (text : List ℕ) : T
 -- A box has the class of its part, with marks for the faults that name it; what is off is grey. Each title
 -- is the line, below it the name of the function by those that are listed and the buses behind a window, and below that the lines of
 -- these faults. Each region out of place is in the section of the root from which its bus is reached, by the same functions, and of
--- its space
+-- its space. Above the sections stand the faults, and beside them the tree of these functions
 pub record IsPictureOf (functions : List Listed) (map faults text : List ℕ) : Type 0 where
   pub sections : List Section
   pub off : List BoxSpot
@@ -88,7 +111,9 @@ pub record IsPictureOf (functions : List Listed) (map faults text : List ℕ) : 
   pub grey : All (λ spot. spot.class ≡ codes "off") off
   pub off_titled : All (IsTitled (look_told functions faults)) off
   pub height : ℕ
-  pub drawn : IsDrawnOf (all_of sections ++ off) height text
+  pub tree : List ℕ
+  pub rows : IsTreeBelowFaults functions faults tree
+  pub drawn : IsDrawnOf (tells_ranges map) (all_of sections ++ off) (words_drawn functions map faults tree sections off) height text
   pub stand : EachStands (look_told functions faults).told height sections
   pub nested : All (HasNestedBoxes (look_told functions faults) (headed_regions map)) sections
   pub by_root : All (AreLostByRoot functions) sections

@@ -1,8 +1,8 @@
 -- What is added to a canvas.
-use Rattle.std.specs.Prelude.{◌≡◌, ℕ, List, ◌++◌}
+use Rattle.std.specs.Prelude.{◌≡◌, ℕ, List, [], ◌∷◌, ◌++◌}
 use Rattle.std.specs.String.{string_bytes}
 use Rattle.pci_picture.specs.Boxes.{AreDrawn}
-use Rattle.pci_picture.specs.Spots.{BoxSpot}
+use Rattle.pci_picture.specs.Spots.{BoxSpot, spot_at}
 use Rattle.pci_picture.specs.declared.canvas.Canvas.{Canvas}
 
 -- a canvas has these lines of a map as first lines of titles, in their order and with their places, and no others
@@ -19,8 +19,16 @@ pub record AddsToCanvas {A : Type 0} (more : List BoxSpot) (before after : Canva
   pub bytes : List ℕ
   pub writes : WritesBytes bytes before after
 
--- some are added of which this holds
-pub record AddsSome {A : Type 0} (Hold : List BoxSpot → Type 0) (before after : Canvas A) : Type 0 where
+-- one box of a line is added, with a class and a place, whose title says this below the line
+pub record AddsBoxOf {A : Type 0} (class said line : List ℕ) (x y width height : ℕ) (before after : Canvas A) : Type 0 where
+  pub title : List ℕ
+  pub titled : title ≡ line ++ said
+  pub adds : AddsToCanvas (spot_at x y width height class title line ∷ []) before after
+
+-- some are added, and bytes behind the words, of which this holds
+pub record AddsSome {A : Type 0} (Hold : List BoxSpot → List ℕ → Type 0) (before after : Canvas A) : Type 0 where
   pub spots : List BoxSpot
-  pub hold : Hold spots
+  pub bytes : List ℕ
+  pub hold : Hold spots bytes
   pub adds : AddsToCanvas spots before after
+  pub writes : WritesBytes bytes before after

@@ -1,9 +1,8 @@
 -- The list of faults above a picture.
-use Rattle.std.specs.Prelude.{◌≡◌, ℕ, Bool, ◌+◌, ◌-◌, Some, List, [], ◌∷◌, ◌++◌, codes, length, map, nat_lt, if◌then◌else◌}
+use Rattle.std.specs.Prelude.{ℕ, Bool, ◌+◌, ◌-◌, ◌*◌, Some, List, [], ◌∷◌, ◌++◌, codes, length, map, nat_lt, if◌then◌else◌}
 use Rattle.std.specs.Fmt.{decimal}
 use Rattle.pci_picture.specs.Labels.{label_text}
-use Rattle.pci_picture.specs.Said.{FaultSaid, faults_said, lines_of_fault}
-use Rattle.pci_picture.specs.Whole.{picture_text}
+use Rattle.pci_picture.specs.Said.{FaultSaid, lines_of_fault}
 use Rattle.pci_picture.specs.declared.faults.Fault.{Fault}
 use Rattle.pci_picture.specs.declared.faults.Faults.{Faults}
 
@@ -47,17 +46,11 @@ list_text y (line ∷ lines) = label_text line.left (y + 14) line.class line.wor
 abbrev pub fault_list_text : List FaultSaid → List ℕ
 fault_list_text faults = list_text 72 (lines_within 40 faults)
 
+-- the tree begins 22 units below the last line of the list
+abbrev pub tree_top : List FaultSaid → ℕ
+tree_top faults = 94 + 14 * length (lines_within 40 faults)
+
 -- the faults that were read, with their lines
 abbrev pub faults_read : {A : Type 0} → Faults A → List FaultSaid
 faults_read faults =
     map (λ (fault : Fault). record { number = fault.number; lines = lines_of_fault faults (Some fault) }) faults.faults.items
-
--- a picture has the list of the faults of a text among its words
-pub record HasFaultList (faults text : List ℕ) : Type 0 where
-  pub is_told : Bool
-  pub boxes : List ℕ
-  pub before : List ℕ
-  pub behind : List ℕ
-  pub width : ℕ
-  pub height : ℕ
-  pub says : text ≡ picture_text is_told boxes (before ++ (fault_list_text (faults_said faults) ++ behind)) width height

@@ -15,6 +15,9 @@ pub mod Ranks
 pub mod Badges
 pub mod Said
 pub mod Titles
+pub mod RegionNames
+pub mod RegionWords
+pub mod BoxWords
 pub mod Slots
 pub mod Tellings
 pub mod Looks
@@ -41,4 +44,3 @@ pub mod Rows
 pub mod Trees
 pub mod Walks
 pub mod FaultLines
-pub mod TreePictures

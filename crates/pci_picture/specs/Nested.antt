@@ -5,7 +5,7 @@ use Rattle.std.specs.List.Sorted.{IsNonDecreasingBy}
 use Rattle.pci_picture.specs.Columns.{HasColumnsOf}
 use Rattle.pci_picture.specs.Headings.{Headed, is_section}
 use Rattle.pci_picture.specs.Lanes.{IsIndented}
-use Rattle.pci_picture.specs.Looks.{IsTitled, Look, looks_of}
+use Rattle.pci_picture.specs.Looks.{IsTitled, Look, looks_of, words_of_boxes}
 use Rattle.pci_picture.specs.Maps.{headed_member, lines_of_regions, regions_of_members}
 use Rattle.pci_picture.specs.Sides.{HasSides, StandBeside, sides_drawn, sides_of_width}
 use Rattle.pci_picture.specs.Spots.{Section, classes_drawn, lines_drawn}
@@ -31,8 +31,9 @@ pub record AreSortedByTop (told drawn : List Headed) : Type 0 where
 -- the boxes of a section are those of regions in place, and behind them those of regions out of place. The regions in place are
 -- those below its headings, each with its depth in the map's text, in the order of this text but that lines of depth 1 rise. Each
 -- is one step deeper at most than the one before it. Their boxes stand inside those of their parents, and side by side where they
--- have an address in common. Each box looks as its line says, and so does its title. All
--- sections have columns as wide as the deepest line of the map asks for
+-- have an address in common. Each box looks as its line says, and so does its title. The words of the section are those of its boxes,
+-- one behind the other, and behind them what is written where regions would fit. All sections
+-- have columns as wide as the deepest line of the map asks for
 pub record HasNestedBoxes (look : Look) (regions : List Headed) (section : Section) : Type 0 where
   pub inside : List Member
   pub lost : List Region
@@ -48,3 +49,5 @@ pub record HasNestedBoxes (look : Look) (regions : List Headed) (section : Secti
   pub widths : List Width
   pub sides : sides_drawn section.spots ≡ map sides_of_width widths
   pub beside : StandBeside site (regions_of_members inside) lost widths
+  pub fits : List ℕ
+  pub written : section.words ≡ words_of_boxes look widths section.spots ++ fits

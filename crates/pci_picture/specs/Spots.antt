@@ -40,15 +40,20 @@ lines_drawn spots = map (λ spot. spot.line) spots
 abbrev pub classes_drawn : List BoxSpot → List (List ℕ)
 classes_drawn spots = map (λ spot. spot.class) spots
 
--- a section of a picture: its number, its boxes, and those of its lines that are out of place
+-- a section of a picture: its number, its boxes, those of its lines that are out of place, and the text of its words
 pub record Section : Type 0 where
   pub number : ℕ
   pub spots : List BoxSpot
   pub lost : List (List ℕ)
+  pub words : List ℕ
 
 -- the boxes of some sections, one section behind the other
 abbrev pub all_of : List Section → List BoxSpot
 all_of sections = flat_map (λ section. section.spots) sections
+
+-- the words of some sections, one section behind the other
+abbrev pub words_of_sections : List Section → List ℕ
+words_of_sections sections = flat_map (λ section. section.words) sections
 
 -- ---- the heights of a section
 

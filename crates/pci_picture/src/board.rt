@@ -8,6 +8,7 @@ ghost use Rattle.pci_picture.specs.Depths.{AreChained};
 ghost use Rattle.pci_picture.specs.Lines.{is_feed, words_in_line};
 ghost use Rattle.pci_picture.specs.Named.{AreFunctionsTitled, AreNamedIn, function_listed, name_of_function};
 ghost use Rattle.pci_picture.specs.Maps.{IsReadOf};
+ghost use Rattle.pci_picture.specs.RegionWords.{called_by, words_called};
 ghost use Rattle.pci_picture.specs.Roots.{AreBusesAbove, AreRoots, go_up, listed_function, listed_functions};
 ghost use Rattle.pci_picture.specs.Said.{AreFaultsOf, AreSaidOf, faults_said, lines_of_fault, said_by, said_lines};
 ghost use Rattle.pci_picture.specs.FaultLines.{faults_read};
@@ -220,18 +221,30 @@ impl<'a, A: Allocator + Copy> Board<'a, A> {
         }
     }
 
-    /// Appends a comma and what a region is called: the name that is told of it, else that of its function.
-    pub fn put_called(&self, words: &mut Words<A>, region: &Region<'_>) -> Result<(), OutOfMemory> {
-        let function = self.function(region);
+    /// What a region is called: the name that is told of it, else that of its function.
+    #[tactic(auto, unfolding(crate::specs::RegionWords::called_by))]
+    fn called<'b>(&'b self, region: &Region<'b>) -> &'b [u8]
+        ensures { result.now ≡ called_by (listed_functions self.now.functions.items) (words_in_line region.now.line.now) }
+    {
+        if region.name.is_empty() {
+            self.function_name(region)
+        } else {
+            region.name
+        }
+    }
+
+    /// Appends a comma and what a region is called.
+    pub fn put_called(&self, words: &mut Words<A>, region: &Region<'_>) -> Result<(), OutOfMemory>
+        ensures { OnOk result (words.new.bytes.items ≡ words.old.bytes.items
+            ++ words_called (listed_functions self.now.functions.items) (words_in_line region.now.line.now)) }
+    {
+        let called = self.called(region);
         // somebody may hold a range of a function that isn't listed
-        if region.part == Part::Held && region.name.is_empty() && function.is_none() {
+        if region.part == Part::Held && called.is_empty() {
             return Ok(());
         }
         words.put(b", ")?;
-        match function {
-            Some(function) if region.name.is_empty() => words.put(self.name(function)),
-            _ => words.put(region.name),
-        }
+        words.put(called)
     }
 
     /// Appends the lines of a fault, with a line feed between two.

@@ -45,7 +45,8 @@ impl<A: Allocator + Copy> Canvas<A> {
 
     /// A canvas with no element.
     pub fn new(alloc: A) -> Canvas<A>
-        ensures { HasDrawn [] result }
+        ensures drawn { HasDrawn [] result }
+        ensures empty { string_bytes result.words ≡ [] }
     {
         Canvas {
             boxes: String::new(alloc),
@@ -113,7 +114,8 @@ impl<A: Allocator + Copy> Canvas<A> {
         faint: &[u8],
         words: &[u8],
     ) -> Result<(), OutOfMemory>
-        ensures { OnOk result (AddsToCanvas [] self.old self.new) }
+        ensures adds { OnOk result (AddsToCanvas [] self.old self.new) }
+        ensures writes { OnOk result (string_bytes self.new.words ≡ string_bytes self.old.words) }
     {
         self.element.clear();
         push_axis(&mut self.element, x, y, faint, words)?;
@@ -122,7 +124,8 @@ impl<A: Allocator + Copy> Canvas<A> {
 
     /// Draws a short line at the axis.
     pub fn add_tick(&mut self, x: u64, y: u64) -> Result<(), OutOfMemory>
-        ensures { OnOk result (AddsToCanvas [] self.old self.new) }
+        ensures adds { OnOk result (AddsToCanvas [] self.old self.new) }
+        ensures writes { OnOk result (string_bytes self.new.words ≡ string_bytes self.old.words) }
     {
         self.element.clear();
         push_tick(&mut self.element, x, y)?;
@@ -131,7 +134,8 @@ impl<A: Allocator + Copy> Canvas<A> {
 
     /// Draws a line over a gap, up to `to`.
     pub fn add_gap(&mut self, x: u64, y: u64, to: u64) -> Result<(), OutOfMemory>
-        ensures { OnOk result (AddsToCanvas [] self.old self.new) }
+        ensures adds { OnOk result (AddsToCanvas [] self.old self.new) }
+        ensures writes { OnOk result (string_bytes self.new.words ≡ string_bytes self.old.words) }
     {
         self.element.clear();
         push_gap(&mut self.element, x, y, to)?;
@@ -198,7 +202,7 @@ impl<A: Allocator + Copy> Canvas<A> {
     ) -> Result<String<A>, OutOfMemory>
         ensures closed { IfOk result (λ text. IsPictureText (string_bytes text)) }
         ensures drawn { (spots : List BoxSpot) → HasDrawn spots self.now
-            → IfOk result (λ text. IsDrawnOf spots height (string_bytes text)) }
+            → IfOk result (λ text. IsDrawnOf is_told spots (string_bytes self.now.words) height (string_bytes text)) }
         ensures says { IfOk result (λ text. string_bytes text
             ≡ picture_text is_told (string_bytes self.now.boxes) (string_bytes self.now.words) width height) }
     {

@@ -1,7 +1,9 @@
 //! How the box of a region looks, by its part and by the faults that name it.
-ghost use Rattle.std.specs.Prelude.{◌≡◌};
+ghost use Rattle.std.specs.Prelude.{◌≡◌, ◌++◌, IfOk, OnOk};
+ghost use Rattle.pci_picture.specs.Lines.{words_in_line};
 ghost use Rattle.pci_picture.specs.Looks.{class_with};
-ghost use Rattle.pci_picture.specs.Marks.{has_naming, look_with, word_of_part};
+ghost use Rattle.pci_picture.specs.Marks.{has_naming, key_of_region, look_with, word_of_part};
+ghost use Rattle.pci_picture.specs.RegionWords.{any_number, numbers_naming, words_of_numbers};
 
 use super::faults::Faults;
 use super::memory::OutOfMemory;
@@ -49,7 +51,12 @@ pub fn put_marks<A: Allocator + Copy>(
     words: &mut Words<A>,
     faults: &Faults<'_, A>,
     region: &Region<'_>,
-) -> Result<bool, OutOfMemory> {
+) -> Result<bool, OutOfMemory>
+    ensures puts { OnOk result (words.new.bytes.items ≡ words.old.bytes.items ++ words_of_numbers
+        (numbers_naming (has_naming faults.now.faults.items faults.now.namings.items) (key_of_region (words_in_line region.now.line.now)))) }
+    ensures marked { IfOk result (λ is_marked. is_marked ≡ any_number (numbers_naming
+        (has_naming faults.entry.now.faults.items faults.entry.now.namings.items) (key_of_region (words_in_line region.entry.now.line.now)))) }
+{
     let mut is_marked = false;
     for number in 60..64u8 {
         if faults.has(region.key, number, number) {

@@ -1,19 +1,20 @@
 //! The picture of a board.
-ghost use Rattle.std.specs.Prelude.{◌≡◌, ◌<◌, ◌≤◌, ◌+◌, ◌-◌, ◌^◌, [], codes, min, length, IfOk, OnOk};
+ghost use Rattle.std.specs.Prelude.{◌≡◌, ◌<◌, ◌≤◌, ◌+◌, ◌-◌, ◌^◌, List, ℕ, [], codes, min, length, IfOk, OnOk};
 ghost use Rattle.std.specs.List.{All};
 ghost use Rattle.std.specs.String.{string_bytes};
 ghost use Rattle.pci_picture.specs.BoardLooks.{look_read};
-ghost use Rattle.pci_picture.specs.Canvases.{AddsToCanvas, AddsSome};
+ghost use Rattle.pci_picture.specs.Canvases.{AddsBoxOf, AddsSome, AddsToCanvas, WritesBytes};
 ghost use Rattle.pci_picture.specs.Columns.{HasColumnsOf};
 ghost use Rattle.pci_picture.specs.Depths.{AreChained};
-ghost use Rattle.pci_picture.specs.Drawings.{AreOffBoxes, AreOfSections, IsBoxOf, IsRunOfSection};
+ghost use Rattle.pci_picture.specs.Drawings.{AreOffBoxes, AreOfSections, IsRunOfSection};
 ghost use Rattle.pci_picture.specs.ByRoots.{IsDrawnByRootsOfShow};
-ghost use Rattle.pci_picture.specs.FaultLines.{HasFaultList};
+ghost use Rattle.pci_picture.specs.Lines.{words_in_line};
 ghost use Rattle.pci_picture.specs.Maps.{AreMembersOf, kept_regions};
 ghost use Rattle.pci_picture.specs.Members.{AreIndentedBySection, AreSortedBySection};
+ghost use Rattle.pci_picture.specs.RegionWords.{words_if_off};
 ghost use Rattle.pci_picture.specs.Roots.{IsLostByRoot, listed_functions};
 ghost use Rattle.pci_picture.specs.Sides.{HasSides};
-ghost use Rattle.pci_picture.specs.TreePictures.{HasTreeOf};
+ghost use Rattle.pci_picture.specs.Spots.{spot_at};
 ghost use Rattle.pci_picture.specs.Whole.{IsPictureText};
 
 use super::board::{Board, Texts};
@@ -73,7 +74,8 @@ fn write_counts<A: Allocator + Copy>(
     canvas: &mut Canvas<A>,
     board: &Board<'_, A>,
 ) -> Result<(), OutOfMemory>
-    ensures { OnOk result (AddsToCanvas [] canvas.old canvas.new) }
+    ensures adds { OnOk result (AddsToCanvas [] canvas.old canvas.new) }
+    ensures writes { OnOk result (string_bytes canvas.new.words ≡ string_bytes canvas.old.words) }
 {
     let title = Label {
         x: LEFT,
@@ -200,7 +202,10 @@ fn off_words<A: Allocator + Copy>(
     alloc: A,
     board: &Board<'_, A>,
     region: &Region<'_>,
-) -> Result<Words<A>, OutOfMemory> {
+) -> Result<Words<A>, OutOfMemory>
+    ensures { IfOk result (λ words. words.bytes.items
+        ≡ words_if_off (listed_functions board.entry.now.functions.items) (words_in_line region.entry.now.line.now)) }
+{
     let mut words = Words::new(alloc);
     words.put_region(region)?;
     words.put_all(&[b", ".as_slice(), word(region.line, 0)])?;
@@ -216,8 +221,10 @@ fn draw_off_row<A: Allocator + Copy>(
     region: &Region<'_>,
     site: &Site,
 ) -> Result<(), OutOfMemory>
-    ensures { OnOk result (AddsSome (IsBoxOf (codes "off") ((look_read board.entry.now).said region.entry.now.line.now)
-        region.entry.now.line.now (min (site.now.x + 132) (2 ^ 64 - 1)) site.now.y site.now.width 13) canvas.old canvas.new) }
+    ensures adds { OnOk result (AddsBoxOf (codes "off") ((look_read board.entry.now).said region.entry.now.line.now)
+        region.entry.now.line.now (min (site.now.x + 132) (2 ^ 64 - 1)) site.now.y site.now.width 13 canvas.old canvas.new) }
+    ensures words { OnOk result ((title : List ℕ) → WritesBytes ((look_read board.entry.now).off_words (spot_at (min (site.now.x + 132) (2 ^ 64 - 1))
+        site.now.y site.now.width 13 (codes "off") title region.entry.now.line.now)) canvas.old canvas.new) }
 {
     let x = site.x.saturating_add(AXIS);
     let at = Frame {
@@ -284,15 +291,11 @@ pub fn picture_of<A: Allocator + Copy>(
     // each line of the map that is a region is the first line of the title of exactly one box. A section has the regions
     // below its headings, and in it the boxes stand at the heights of their addresses. A box is marked where a fault names its
     // region. Its title is the line, what its function is called, the buses behind a window, and all such faults. A region out of
-    // place is drawn in the section of the root from which its bus is reached, by the functions that `show` lists, and of its space
+    // place is drawn in the section of the root from which its bus is reached, by the functions that `show` lists, and of its space.
+    // Its words are those of the legend, the lines of the faults, up to 40, below them the tree of the functions, and then those of
+    // the boxes, in their order
     ensures drawn { IfOk result (λ text. IsDrawnByRootsOfShow texts.entry.now.show.now texts.entry.now.titles.now
         texts.entry.now.map.now texts.entry.now.faults.now (string_bytes text)) }
-    // above the tree and the sections stand the lines of the faults, up to 40, and how many faults are left out
-    ensures listed { IfOk result (λ text. HasFaultList texts.entry.now.faults.now (string_bytes text)) }
-    // below the list stands the tree of the functions that `show` lists: for each its row, in which order, how far right, at which
-    // height and in which look, with the numbers of the faults that show beside it
-    ensures tree { IfOk result (λ text. HasTreeOf texts.entry.now.show.now texts.entry.now.titles.now texts.entry.now.faults.now
-        (string_bytes text)) }
 {
     let board = Board::read(alloc, texts)?;
     let mut canvas = Canvas::new(alloc);

@@ -1,7 +1,8 @@
 //! Lines of a map.
-ghost use Rattle.std.specs.Prelude.{◌≡◌, ◌&&◌, [], ◌∷◌, IsTrue, MatchOption, Some, IfSome, is_some, codes, if◌then◌else◌};
+ghost use Rattle.std.specs.Prelude.{◌≡◌, ◌&&◌, ◌+◌, [], ◌∷◌, IsTrue, MatchOption, Some, IfSome, is_some, codes, if◌then◌else◌};
 ghost use Rattle.pci_picture.specs.Lines.{is_one_line, names_part, is_region_line, is_register, is_slot, is_told_number, names_told, nth_word, line_if_region, says, words_in_line};
 ghost use Rattle.pci_picture.specs.Marks.{key_named_at, key_of_region, key_of_words, look_of_part, word_of_part};
+ghost use Rattle.pci_picture.specs.RegionNames.{AreTextsOf, name_word, register_word};
 ghost use Rattle.pci_picture.specs.Slots.{IsOfLine, bus_of_slot, bus_of_word, slot_of_key, slot_word};
 ghost use Rattle.pci_picture.specs.Spots.{IsExtentWord};
 
@@ -46,6 +47,7 @@ pub struct Region<'a> {
     ghost ends: { IsExtentWord (nth_word (words_in_line line.now) 0) first last },
     ghost is_of_line: { IsOfLine line.now key digits },
     ghost looks: { word_of_part part ≡ look_of_part (words_in_line line.now) },
+    ghost texts: { AreTextsOf (words_in_line line.now) size.now slot.now register.now name.now },
 }
 
 impl Region<'_> {
@@ -83,6 +85,9 @@ fn named_by<'a>(part: Part, slot: &'a [u8], register: &'a [u8]) -> Option<Named<
     ensures bus { IfSome result (λ named. bus_of_slot (slot_of_key named.key) ≡ bus_of_word slot.now) }
     ensures key { IfSome result (λ named. key_of_words slot.now register.now ≡ Some named.key) }
     ensures part { IfSome result (λ named. named.part ≡ part) }
+    ensures slot { IfSome result (λ named. named.slot.now ≡ slot.now) }
+    ensures register { IfSome result (λ named. named.register.now ≡ register.now) }
+    ensures name { IfSome result (λ named. named.name.now ≡ []) }
 {
     let number = slot_number(slot)?;
     let offset = hex_byte(register)?;
@@ -101,6 +106,9 @@ fn told_by<'a>(part: Part, slot: &'a [u8], register: &'a [u8], name: &'a [u8]) -
     ensures bus { IfSome result (λ named. bus_of_slot (slot_of_key named.key) ≡ bus_of_word slot.now) }
     ensures key { IfSome result (λ named. key_of_words slot.now register.now ≡ Some named.key) }
     ensures part { IfSome result (λ named. named.part ≡ part) }
+    ensures slot { IfSome result (λ named. named.slot.now ≡ slot.now) }
+    ensures register { IfSome result (λ named. named.register.now ≡ register.now) }
+    ensures name { IfSome result (λ named. named.name.now ≡ name.now) }
 {
     let number = slot_number(slot)?;
     let told = told_number(register)?;
@@ -122,6 +130,12 @@ fn told_behind(part: Part, line: &[u8]) -> Option<Named<'_>>
     ensures key { IfSome result (λ named. key_named_at (words_in_line line.now)
         (if says (nth_word (words_in_line line.now) 3) (codes "pref") then 4 else 3) ≡ Some named.key) }
     ensures part { IfSome result (λ named. named.part ≡ part) }
+    ensures slot { IfSome result (λ named. named.slot.now
+        ≡ nth_word (words_in_line line.now) (if says (nth_word (words_in_line line.now) 3) (codes "pref") then 4 else 3)) }
+    ensures register { IfSome result (λ named. named.register.now
+        ≡ nth_word (words_in_line line.now) ((if says (nth_word (words_in_line line.now) 3) (codes "pref") then 4 else 3) + 1)) }
+    ensures name { IfSome result (λ named. named.name.now
+        ≡ nth_word (words_in_line line.now) ((if says (nth_word (words_in_line line.now) 3) (codes "pref") then 4 else 3) + 2)) }
 {
     let next = word(line, 3);
     if next == b"pref".as_slice() {
@@ -132,12 +146,15 @@ fn told_behind(part: Part, line: &[u8]) -> Option<Named<'_>>
 }
 
 /// The part that stands at the third word of a line, and what names it.
-#[tactic(auto, unfolding(crate::specs::Lines::names_part, crate::specs::Slots::slot_word, crate::specs::Slots::bus_of_slot, crate::specs::Slots::slot_of_key, crate::specs::Marks::key_of_region, crate::specs::Marks::look_of_part))]
+#[tactic(auto, unfolding(crate::specs::Lines::names_part, crate::specs::Slots::slot_word, crate::specs::Slots::bus_of_slot, crate::specs::Slots::slot_of_key, crate::specs::Marks::key_of_region, crate::specs::Marks::look_of_part, crate::specs::RegionNames::register_word, crate::specs::RegionNames::name_word))]
 fn named_of(line: &[u8]) -> Option<Named<'_>>
     ensures some { is_some result ≡ names_part (words_in_line line.now) }
     ensures bus { IfSome result (λ named. bus_of_slot (slot_of_key named.key) ≡ bus_of_word (slot_word (words_in_line line.now))) }
     ensures key { IfSome result (λ named. named.key ≡ key_of_region (words_in_line line.now)) }
     ensures looks { IfSome result (λ named. word_of_part named.part ≡ look_of_part (words_in_line line.now)) }
+    ensures slot { IfSome result (λ named. named.slot.now ≡ slot_word (words_in_line line.now)) }
+    ensures register { IfSome result (λ named. named.register.now ≡ register_word (words_in_line line.now)) }
+    ensures name { IfSome result (λ named. named.name.now ≡ name_word (words_in_line line.now)) }
 {
     let part = word(line, 2);
     if part == b"bar".as_slice() {

@@ -1,8 +1,16 @@
 //! A section of a map: its axis, its boxes, and the ranges that its faults tell.
-ghost use Rattle.std.specs.Prelude.{◌≤◌, [], IfOk, OnOk};
+ghost use Rattle.std.specs.Prelude.{◌≡◌, ◌≤◌, ◌++◌, ℕ, List, [], codes, IfOk, OnOk};
 ghost use Rattle.pci_picture.specs.BoardLooks.{look_read};
-ghost use Rattle.pci_picture.specs.Canvases.{AddsToCanvas, AddsSome};
-ghost use Rattle.pci_picture.specs.Drawings.{AreFramed, AreOfSection, IsBoxOf};
+ghost use Rattle.pci_picture.specs.Canvases.{AddsBoxOf, AddsSome, AddsToCanvas, WritesBytes};
+ghost use Rattle.pci_picture.specs.Drawings.{AreFramed, AreOfSection};
+ghost use Rattle.pci_picture.specs.Labels.{cut_words, label_text};
+ghost use Rattle.pci_picture.specs.Lines.{words_in_line};
+ghost use Rattle.pci_picture.specs.Marks.{has_naming, key_of_region};
+ghost use Rattle.pci_picture.specs.Named.{words_of_buses};
+ghost use Rattle.pci_picture.specs.RegionWords.{class_of_first, first_words, numbers_naming};
+ghost use Rattle.pci_picture.specs.Roots.{listed_functions};
+ghost use Rattle.pci_picture.specs.Spots.{spot_at};
+ghost use Rattle.pci_picture.specs.Trees.{down};
 
 use super::board::Board;
 use super::canvas::{Canvas, Label, Shape};
@@ -26,7 +34,8 @@ fn draw_covered<A: Allocator + Copy>(
     digits: usize,
     run: &Run,
 ) -> Result<(), OutOfMemory>
-    ensures { OnOk result (AddsToCanvas [] canvas.old canvas.new) }
+    ensures adds { OnOk result (AddsToCanvas [] canvas.old canvas.new) }
+    ensures writes { OnOk result (WritesBytes [] canvas.old canvas.new) }
 {
     let axis = site.x.saturating_add(AXIS);
     let all = hex_digits(low_bits(run.begin));
@@ -49,7 +58,8 @@ fn draw_gap<A: Allocator + Copy>(
     digits: usize,
     run: &Run,
 ) -> Result<(), OutOfMemory>
-    ensures { OnOk result (AddsToCanvas [] canvas.old canvas.new) }
+    ensures adds { OnOk result (AddsToCanvas [] canvas.old canvas.new) }
+    ensures writes { OnOk result (WritesBytes [] canvas.old canvas.new) }
 {
     let axis = site.x.saturating_add(AXIS);
     let mut words = Words::of(alloc, b"to ")?;
@@ -68,7 +78,8 @@ fn draw_run<A: Allocator + Copy>(
     digits: usize,
     run: &Run,
 ) -> Result<(), OutOfMemory>
-    ensures { OnOk result (AddsToCanvas [] canvas.old canvas.new) }
+    ensures adds { OnOk result (AddsToCanvas [] canvas.old canvas.new) }
+    ensures writes { OnOk result (WritesBytes [] canvas.old canvas.new) }
 {
     if run.is_covered {
         draw_covered(canvas, site, digits, run)
@@ -90,7 +101,8 @@ fn draw_axis<A: Allocator + Copy>(
     regions: &[Region<'_>],
     heights: &Heights<A>,
 ) -> Result<(), OutOfMemory>
-    ensures { OnOk result (AddsToCanvas [] canvas.old canvas.new) }
+    ensures adds { OnOk result (AddsToCanvas [] canvas.old canvas.new) }
+    ensures writes { OnOk result (WritesBytes [] canvas.old canvas.new) }
 {
     let mut digits = 0;
     let mut last = 0;
@@ -135,10 +147,11 @@ fn draw_box<A: Allocator + Copy>(
     placed: &Placed<'_>,
     at: Frame,
 ) -> Result<(), OutOfMemory>
-    ensures { OnOk result (AddsSome (IsBoxOf
+    ensures adds { OnOk result (AddsBoxOf
         ((look_read board.entry.now).class placed.entry.now.is_lost placed.entry.now.region.line.now)
         ((look_read board.entry.now).said placed.entry.now.region.line.now) placed.entry.now.region.line.now
-        at.x at.y at.width at.height) canvas.old canvas.new) }
+        at.x at.y at.width at.height canvas.old canvas.new) }
+    ensures writes { OnOk result (WritesBytes [] canvas.old canvas.new) }
 {
     let region = &placed.region;
     let class = class_of(&board.faults, region, placed.is_lost);
@@ -158,7 +171,13 @@ fn put_words<A: Allocator + Copy>(
     words: &mut Words<A>,
     board: &Board<'_, A>,
     region: &Region<'_>,
-) -> Result<&'static str, OutOfMemory> {
+) -> Result<&'static str, OutOfMemory>
+    ensures puts { OnOk result (words.new.bytes.items ≡ words.old.bytes.items ++ first_words (numbers_naming
+        (has_naming board.now.faults.faults.items board.now.faults.namings.items) (key_of_region (words_in_line region.now.line.now)))
+        (listed_functions board.now.functions.items) (words_in_line region.now.line.now)) }
+    ensures class { IfOk result (λ class. class.now ≡ class_of_first (numbers_naming (has_naming board.entry.now.faults.faults.items
+        board.entry.now.faults.namings.items) (key_of_region (words_in_line region.entry.now.line.now))) (words_in_line region.entry.now.line.now)) }
+{
     match region.part {
         Part::Free => {
             words.put(b"free ")?;
@@ -186,7 +205,9 @@ fn write_region<A: Allocator + Copy>(
     placed: &Placed<'_>,
     at: Frame,
 ) -> Result<(), OutOfMemory>
-    ensures { OnOk result (AddsToCanvas [] canvas.old canvas.new) }
+    ensures adds { OnOk result (AddsToCanvas [] canvas.old canvas.new) }
+    ensures words { OnOk result ((width : ℕ) (class title : List ℕ) → WritesBytes ((look_read board.entry.now).words placed.entry.now.width
+        (spot_at placed.entry.now.width.left at.y width at.height class title placed.entry.now.region.line.now)) canvas.old canvas.new) }
 {
     let region = &placed.region;
     let width = placed.width;
@@ -215,7 +236,9 @@ fn write_buses<A: Allocator + Copy>(
     above: Label<'_>,
     room: u64,
 ) -> Result<(), OutOfMemory>
-    ensures { OnOk result (AddsToCanvas [] canvas.old canvas.new) }
+    ensures adds { OnOk result (AddsToCanvas [] canvas.old canvas.new) }
+    ensures writes { OnOk result (WritesBytes (label_text above.entry.x (down above.entry.y 12) (codes "quiet")
+        (cut_words room (codes "to " ++ words_of_buses buses))) canvas.old canvas.new) }
 {
     let mut words = Words::of(alloc, b"to ")?;
     words.put_buses(buses)?;
@@ -407,7 +430,8 @@ fn write_heading<A: Allocator + Copy>(
     canvas: &mut Canvas<A>,
     site: &Site,
 ) -> Result<(), OutOfMemory>
-    ensures { OnOk result (AddsToCanvas [] canvas.old canvas.new) }
+    ensures adds { OnOk result (AddsToCanvas [] canvas.old canvas.new) }
+    ensures writes { OnOk result (WritesBytes [] canvas.old canvas.new) }
 {
     let mut heading = Words::of(alloc, b"bus ")?;
     heading.put_hex(u64::from(site.bus()), 2)?;

@@ -1,10 +1,12 @@
 //! A line of words that is being written.
 ghost use Rattle.std.specs.Prelude.{◌≡◌, ◌++◌, [], Some, min, IfOk, OnOk};
 ghost use Rattle.std.specs.Fmt.{decimal};
-ghost use Rattle.std.specs.List.{flat_map};
+ghost use Rattle.std.specs.List.{flat_map, list_all};
 ghost use Rattle.std.specs.Option.{option_map};
 ghost use Rattle.pci_picture.specs.Labels.{cut_words};
+ghost use Rattle.pci_picture.specs.Lines.{is_decimal, words_in_line};
 ghost use Rattle.pci_picture.specs.Named.{low_digits, name_of_class, name_of_function, name_of_numbers, words_of_buses};
+ghost use Rattle.pci_picture.specs.RegionWords.{words_of_region, words_of_size};
 ghost use Rattle.pci_picture.specs.Roots.{listed_function};
 
 use super::function::{Buses, Function};
@@ -95,9 +97,12 @@ impl<A: Allocator + Copy> Words<A> {
     }
 
     /// Appends a number of addresses, as `4K`, or `32 B`.
-    pub fn put_size(&mut self, size: &[u8]) -> Result<(), OutOfMemory> {
+    #[tactic(auto, unfolding(crate::specs::RegionWords::words_of_size))]
+    pub fn put_size(&mut self, size: &[u8]) -> Result<(), OutOfMemory>
+        ensures { OnOk result (self.new.bytes.items ≡ self.old.bytes.items ++ words_of_size size.now) }
+    {
         self.put(size)?;
-        if size.iter().all(|byte| byte.is_ascii_digit()) {
+        if are_digits(size) {
             self.put(b" B")?;
         }
         Ok(())
@@ -143,7 +148,10 @@ impl<A: Allocator + Copy> Words<A> {
     }
 
     /// Appends slot, register and size of a region, as `00:1f.2 24, 2K`.
-    pub fn put_region(&mut self, region: &Region<'_>) -> Result<(), OutOfMemory> {
+    pub fn put_region(&mut self, region: &Region<'_>) -> Result<(), OutOfMemory>
+        ensures { OnOk result
+            (self.new.bytes.items ≡ self.old.bytes.items ++ words_of_region (words_in_line region.now.line.now)) }
+    {
         self.put_all(&[
             region.slot,
             b" ".as_slice(),
@@ -170,6 +178,13 @@ impl<A: Allocator + Copy> Words<A> {
         self.bytes.truncate((room - 2) as usize);
         self.put(b"..")
     }
+}
+
+/// Whether a word has digits alone.
+fn are_digits(word: &[u8]) -> bool
+    ensures { result ≡ list_all is_decimal word.now }
+{
+    word.iter().all(|byte| byte.is_ascii_digit())
 }
 
 /// The name of a class, by its base class, or by its base class and subclass.

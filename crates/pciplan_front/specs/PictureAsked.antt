@@ -7,8 +7,6 @@ use Rattle.pci_spec.specs.Text.{Block, slot_text}
 use Rattle.pci_dump.specs.Begun.{AppendsBeginning}
 use Rattle.pci_check.specs.Audits.{IsDumpOf}
 use Rattle.pci_picture.specs.ByRoots.{IsDrawnByRootsOfShow}
-use Rattle.pci_picture.specs.FaultLines.{HasFaultList}
-use Rattle.pci_picture.specs.TreePictures.{HasTreeOf}
 use Rattle.pci_picture.specs.Whole.{IsPictureText}
 use Rattle.pciplan_cli.specs.CarriedOut.{TextsByPath}
 use Rattle.pciplan_cli.specs.Invocations.{IsInvocationOf, HasBadWords}
@@ -34,8 +32,8 @@ titles_text blocks = flat_map (λ block. title_line block.slot block.title) bloc
 
 -- a well-formed picture of the map, where there is one: each of its regions is the first line of the title of one box, which is marked
 -- where one of the faults with reasons names the region. Behind it the title says what the region's function is called, by the titles of
--- the dump, and which faults name the region. What is out of place is drawn where the functions that `show` lists say. There are the
--- lines of the faults, and below them the tree of the functions
+-- the dump, and which faults name the region. What is out of place is drawn where the functions that `show` lists say. The words of
+-- the picture are those of its legend, the lines of the faults, the tree of the functions, and what is written in the boxes
 pub record IsDrawn (beside : Beside) (dump probe : List Block) (answer : Answer) : Type 0 where
   pub map : Answer
   pub is_map : IsPairAnswer (task.Map beside) dump probe map
@@ -47,8 +45,6 @@ pub record IsDrawn (beside : Beside) (dump probe : List Block) (answer : Answer)
   pub text : List ℕ
   pub picture : IsPictureText text
   pub draws : IsDrawnByRootsOfShow shown.text (titles_text dump) map.text faults.text text
-  pub listed : HasFaultList faults.text text
-  pub tree : HasTreeOf shown.text (titles_text dump) faults.text text
   pub line : answer ≡ done_with map.remarks text
 
 -- the line `no ..` of the map, where there is none

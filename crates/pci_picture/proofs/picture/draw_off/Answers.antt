@@ -20,13 +20,13 @@ loop-region-preserved g c = record {
   rows =
       row_more (look_read c.args.board.now) c.as_slice-off.result.now c.loop-region.region-index c.region-item.result _ c.loop-region.y _
       c.add_heading.new.self c.loop-region.canvas c.draw_off_row.new.canvas
-      (omega arith) c.region-item.is c.loop-region.invariant.rows c.in_ok-draw_off_row.ensures;
+      (omega arith) c.region-item.is c.loop-region.invariant.rows c.in_ok-draw_off_row.ensures.adds c.in_ok-draw_off_row.ensures.words;
 }
 
 pub returns : goal.returns
 returns g c = record {
   drawn =
       all_rows (look_read c.args.board.now) c.as_slice-off.result.now c.args.board.now.map.off.items c.loop-region.region-index _ _ _ (omega arith)
-      c.as_slice-off.ensures.value c.in_ok-add_heading.ensures.adds c.loop-region.invariant.rows;
+      c.as_slice-off.ensures.value c.in_ok-add_heading.ensures.adds c.in_ok-add_heading.ensures.writes c.loop-region.invariant.rows;
   down = c.loop-region.invariant.down;
 }

@@ -4,7 +4,7 @@ use Rattle.pci_picture.specs.BoardLooks.{look_read}
 use Rattle.pci_picture.specs.Roots.{listed_functions}
 use Rattle.pci_picture.proofs.Boxes.{then_draws, up_to}
 use Rattle.pci_picture.proofs.Looks.{looks_told}
-use Rattle.pci_picture.proofs.Pictured.{drawn_by_roots, has_fault_list, has_tree}
+use Rattle.pci_picture.proofs.Pictured.{drawn_by_roots, has_above}
 use Rattle.pci_picture.proofs.Sections.{whole_picture}
 use Rattle.pci_picture.proofs.picture.picture_of.Goals as goal
 
@@ -13,24 +13,22 @@ draw_sections-requires g c = c.in_ok-board.ensures.chained
 
 pub returns : goal.returns
 returns g c =
-    let functions = listed_functions c.in_ok-board.board.functions.items in
+    let board = c.in_ok-board.board in
+    let functions = listed_functions board.functions.items in
+    let above =
+    has_above functions c.has_told-is_told.result c.args.texts.now.faults.now board.faults _ _ c.new-canvas.result c.write_counts.new.canvas c.draw_legend.new.canvas c.write_faults.new.canvas c.draw_tree.new.canvas
+    c.in_ok-board.ensures.lines c.in_ok-board.ensures.badges c.in_ok-write_faults.ensures.below c.in_ok-write_faults.ensures.high c.saturating_add-top.ensures
+    c.new-canvas.ensures.empty c.in_ok-write_counts.ensures.writes c.in_ok-legend.ensures.writes c.in_ok-write_faults.ensures.writes c.in_ok-tree_end.ensures.tree in
     let whole =
-    whole_picture (look_read c.in_ok-board.board) c.first_site-site.result functions c.args.texts.now.map.now c.args.texts.now.faults.now c.in_ok-board.board.map c.new-canvas.result _ _ _ c.in_ok-y.y c.bottom_of-bottom.result c.finish.result (λ text. string_bytes text)
-    (looks_told c.in_ok-board.board c.args.texts.now.faults.now c.in_ok-board.ensures.faults c.in_ok-board.ensures.said c.in_ok-board.ensures.lines) c.first_site-site.ensures.room c.first_site-site.ensures.columns c.in_ok-board.ensures.map (up_to c.in_ok-y.y c.in_ok-end.end c.bottom_of-bottom.result c.in_ok-end.ensures.down c.bottom_of-bottom.ensures) c.new-canvas.ensures
-    (then_draws [] _ _ _ (then_draws [] _ _ _ (then_draws [] _ _ _ c.in_ok-write_counts.ensures c.in_ok-legend.ensures.adds) c.in_ok-write_faults.ensures.adds) c.in_ok-tree_end.ensures.adds)
+    whole_picture (look_read board) c.first_site-site.result functions c.args.texts.now.map.now c.args.texts.now.faults.now board.map c.new-canvas.result _ _ _ c.has_told-is_told.result
+    c.in_ok-y.y c.bottom_of-bottom.result c.finish.result (λ text. string_bytes text) c.has_told-is_told.ensures above
+    (looks_told board c.args.texts.now.faults.now c.in_ok-board.ensures.faults c.in_ok-board.ensures.said c.in_ok-board.ensures.lines) c.first_site-site.ensures.room c.first_site-site.ensures.columns
+    c.in_ok-board.ensures.map (up_to c.in_ok-y.y c.in_ok-end.end c.bottom_of-bottom.result c.in_ok-end.ensures.down c.bottom_of-bottom.ensures) c.new-canvas.ensures.drawn
+    (then_draws [] _ _ _ (then_draws [] _ _ _ (then_draws [] _ _ _ c.in_ok-write_counts.ensures.adds c.in_ok-legend.ensures.adds) c.in_ok-write_faults.ensures.adds) c.in_ok-tree_end.ensures.adds)
     c.in_ok-y.ensures.drawn c.in_ok-end.ensures.drawn c.finish.ensures.drawn in
     record {
       closed = c.finish.ensures.closed;
       drawn =
           drawn_by_roots functions c.args.texts.now.show.now c.args.texts.now.titles.now c.args.texts.now.map.now c.args.texts.now.faults.now c.finish.result (λ text. string_bytes text)
           c.in_ok-board.ensures.show whole;
-      listed =
-          has_fault_list c.args.texts.now.faults.now c.in_ok-board.board.faults c.draw_legend.new.canvas c.write_faults.new.canvas c.draw_tree.new.canvas c.draw_sections.new.canvas c.draw_off.new.canvas
-          c.in_ok-y.ensures.drawn.spots c.in_ok-end.ensures.drawn.spots c.finish.result (λ text. string_bytes text) _ _ _ c.in_ok-board.ensures.lines
-          c.in_ok-write_faults.ensures.writes c.in_ok-tree_end.ensures.adds c.in_ok-y.ensures.drawn.adds c.in_ok-end.ensures.drawn.adds c.finish.ensures.says;
-      tree =
-          has_tree c.args.texts.now.show.now c.args.texts.now.titles.now c.args.texts.now.faults.now functions c.in_ok-board.board.faults _ _ c.write_faults.new.canvas c.draw_tree.new.canvas
-          c.draw_sections.new.canvas c.draw_off.new.canvas c.in_ok-y.ensures.drawn.spots c.in_ok-end.ensures.drawn.spots c.finish.result (λ text. string_bytes text) _ _ _
-          c.in_ok-board.ensures.lines c.in_ok-board.ensures.show c.in_ok-board.ensures.badges c.in_ok-write_faults.ensures.below c.in_ok-write_faults.ensures.high c.saturating_add-top.ensures
-          c.in_ok-tree_end.ensures.tree c.in_ok-y.ensures.drawn.adds c.in_ok-end.ensures.drawn.adds c.finish.ensures.says;
     }

@@ -5,8 +5,8 @@ use Rattle.pci_picture.specs.BoardLooks.{look_read}
 use Rattle.pci_picture.proofs.Boxes.{one_box}
 use Rattle.pci_picture.proofs.section.draw_box.Goals as goal
 
-pub returns : goal.returns
-returns g c =
+pub returns-clause-adds : goal.returns-clause-adds
+returns-clause-adds g c =
     let at = c.args.at in
     let region = c.args.placed.now.region in
     let look = look_read c.args.board.now in

@@ -11,7 +11,7 @@ loop-placed-preserved g c =
     box_more (look_read c.args.board.now) c.args.plan.now.placed.items c.loop-placed.placed-index c.placed-item.result c.args.plan.now.heights.runs.items c.args.plan.now.heights.bottom
     c.frame_of-at.result.x c.frame_of-at.result.y c.frame_of-at.result.width c.frame_of-at.result.height c.args.canvas.now c.loop-placed.canvas c.draw_box.new.canvas c.write_region.new.canvas
     (omega arith) (c.placed-item.is ∙ ap (λ l. get_or l c.loop-placed.placed-index c.placed-item.result) c.deref-placed-items.ensures.value)
-    c.loop-placed.invariant c.frame_of-at.ensures.framed c.frame_of-at.ensures.left c.frame_of-at.ensures.width c.in_ok-draw_box.ensures c.in_ok-write_region.ensures
+    c.loop-placed.invariant c.frame_of-at.ensures.framed c.frame_of-at.ensures.left c.frame_of-at.ensures.width c.in_ok-draw_box.ensures.adds c.in_ok-draw_box.ensures.writes c.in_ok-write_region.ensures.adds c.in_ok-write_region.ensures.words
 
 pub returns : goal.returns
 returns g c =

@@ -1,8 +1,6 @@
 use Rattle.std.proofs.Common.{◌≡◌, ◌∙◌, inl, ap, subst, cond, List, ℕ, Bool}
 use Rattle.std.specs.Prelude.{string_bytes}
 use Rattle.pci_picture.specs.ByRoots.{IsDrawnByRootsOfShow}
-use Rattle.pci_picture.specs.FaultLines.{HasFaultList}
-use Rattle.pci_picture.specs.TreePictures.{HasTreeOf}
 use Rattle.pciplan_tasks.specs.Answers.{Answer, answer_of, text_bytes}
 use Rattle.pciplan_front.specs.PictureAsked.{titles_text}
 use Rattle.pciplan_front.proofs.drawn.drawn.Goals as goal
@@ -31,10 +29,5 @@ returns-in-Ok c =
           (subst (λ (m : List ℕ). IsDrawnByRootsOfShow show c.as_slice.result.now m c.in_ok-lines_of-3.field-0.now text) c.in_ok-lines_of-2.ensures
           (subst (λ (s : List ℕ). IsDrawnByRootsOfShow s c.as_slice.result.now c.in_ok-lines_of-2.field-0.now c.in_ok-lines_of-3.field-0.now text) c.in_ok-lines_of.ensures
           c.in-Ok.ensures.drawn)));
-      listed = subst (λ (f : List ℕ). HasFaultList f text) c.in_ok-lines_of-3.ensures c.in-Ok.ensures.listed;
-      tree =
-          subst (λ (t : List ℕ). HasTreeOf show t faults text) titles
-          (subst (λ (f : List ℕ). HasTreeOf show c.as_slice.result.now f text) c.in_ok-lines_of-3.ensures
-          (subst (λ (s : List ℕ). HasTreeOf s c.as_slice.result.now c.in_ok-lines_of-3.field-0.now text) c.in_ok-lines_of.ensures c.in-Ok.ensures.tree));
       line = ap of_refused c.if-map.false;
     }

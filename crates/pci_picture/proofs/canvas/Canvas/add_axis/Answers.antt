@@ -12,8 +12,8 @@ keep_box-requires g c =
     made (string_bytes c.clear.new.self) (string_bytes c.push_axis.new.text) (axis_text c.args.x c.args.y c.args.faint.now c.args.words.now)
     (axis_content c.args.x c.args.y c.args.faint.now c.args.words.now (omega arith) (omega arith)) c.clear.ensures.bytes c.in_ok-push_axis.ensures
 
-pub returns : goal.returns
-returns g c =
+pub returns-clause-adds : goal.returns-clause-adds
+returns-clause-adds g c =
     on_ok_weaker c.keep_box.result
     (λ kept. added_bare (axis_text c.args.x c.args.y c.args.faint.now c.args.words.now) (axis_titles c.args.x c.args.y c.args.faint.now c.args.words.now)
     c.args.self.now c.keep_box.new.self (string_bytes c.clear.new.self) (string_bytes c.push_axis.new.text) c.clear.ensures.bytes c.in_ok-push_axis.ensures kept.0 kept.1)

@@ -12,8 +12,8 @@ keep_box-requires g c =
     made (string_bytes c.clear.new.self) (string_bytes c.push_gap.new.text) (gap_text c.args.x c.args.y c.args.to)
     (gap_content c.args.x c.args.y c.args.to (omega arith) (omega arith) (omega arith)) c.clear.ensures.bytes c.in_ok-push_gap.ensures
 
-pub returns : goal.returns
-returns g c =
+pub returns-clause-adds : goal.returns-clause-adds
+returns-clause-adds g c =
     on_ok_weaker c.keep_box.result
     (λ kept. added_bare (gap_text c.args.x c.args.y c.args.to) (gap_titles c.args.x c.args.y c.args.to)
     c.args.self.now c.keep_box.new.self (string_bytes c.clear.new.self) (string_bytes c.push_gap.new.text) c.clear.ensures.bytes c.in_ok-push_gap.ensures kept.0 kept.1)

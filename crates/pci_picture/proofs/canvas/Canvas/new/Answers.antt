@@ -11,6 +11,9 @@ invariant_of-result g c = record {
 
 pub returns : goal.returns
 returns g c = record {
-  in_boxes = none_spots (string_bytes c.new.result) c.new.ensures.bytes;
-  in_words = none_titles (string_bytes c.new-2.result) c.new-2.ensures.bytes;
+  drawn = record {
+    in_boxes = none_spots (string_bytes c.new.result) c.new.ensures.bytes;
+    in_words = none_titles (string_bytes c.new-2.result) c.new-2.ensures.bytes;
+  };
+  empty = c.new-2.ensures.bytes;
 }
