@@ -1,5 +1,5 @@
 -- The boxes of a section stand where the heights of its runs have their addresses.
-use Rattle.std.proofs.Common.{◌≡◌, ◌≤◌, ◌<◌, ◌+◌, ◌-◌, ◌^◌, ℕ, List, [], ◌∷◌, ◌++◌, take, length, map, max, get_or, refl, inl, inr, sym, ap, subst, ◌∙◌, arith}
+use Rattle.std.proofs.Common.{◌≡◌, ◌≤◌, ◌<◌, ◌+◌, ◌-◌, ◌^◌, ℕ, List, [], ◌∷◌, ◌++◌, take, length, map, max, min, get_or, refl, inl, inr, sym, ap, subst, ◌∙◌, arith}
 use Rattle.std.specs.List.{All, Any, Contains}
 use Rattle.std.specs.List.Sorted.{IsNonDecreasingBy}
 use Rattle.std.proofs.lemmas.List.{length-map, map-append, map_more, take_all}
@@ -130,11 +130,11 @@ all_stand height_of spots rise framed k d lt =
     (framed k d lt)
 
 of_section : (look : Look) (site : Site) (members : List Member) (placed : List Placed) (runs : List Run) (top bottom end : ℕ) (spots : List BoxSpot) (bytes fits : List ℕ) → AreFramed look placed runs bottom spots bytes
-    → regions_placed placed ≡ regions_of_members members → bottom ≤ end
+    → regions_placed placed ≡ regions_of_members members → bottom ≤ end → end ≡ min (bottom + 30) (2 ^ 64 - 1) → top ≡ site.y + 22
     → (bottom < 2 ^ 64 - 1 → ArePlanned site.section top (look.told (lines_of_regions (regions_of_members members))) (lines_of_regions (regions_of_members members)) runs bottom)
     → looks_placed look placed ≡ looks_up_to look (count_in_place members) (regions_of_members members)
     → StandBesideIn site (count_in_place members) (regions_of_members members) (widths_placed placed) → AreOfSection look site members end spots (bytes ++ fits)
-of_section look site members placed runs top bottom end spots bytes fits framed is above planned looks beside =
+of_section look site members placed runs top bottom end spots bytes fits framed is above end_is top_is planned looks beside =
     let drawn : lines_drawn spots ≡ lines_of_regions (regions_of_members members) = framed.drawn ∙ ap lines_of_regions is in
     record {
       drawn = drawn;
@@ -144,12 +144,17 @@ of_section look site members placed runs top bottom end spots bytes fits framed 
           let plan = planned (omega (arith, above, small)) in
           let rise : Rise (lines_drawn spots) (height_at runs bottom) = subst (λ l. Rise l (height_at runs bottom)) (sym drawn) plan.rise in
           record {
-            height_of = height_at runs bottom;
-            rise = rise;
-            stand = all_stand (height_at runs bottom) spots rise (framed.framed plan.sorted);
-            top = top;
-            by_rule =
-                subst (λ l. HasHeights (base_of_section site.section) top (IsCutOf l (look.told l)) (IsInSomeRegion l) (height_at runs bottom)) (sym drawn) plan.by_rule;
+            boxes = record {
+              height_of = height_at runs bottom;
+              rise = rise;
+              stand = all_stand (height_at runs bottom) spots rise (framed.framed plan.sorted);
+              top = top;
+              bottom = bottom;
+              by_rule =
+                  subst (λ l. HasHeights (base_of_section site.section) top bottom (IsCutOf l (look.told l)) (IsInSomeRegion l) (height_at runs bottom)) (sym drawn) plan.by_rule;
+            };
+            begins = top_is;
+            ends = omega (arith, end_is, small);
           };
       beside = record { widths = widths_placed placed; sides = framed.sides; beside = beside; fits = fits; written = ap (λ l. l ++ fits) framed.written };
     }
@@ -157,14 +162,14 @@ of_section look site members placed runs top bottom end spots bytes fits framed 
 pub adds_section : {A : Type 0} (look : Look) (site : Site) (members : List Member) (placed : List Placed) (runs : List Run) (top bottom end : ℕ) (before between drawn after : Canvas A)
     → AddsToCanvas [] before between → WritesBytes [] before between → AddsSome (AreFramed look placed runs bottom) between drawn → AddsToCanvas [] drawn after
     → regions_placed placed ≡ regions_of_members members
-    → bottom ≤ end → (bottom < 2 ^ 64 - 1 → ArePlanned site.section top (look.told (lines_of_regions (regions_of_members members))) (lines_of_regions (regions_of_members members)) runs bottom)
+    → bottom ≤ end → end ≡ min (bottom + 30) (2 ^ 64 - 1) → top ≡ site.y + 22 → (bottom < 2 ^ 64 - 1 → ArePlanned site.section top (look.told (lines_of_regions (regions_of_members members))) (lines_of_regions (regions_of_members members)) runs bottom)
     → looks_placed look placed ≡ looks_up_to look (count_in_place members) (regions_of_members members)
     → StandBesideIn site (count_in_place members) (regions_of_members members) (widths_placed placed) → AddsSome (AreOfSection look site members end) before after
-adds_section look site members placed runs top bottom end before between drawn after head bare done rest is above planned looks beside =
+adds_section look site members placed runs top bottom end before between drawn after head bare done rest is above end_is top_is planned looks beside =
     then_some (AreOfSection look site members end) before between after head bare (record {
       spots = done.spots;
       bytes = done.bytes ++ rest.bytes;
-      hold = of_section look site members placed runs top bottom end done.spots done.bytes rest.bytes done.hold is above planned looks beside;
+      hold = of_section look site members placed runs top bottom end done.spots done.bytes rest.bytes done.hold is above end_is top_is planned looks beside;
       adds = then_keeps done.spots between drawn after done.adds rest;
       writes = writes_both done.bytes rest.bytes between drawn after done.writes rest.writes;
     })

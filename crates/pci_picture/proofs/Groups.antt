@@ -16,7 +16,8 @@ use Rattle.pci_picture.specs.Maps.{AreMembersOf, headed_line, headed_member, lin
 use Rattle.pci_picture.specs.Members.{AreIndentedBySection, AreSortedBySection, member_number}
 use Rattle.pci_picture.specs.Nested.{HasNestedBoxes}
 use Rattle.pci_picture.specs.Roots.{IsLostByRoot, Listed}
-use Rattle.pci_picture.specs.Spots.{AreBoxesStanding, Section, BoxSpot, all_of, words_of_sections, lines_drawn}
+use Rattle.pci_picture.specs.Heights.{AddressRange}
+use Rattle.pci_picture.specs.Spots.{Section, BoxSpot, StandBelow, StandsFrom, all_of, next_section, no_section, words_of_sections, lines_drawn}
 use Rattle.pci_picture.specs.declared.map.Heading.{Heading}
 use Rattle.pci_picture.specs.declared.map.Heading.TheVariants.{Section as InSection, Lost, Off}
 use Rattle.pci_picture.specs.declared.map.Line.{Line}
@@ -246,8 +247,15 @@ words_of_more : (sections : List Section) (section : Section) → words_of_secti
 words_of_more sections section =
     flat_map-append (λ s. s.words) sections (section ∷ []) ∙ ap (λ l. words_of_sections sections ++ l) (append-nil section.words)
 
-pub no_group : (look : Look) (first : Site) (members : List Member) (y : ℕ) → AreGrouped look first members 0 y [] []
-no_group look first members y = record {
+-- one section more, from the end of the last one on
+stands_more : (told_of : List (List ℕ) → List AddressRange) (y between end : ℕ) (sections : List Section) (section : Section) → StandBelow told_of y sections between
+    → StandsFrom told_of between section.number section.spots end → StandBelow told_of y (sections ++ section ∷ []) end
+stands_more told_of _ _ end _ section (no_section y) last = next_section y end end section [] last (no_section end)
+stands_more told_of _ _ end _ section (next_section y above between first sections is rest) last =
+    next_section y above end first (sections ++ section ∷ []) is (stands_more told_of above between end sections section rest last)
+
+pub no_group : (look : Look) (first : Site) (members : List Member) → AreGrouped look first members 0 first.y [] []
+no_group look first members = record {
   groups = [];
   joined = refl;
   written = refl;
@@ -255,7 +263,7 @@ no_group look first members y = record {
   each = All-nil (IsGroup look);
   rise = λ i j d less inside. absurd (omega (arith, inside));
   below = λ d inside. All-nil (λ section. section.number < (get_or members 0 d).section);
-  stand = λ small. All-nil (λ section. AreBoxesStanding look.told section.number section.spots);
+  stand = λ small. no_section first.y;
   rooms = All-nil (λ group. HasRoomOf first group.site);
 }
 
@@ -264,10 +272,10 @@ pub group_more : (look : Look) (first site : Site) (members part : List Member) 
     → All (λ member. member.section ≡ number) part
     → All (λ section. section.number < number) (sections_of done.groups)
     → ((d : Member) → end < length members → number < (get_or members end d).section)
-    → IsNonDecreasingBy member_number part → HasRoomOf first site → site.section ≡ number
+    → IsNonDecreasingBy member_number part → HasRoomOf first site → site.section ≡ number → site.y ≡ y
     → AreOfSection look site part bottom more words
     → AreGrouped look first members end bottom (spots ++ more) (bytes ++ words)
-group_more look first site members part begin end y bottom number spots more bytes words done joined down alike less next lost_last room is last =
+group_more look first site members part begin end y bottom number spots more bytes words done joined down alike less next lost_last room is at last =
     let section : Section = record { number = number; spots = more; lost = lines_below_headings is_lost (map headed_member part); words = words } in
     let group : Group = record { section = section; members = part; site = site } in
     let before : List Section = sections_of done.groups in
@@ -298,8 +306,9 @@ group_more look first site members part begin end y bottom number spots more byt
           (All-weaker (λ s. s.number < number) (λ s. s.number < (get_or members end d).section) (λ s low. omega (arith, low, above)) before less)
           above);
       stand = λ small.
-          subst (All (λ s. AreBoxesStanding look.told s.number s.spots)) (sym behind)
-          (All-push (λ s. AreBoxesStanding look.told s.number s.spots) before section (done.stand (omega (arith, down, small))) (subst (λ n. AreBoxesStanding look.told n more) is (last.stand small)));
+          subst (λ l. StandBelow look.told first.y l bottom) (sym behind)
+          (stands_more look.told first.y y bottom before section (done.stand (omega (arith, down, small)))
+          (subst (λ n. StandsFrom look.told n number more bottom) at (subst (λ n. StandsFrom look.told site.y n more bottom) is (last.stand small))));
       rooms = All-push (λ g. HasRoomOf first g.site) done.groups group done.rooms room;
     }
 

@@ -11,7 +11,7 @@ use Rattle.pci_picture.specs.Marks.{has_naming, is_named, key_of_region, look_of
 use Rattle.pci_picture.specs.Roots.{listed_functions}
 use Rattle.pci_picture.specs.FaultLines.{faults_read}
 use Rattle.pci_picture.specs.Said.{AreFaultsOf, AreSaidOf, faults_said}
-use Rattle.pci_picture.specs.Spots.{AreBoxesStanding, BoxSpot, IsCutOf, IsInSomeRegion, Section, base_of_section, lines_drawn}
+use Rattle.pci_picture.specs.Spots.{AreBoxesStanding, BoxSpot, IsCutOf, IsInSomeRegion, Section, StandBelow, base_of_section, lines_drawn, next_section, no_section}
 use Rattle.pci_picture.specs.Tellings.{ranges_of_faults}
 use Rattle.pci_picture.specs.Titles.{says_free, said_of_function}
 use Rattle.pci_picture.specs.declared.board.Board.{Board}
@@ -84,9 +84,18 @@ stands_same one other same section is =
       rise = is.rise;
       stand = is.stand;
       top = is.top;
+      bottom = is.bottom;
       by_rule =
-          subst (λ ranges. HasHeights (base_of_section section.number) is.top (IsCutOf lines ranges) (IsInSomeRegion lines) is.height_of) (same lines) is.by_rule;
+          subst (λ ranges. HasHeights (base_of_section section.number) is.top is.bottom (IsCutOf lines ranges) (IsInSomeRegion lines) is.height_of) (same lines) is.by_rule;
     }
+
+pub below_same : (one other : List (List ℕ) → List AddressRange) → ((lines : List (List ℕ)) → one lines ≡ other lines) → (y end : ℕ) (sections : List Section)
+    → StandBelow one y sections end → StandBelow other y sections end
+unfolding stands_same
+below_same one other same _ _ _ (no_section y) = no_section y
+below_same one other same _ _ _ (next_section y between end section sections is rest) =
+    next_section y between end section sections (record { boxes = stands_same one other same section is.boxes; begins = is.begins; ends = is.ends })
+    (below_same one other same between end sections rest)
 
 -- the faults that were read are those of the text
 pub looks_told : {A : Type 0} (board : Board A) (text : List ℕ) → AreFaultsOf text board.faults → AreSaidOf text board.faults → faults_read board.faults ≡ faults_said text

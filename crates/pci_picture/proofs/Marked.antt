@@ -184,10 +184,10 @@ is_covered address regions shared fits any =
 -- ---- so they stand by the rule
 
 -- the heights hang on what the cuts and the covered addresses are
-heights_alike : (base top : ℕ) (IsCut IsOther Covers OtherCovers : ℕ → Type 0) (height_of : ℕ → ℕ)
+heights_alike : (base top bottom : ℕ) (IsCut IsOther Covers OtherCovers : ℕ → Type 0) (height_of : ℕ → ℕ)
     → ((address : ℕ) → IsCut address ↔ IsOther address) → ((address : ℕ) → Covers address ↔ OtherCovers address)
-    → HasHeights base top IsCut Covers height_of → HasHeights base top IsOther OtherCovers height_of
-heights_alike base top IsCut IsOther Covers OtherCovers height_of cuts covers heights =
+    → HasHeights base top bottom IsCut Covers height_of → HasHeights base top bottom IsOther OtherCovers height_of
+heights_alike base top bottom IsCut IsOther Covers OtherCovers height_of cuts covers heights =
     let next : (low high : ℕ) → AreNeighbours IsOther low high → AreNeighbours IsCut low high =
     λ low high next. record {
       low_is_cut = (cuts low).1 next.low_is_cut;
@@ -197,6 +197,7 @@ heights_alike base top IsCut IsOther Covers OtherCovers height_of cuts covers he
     } in
     record {
       begins = λ first cut least. heights.begins first ((cuts first).1 cut) (λ other is. least other ((cuts other).0 is));
+      ends = λ last cut greatest. heights.ends last ((cuts last).1 cut) (λ other is. greatest other ((cuts other).0 is));
       covered = λ low high between on. heights.covered low high (next low high between) ((covers low).1 on);
       gap = λ low high between off. heights.gap low high (next low high between) (λ on. off ((covers low).0 on));
     }
@@ -231,7 +232,7 @@ planned number top regions shared fits cuts runs bottom heights moved =
       rise = λ low high one other less.
           cuts_rise cuts runs bottom (base_of_section number) top low high heights ((same_cuts low).1 (inl one)) ((same_cuts high).1 (inl other)) less;
       by_rule =
-          heights_alike (base_of_section number) top (HasCutAt cuts) (IsCutOf lines ranges) (IsCoveredIn cuts) (IsInSomeRegion lines)
+          heights_alike (base_of_section number) top bottom (HasCutAt cuts) (IsCutOf lines ranges) (IsCoveredIn cuts) (IsInSomeRegion lines)
           (height_at runs bottom) same_cuts same_covered heights.by_rule;
     }
 

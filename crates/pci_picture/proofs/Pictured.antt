@@ -23,6 +23,10 @@ pub drawn_by_roots : {T E : Type 0} (functions : List Listed) (show titles map f
 drawn_by_roots functions show titles map faults (Err e) bytes titled is = tt
 drawn_by_roots functions show titles map faults (Ok text) bytes titled is = record { functions = functions; titled = titled; drawn = is }
 
+pub top_told : {A : Type 0} (faults : List ℕ) (read : Faults A) (top lines : ℕ) → faults_read read ≡ faults_said faults
+    → lines ≡ 72 + 14 * length (lines_within 40 (faults_read read)) → lines ≤ 646 → top ≡ min (lines + 22) (2 ^ 64 - 1) → top ≡ tree_top (faults_said faults)
+top_told faults read top lines same below high at = omega (arith, at, below, high) ∙ ap tree_top same
+
 -- the words above the sections, with the tree of some functions
 pub record HasAbove (functions : List Listed) (is_told : Bool) (faults words : List ℕ) : Type 0 where
   pub tree : List ℕ
@@ -44,7 +48,7 @@ has_above functions is_told faults read top lines new counted legend listed tree
       rows = record {
         badges = read.badges.items;
         shown = shown;
-        below = subst (λ n. IsTreeText functions read.badges.items n third.text) (omega (arith, at, below, high) ∙ ap tree_top same) third.is;
+        below = subst (λ n. IsTreeText functions read.badges.items n third.text) (top_told faults read top lines same below high at) third.is;
       };
       are =
           third.writes

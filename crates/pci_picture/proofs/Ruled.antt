@@ -10,7 +10,7 @@ use Rattle.pci_picture.specs.Heights.{AreNeighbours, HasHeights, IsHeightOf}
 use Rattle.pci_picture.specs.Stacked.{AreHeights, IsCoveredIn, IsRunAdded, IsRunHeight, height_at}
 use Rattle.pci_picture.specs.declared.heights.Cut.{Cut}
 use Rattle.pci_picture.specs.declared.heights.Run.{Run}
-use Rattle.pci_picture.proofs.Stacked.{AreStacked, Begins, IsUpTo, begins_before, begins_behind, cuts_rise, met, passed, runs_rise}
+use Rattle.pci_picture.proofs.Stacked.{AreStacked, Begins, IsUpTo, begins_before, begins_behind, cuts_rise, last_height, met, passed, runs_rise}
 
 -- a run has the addresses between two neighbouring cuts, and the height of the rule
 pub record IsRunOf (base : ℕ) (cuts : List Cut) (run : Run) : Type 0 where
@@ -177,9 +177,9 @@ run_between base cuts from top end bottom low high (run ∷ runs) both each next
 -- the heights of all cuts
 pub by_rule : (base : ℕ) (cuts : List Cut) (from top end bottom : ℕ) (runs : List Run) → AreStacked from top runs end bottom
     → All (IsRunOf base cuts) runs → ((address : ℕ) → HasCutAt cuts address → Begins runs address ⊎ (address ≡ end))
-    → (0 < length cuts → HasCutAt cuts from) → ((address : ℕ) → HasCutAt cuts address → from ≤ address)
-    → HasHeights base top (HasCutAt cuts) (IsCoveredIn cuts) (height_at runs bottom)
-by_rule base cuts from top end bottom runs stacked each placed is_cut least =
+    → (0 < length cuts → HasCutAt cuts from) → (0 < length cuts → HasCutAt cuts end) → ((address : ℕ) → HasCutAt cuts address → from ≤ address)
+    → HasHeights base top bottom (HasCutAt cuts) (IsCoveredIn cuts) (height_at runs bottom)
+by_rule base cuts from top end bottom runs stacked each placed is_cut end_cut least =
     let between : (low high : ℕ) → AreNeighbours (HasCutAt cuts) low high → IsRunBetween base cuts (height_at runs bottom) low high =
     λ low high next. elim (placed low next.low_is_cut) [
       | inl begins ↦ run_between base cuts from top end bottom low high runs stacked each next begins
@@ -195,6 +195,15 @@ by_rule base cuts from top end bottom runs stacked each placed is_cut least =
           let some : 0 < length cuts = let (k, one, lt, is, at) = cut in omega (arith, lt) in
           let same : from ≡ first = omega (arith, least first cut, lowest from (is_cut some)) in
           ap (height_at runs bottom) (sym same) ∙ next_height top from end bottom runs stacked;
+      ends = λ last cut greatest.
+          let some : 0 < length cuts = let (k, one, lt, is, at) = cut in omega (arith, lt) in
+          let past : end ≤ last = greatest end (end_cut some) in
+          elim (placed last cut) [
+            | inl begins ↦
+                let before : last < end = begins_before from top end bottom last runs stacked begins in
+                absurd (omega (arith, before, past))
+            | inr same ↦ ap (height_at runs bottom) same ∙ last_height from top end bottom runs stacked
+          ];
       covered = λ low high next on.
           let found = between low high next in
           elim (cases_Bool found.run.is_covered) [
@@ -227,5 +236,5 @@ are_heights base cuts index from top begin reach bottom runs up ruled is_cut lea
   by_rule =
       by_rule base cuts from top begin bottom runs up.stacked ruled.each
       (λ address (k, one, lt, is, at). subst (λ a. Begins runs a ⊎ (a ≡ begin)) (ap (λ (c : Cut). c.at) is ∙ at) (up.placed k one (omega (arith, all, lt))))
-      is_cut (λ address (k, one, lt, is, at). omega (arith, least k one lt, ap (λ (c : Cut). c.at) is, at));
+      is_cut ruled.is_cut (λ address (k, one, lt, is, at). omega (arith, least k one lt, ap (λ (c : Cut). c.at) is, at));
 }

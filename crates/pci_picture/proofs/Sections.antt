@@ -20,7 +20,9 @@ use Rattle.pci_picture.specs.Members.{AreIndentedBySection, AreSortedBySection, 
 use Rattle.pci_picture.specs.Nested.{HasNestedBoxes}
 use Rattle.pci_picture.specs.Roots.{IsLostByRoot, Listed}
 use Rattle.pci_picture.specs.Sides.{HasSides}
-use Rattle.pci_picture.specs.Spots.{AreBoxesStanding, BoxSpot, spot_at, lines_drawn, all_of, words_of_sections}
+use Rattle.pci_picture.specs.FaultLines.{tree_top}
+use Rattle.pci_picture.specs.Said.{faults_said}
+use Rattle.pci_picture.specs.Spots.{StandBelow, BoxSpot, spot_at, lines_drawn, all_of, words_of_sections}
 use Rattle.pci_picture.specs.declared.canvas.Canvas.{Canvas}
 use Rattle.pci_picture.specs.declared.map.Line.{Line}
 use Rattle.pci_picture.specs.declared.map.Map.{Map}
@@ -30,7 +32,7 @@ use Rattle.pci_picture.specs.declared.plan.Placed.{Placed}
 use Rattle.pci_picture.specs.declared.region.Region.{Region}
 use Rattle.pci_picture.proofs.Boxes.{then_adds, then_some, unchanged, writes_both, writes_none}
 use Rattle.pci_picture.proofs.Pictured.{HasAbove}
-use Rattle.pci_picture.proofs.Looks.{SameLooks, off_words_same, stands_same, titled_same}
+use Rattle.pci_picture.proofs.Looks.{SameLooks, below_same, off_words_same, titled_same}
 use Rattle.pci_picture.proofs.Nested.{nested_of_all}
 use Rattle.pci_picture.proofs.Groups.{no_group, group_more, grouped, sections_of_all}
 
@@ -125,11 +127,11 @@ same_rows look regions every first after is done = subst (λ l. AddsSome (AreOff
 
 -- ---- one section more
 
-pub no_section : {A : Type 0} (look : Look) (first : Site) (members : List Member) (y : ℕ) (canvas : Canvas A) → AddsSome (AreGrouped look first members 0 y) canvas canvas
-no_section look first members y canvas = record {
+pub no_section : {A : Type 0} (look : Look) (first : Site) (members : List Member) (canvas : Canvas A) → AddsSome (AreGrouped look first members 0 first.y) canvas canvas
+no_section look first members canvas = record {
   spots = [];
   bytes = [];
-  hold = no_group look first members y;
+  hold = no_group look first members;
   adds = unchanged canvas;
   writes = writes_none canvas canvas refl;
 }
@@ -152,11 +154,11 @@ between number here there is up apart =
 
 pub section_more : {A : Type 0} (look : Look) (row site : Site) (members part : List Member) (begin end y bottom : ℕ) (member : Member) (first before after : Canvas A) → begin < end
     → end ≤ length members → member ≡ get_or members begin member → part ≡ take (end - begin) (drop begin members) → y ≤ bottom
-    → IsNonDecreasingBy (λ (m : Member). m.section) members → IsNonDecreasingBy member_number members → IsRunOfSection members begin end → HasRoomOf row site → site.section ≡ member.section
+    → IsNonDecreasingBy (λ (m : Member). m.section) members → IsNonDecreasingBy member_number members → IsRunOfSection members begin end → HasRoomOf row site → site.section ≡ member.section → site.y ≡ y
     → AddsSome (AreGrouped look row members begin y) first before
     → AddsSome (AreOfSection look site part bottom) before after
     → AddsSome (AreGrouped look row members end bottom) first after
-section_more look row site members part begin end y bottom member first before after up within at is down sorted lost_last run room named done adds =
+section_more look row site members part begin end y bottom member first before after up within at is down sorted lost_last run room named from done adds =
     let joined : take end members ≡ take begin members ++ part =
     ap (λ n. take n members) (omega arith) ∙ take_both begin (end - begin) members ∙ ap (λ l. take begin members ++ l) (sym is) in
     let number : ℕ = member.section in
@@ -173,7 +175,7 @@ section_more look row site members part begin end y bottom member first before a
           (sorted begin end d (omega arith) inside) (run.next d inside))
           (subst (IsNonDecreasingBy member_number) (sym is)
           (IsNonDecreasingBy-take member_number (end - begin) (drop begin members) (IsNonDecreasingBy-drop member_number begin members lost_last)))
-          room named adds.hold;
+          room named from adds.hold;
       adds = then_adds done.spots adds.spots first before after done.adds adds.adds;
       writes = writes_both done.bytes adds.bytes first before after done.writes adds.writes;
     }
@@ -198,13 +200,13 @@ sorted_members lines before after is moved =
 -- ---- the whole
 
 pub whole_picture : {A T E : Type 0} (look : Look) (row : Site) (functions : List Listed) (map faults : List ℕ) (read : Map A) (new before between last : Canvas A) (is_told : Bool) (y height : ℕ) (result : Result T E) (bytes : T → List ℕ)
-    → is_told ≡ list_any is_told_line (lines_read read) → HasAbove functions is_told faults (string_bytes before.words) → SameLooks look (look_told functions faults) → HasSides row → HasColumnsOf (kept_regions read) row → IsReadOf (slice_split is_feed map) read → y ≤ height
+    → is_told ≡ list_any is_told_line (lines_read read) → HasAbove functions is_told faults (string_bytes before.words) → SameLooks look (look_told functions faults) → HasSides row → HasColumnsOf (kept_regions read) row → row.y ≡ tree_top (faults_said faults) → IsReadOf (slice_split is_feed map) read → y ≤ height
     → HasDrawn [] new → AddsToCanvas [] new before → AddsSome (AreOfSections look row functions read.lines.items y) before between
     → AddsSome (AreOffBoxes look read.off.items) between last
     → ((spots : List BoxSpot) → HasDrawn spots last → IfOk result (λ text. IsDrawnOf is_told spots (string_bytes last.words) height (bytes text)))
     → IfOk result (λ text. IsPictureOf functions map faults (bytes text))
-whole_picture look row functions map faults read new before between last is_told y height (Err e) bytes tells above same sides columns told down none kept some off finished = tt
-whole_picture look row functions map faults read new before between last is_told y height (Ok text) bytes tells above same sides columns told down none kept some off finished =
+whole_picture look row functions map faults read new before between last is_told y height (Err e) bytes tells above same sides columns top told down none kept some off finished = tt
+whole_picture look row functions map faults read new before between last is_told y height (Ok text) bytes tells above same sides columns top told down none kept some off finished =
     let joined : some.spots ++ off.spots ≡ all_of some.hold.sections ++ off.spots = ap (λ l. l ++ off.spots) (sym some.hold.joined) in
     let both : lines_drawn (some.spots ++ off.spots) ≡ lines_drawn some.spots ++ lines_of_regions read.off.items =
     map-append (λ s. s.line) some.spots off.spots ∙ ap (λ l. lines_drawn some.spots ++ l) off.hold.drawn in
@@ -238,10 +240,11 @@ whole_picture look row functions map faults read new before between last is_told
           (subst (λ b. IsDrawnOf b (all_of some.hold.sections ++ off.spots) (string_bytes last.words) height (bytes text)) told_is
           (subst (λ l. IsDrawnOf is_told l (string_bytes last.words) height (bytes text)) joined
           (finished (some.spots ++ off.spots) (off.adds.behind some.spots (some.adds.behind [] (kept.behind [] none))))));
+      end = y;
       stand = λ small.
           let told = (look_told functions faults).told in
-          All-weaker (λ section. AreBoxesStanding look.told section.number section.spots) (λ section. AreBoxesStanding told section.number section.spots)
-          (stands_same look.told told same.told) some.hold.sections (some.hold.stand (omega (arith, down, small)));
+          subst (λ n. StandBelow told n some.hold.sections y) top
+          (below_same look.told told same.told row.y y some.hold.sections (some.hold.stand (omega (arith, down, small))));
       nested =
           All-weaker (HasNestedBoxes look (filter is_below_heading (headed_regions map))) (HasNestedBoxes (look_told functions faults) (headed_regions map))
           (nested_of_all look (look_told functions faults) same (headed_regions map)) some.hold.sections

@@ -63,6 +63,15 @@ runs_on from top end bottom (run ∷ runs) both =
     let less : from < run.end = (both.0).reaches in
     omega arith
 
+-- the end of the last run stands at the bottom
+pub last_height : (from top end bottom : ℕ) (runs : List Run) → AreStacked from top runs end bottom → height_at runs bottom end ≡ bottom
+last_height from top end bottom [] both = refl
+last_height from top end bottom (run ∷ runs) both =
+    let begins : run.begin ≡ from = (both.0).begins in
+    let reaches : from < run.end = (both.0).reaches in
+    let on : run.end ≤ end = runs_on run.end (top + run.height) end bottom runs both.1 in
+    passed run.begin end (height_at runs bottom end) run.y (omega (arith, begins, reaches, on)) ∙ last_height run.end (top + run.height) end bottom runs both.1
+
 -- none begins before the first one, or at the end
 pub begins_behind : (from top end bottom address : ℕ) (runs : List Run) → AreStacked from top runs end bottom → Begins runs address → from ≤ address
 begins_behind from top end bottom address [] both begins = absurd begins

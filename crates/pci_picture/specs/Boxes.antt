@@ -1,5 +1,5 @@
 -- Which boxes a picture has, by their titles and where they stand.
-use Rattle.std.specs.Prelude.{◌≡◌, ℕ, Bool, List, [], ◌∷◌, ◌++◌, codes, if◌then◌else◌, map}
+use Rattle.std.specs.Prelude.{◌≡◌, ℕ, Bool, List, [], ◌∷◌, ◌++◌, ◌-◌, ◌^◌, ◌<◌, codes, if◌then◌else◌, map}
 use Rattle.std.specs.List.{All, flat_map, list_any}
 use Rattle.std.specs.List.Sorted.{IsPermutation}
 use Rattle.pci_picture.specs.Badges.{badges_told}
@@ -12,7 +12,7 @@ use Rattle.pci_picture.specs.Looks.{IsTitled, look_told}
 use Rattle.pci_picture.specs.Nested.{HasNestedBoxes}
 use Rattle.pci_picture.specs.Roots.{AreLostByRoot, Listed}
 use Rattle.pci_picture.specs.Said.{faults_said}
-use Rattle.pci_picture.specs.Spots.{Section, BoxSpot, spot_at, lines_drawn, all_of, words_of_sections, EachStands}
+use Rattle.pci_picture.specs.Spots.{Section, BoxSpot, spot_at, lines_drawn, all_of, words_of_sections, StandBelow}
 use Rattle.pci_picture.specs.Trees.{IsTreeText}
 use Rattle.pci_picture.specs.Whole.{picture_text}
 use Rattle.pci_picture.specs.declared.badge.Badge.{Badge}
@@ -101,7 +101,8 @@ words_drawn functions map faults tree sections off =
 -- A box has the class of its part, with marks for the faults that name it; what is off is grey. Each title
 -- is the line, below it the name of the function by those that are listed and the buses behind a window, and below that the lines of
 -- these faults. Each region out of place is in the section of the root from which its bus is reached, by the same functions, and of
--- its space. Above the sections stand the faults, and beside them the tree of these functions
+-- its space. Above the sections stand the faults, and beside them the tree of these functions.
+-- The sections stand below each other, from where the tree begins
 pub record IsPictureOf (functions : List Listed) (map faults text : List ℕ) : Type 0 where
   pub sections : List Section
   pub off : List BoxSpot
@@ -114,7 +115,8 @@ pub record IsPictureOf (functions : List Listed) (map faults text : List ℕ) : 
   pub tree : List ℕ
   pub rows : IsTreeBelowFaults functions faults tree
   pub drawn : IsDrawnOf (tells_ranges map) (all_of sections ++ off) (words_drawn functions map faults tree sections off) height text
-  pub stand : EachStands (look_told functions faults).told height sections
+  pub end : ℕ
+  pub stand : height < 2 ^ 64 - 1 → StandBelow (look_told functions faults).told (tree_top (faults_said faults)) sections end
   pub nested : All (HasNestedBoxes (look_told functions faults) (headed_regions map)) sections
   pub by_root : All (AreLostByRoot functions) sections
 

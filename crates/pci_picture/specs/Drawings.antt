@@ -11,7 +11,7 @@ use Rattle.pci_picture.specs.Members.{member_number}
 use Rattle.pci_picture.specs.Nested.{HasNestedBoxes}
 use Rattle.pci_picture.specs.Roots.{AreLostByRoot, Listed}
 use Rattle.pci_picture.specs.Sides.{HasSides, StandBesideIn, count_in_place, sides_drawn, sides_of_width, widths_placed}
-use Rattle.pci_picture.specs.Spots.{Section, BoxSpot, first_address, region_last_address, classes_drawn, lines_drawn, all_of, words_of_sections, Rise, AreBoxesStanding, EachStands, IsInSomeRegion, IsCutOf, base_of_section}
+use Rattle.pci_picture.specs.Spots.{Section, BoxSpot, first_address, region_last_address, classes_drawn, lines_drawn, all_of, words_of_sections, Rise, StandsFrom, EachStands, IsInSomeRegion, IsCutOf, base_of_section}
 use Rattle.pci_picture.specs.Stacked.{height_at}
 use Rattle.pci_picture.specs.declared.heights.Run.{Run}
 use Rattle.pci_picture.specs.declared.lanes.Width.{Width}
@@ -36,7 +36,7 @@ pub record IsFramedAt (height_of : ℕ → ℕ) (spot : BoxSpot) : Type 0 where
 pub record ArePlanned (number top : ℕ) (told : List AddressRange) (lines : List (List ℕ)) (runs : List Run) (bottom : ℕ) : Type 0 where
   pub sorted : IsNonDecreasingBy (λ (run : Run). run.begin) runs
   pub rise : Rise lines (height_at runs bottom)
-  pub by_rule : HasHeights (base_of_section number) top (IsCutOf lines told) (IsInSomeRegion lines) (height_at runs bottom)
+  pub by_rule : HasHeights (base_of_section number) top bottom (IsCutOf lines told) (IsInSomeRegion lines) (height_at runs bottom)
 
 -- the boxes of regions with these widths, whose heights are those of their addresses, where the runs stand in their order, and the
 -- text of their words
@@ -63,7 +63,7 @@ pub record AreOfSection (look : Look) (site : Site) (members : List Member) (end
   pub drawn : lines_drawn spots ≡ lines_of_regions (regions_of_members members)
   pub looks : classes_drawn spots ≡ looks_up_to look (count_in_place members) (regions_of_members members)
   pub titled : All (IsTitled look) spots
-  pub stand : end < 2 ^ 64 - 1 → AreBoxesStanding look.told site.section spots
+  pub stand : end < 2 ^ 64 - 1 → StandsFrom look.told site.y site.section spots end
   pub beside : AreDrawnBeside look site members spots bytes
 
 -- the boxes of what is off, and the text of the words in each, one behind the other
@@ -119,7 +119,7 @@ pub record AreGrouped (look : Look) (first : Site) (members : List Member) (coun
   pub rise : AllPairs (λ one other. one.number < other.number) (sections_of groups)
   pub below : (d : Member) → count < length members
       → All (λ section. section.number < (slice_index_or members count d).section) (sections_of groups)
-  pub stand : EachStands look.told end (sections_of groups)
+  pub stand : EachStands look.told first.y end (sections_of groups)
   pub rooms : All (λ group. HasRoomOf first group.site) groups
 
 -- the boxes of lines in sections, of which the last one ends at a height: each region once. What is out of place is in the
@@ -132,5 +132,5 @@ pub record AreOfSections (look : Look) (first : Site) (functions : List Listed) 
   pub each_once : IsPermutation (lines_of_regions (regions_under lines)) (lines_drawn spots)
   pub below_headings : AreSectionsOf (map headed_line lines) sections
   pub by_root : All (AreLostByRoot functions) sections
-  pub stand : EachStands look.told end sections
+  pub stand : EachStands look.told first.y end sections
   pub nested : HasSides first → HasColumnsOf (map headed_line lines) first → All (HasNestedBoxes look (map headed_line lines)) sections

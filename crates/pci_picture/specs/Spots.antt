@@ -1,5 +1,5 @@
 -- Where the boxes of regions stand.
-use Rattle.std.specs.Prelude.{◌≡◌, ◌⊎◌, ◌<◌, ◌≤◌, ◌==◌, ◌+◌, ◌-◌, ◌%◌, ◌^◌, ℕ, List, map, if◌then◌else◌}
+use Rattle.std.specs.Prelude.{◌≡◌, ◌⊎◌, ◌<◌, ◌≤◌, ◌==◌, ◌+◌, ◌-◌, ◌%◌, ◌^◌, ℕ, List, [], ◌∷◌, map, if◌then◌else◌}
 use Rattle.std.specs.List.{All, Any, Contains, flat_map, before_first, after_first}
 use Rattle.pci_picture.specs.Heights.{AddressRange, HasHeights}
 use Rattle.pci_picture.specs.Lines.{is_dash_byte, nth_word, hex_value, words_in_line}
@@ -94,12 +94,25 @@ pub record AreBoxesStanding (told_of : List (List ℕ) → List AddressRange) (n
   pub rise : Rise (lines_drawn spots) height_of
   pub stand : All (BoxStandsAt height_of) spots
   pub top : ℕ
+  pub bottom : ℕ
   pub by_rule :
-      HasHeights (base_of_section number) top (IsCutOf (lines_drawn spots) (told_of (lines_drawn spots))) (IsInSomeRegion (lines_drawn spots)) height_of
+      HasHeights (base_of_section number) top bottom (IsCutOf (lines_drawn spots) (told_of (lines_drawn spots))) (IsInSomeRegion (lines_drawn spots)) height_of
 
--- all sections do so, where the last one ends at a height that was not cut off at 64 bits
-abbrev pub EachStands : (List (List ℕ) → List AddressRange) → ℕ → List Section → Type 0
-EachStands told_of end sections = end < 2 ^ 64 - 1 → All (λ section. AreBoxesStanding told_of section.number section.spots) sections
+-- the boxes of a section do so from a height on: its first cut stands 22 units below this height, and it ends 30 units below its last
+pub record StandsFrom (told_of : List (List ℕ) → List AddressRange) (y number : ℕ) (spots : List BoxSpot) (end : ℕ) : Type 0 where
+  pub boxes : AreBoxesStanding told_of number spots
+  pub begins : boxes.top ≡ y + 22
+  pub ends : end ≡ boxes.bottom + 30
+
+-- sections stand below each other: the first one from a height on, and each next one from the end of the one before it
+pub data StandBelow (told_of : List (List ℕ) → List AddressRange) : ℕ → List Section → ℕ → Type 0 where
+  no_section : (y : ℕ) → StandBelow told_of y [] y
+  next_section : (y between end : ℕ) (section : Section) (sections : List Section) → StandsFrom told_of y section.number section.spots between
+      → StandBelow told_of between sections end → StandBelow told_of y (section ∷ sections) end
+
+-- they do so where the last one ends at a height that was not cut off at 64 bits
+abbrev pub EachStands : (List (List ℕ) → List AddressRange) → ℕ → ℕ → List Section → Type 0
+EachStands told_of y end sections = end < 2 ^ 64 - 1 → StandBelow told_of y sections end
 
 -- of two boxes of a section, the one whose last address is below the first address of the other ends above it
 abbrev pub BoxesAreApart : Type 0

@@ -25,7 +25,7 @@ IsCoveredIn cuts address = Any (λ cut. (cut.at ≤ address) × (address < cut.e
 pub record AreHeights (base top : ℕ) (cuts : List Cut) (runs : List Run) (bottom : ℕ) : Type 0 where
   pub rise : CutsRise cuts runs bottom
   pub sorted : IsNonDecreasingBy (λ (run : Run). run.begin) runs
-  pub by_rule : HasHeights base top (HasCutAt cuts) (IsCoveredIn cuts) (height_at runs bottom)
+  pub by_rule : HasHeights base top bottom (HasCutAt cuts) (IsCoveredIn cuts) (height_at runs bottom)
 
 -- how high the addresses of a run stand
 abbrev pub IsRunHeight : ℕ → Bool → ℕ → ℕ → Type 0

@@ -1,5 +1,5 @@
 //! A section of a map: its axis, its boxes, and the ranges that its faults tell.
-ghost use Rattle.std.specs.Prelude.{◌≡◌, ◌≤◌, ◌++◌, ℕ, List, [], codes, IfOk, OnOk};
+ghost use Rattle.std.specs.Prelude.{◌≡◌, ◌≤◌, ◌+◌, ◌-◌, ◌^◌, ◌++◌, ℕ, List, [], codes, min, IfOk, OnOk};
 ghost use Rattle.pci_picture.specs.BoardLooks.{look_read};
 ghost use Rattle.pci_picture.specs.Canvases.{AddsBoxOf, AddsSome, AddsToCanvas, WritesBytes};
 ghost use Rattle.pci_picture.specs.Drawings.{AreFramed, AreOfSection};
@@ -446,7 +446,8 @@ fn write_heading<A: Allocator + Copy>(
 
 /// Where a section ends, of the height below its last address.
 fn end_of(bottom: u64) -> u64
-    ensures { bottom ≤ result }
+    ensures below { bottom ≤ result }
+    ensures exact { result ≡ min (bottom + 30) (2 ^ 64 - 1) }
 {
     bottom.saturating_add(30)
 }

@@ -12,7 +12,7 @@ pub loop-begin-init : goal.loop-begin-init
 loop-begin-init g c = record {
   within = omega arith;
   down = omega arith;
-  adds = no_section (look_read c.args.board.now) c.args.first.now c.as_slice-members.result.now c.args.first.now.y c.args.canvas.now;
+  adds = no_section (look_read c.args.board.now) c.args.first.now c.as_slice-members.result.now c.args.canvas.now;
 }
 
 pub loop-begin-preserved : goal.loop-begin-preserved
@@ -27,7 +27,7 @@ loop-begin-preserved g c =
           c.args.canvas.now c.loop-begin.canvas c.draw_section.new.canvas
           c.section_end-end.ensures.some c.section_end-end.ensures.within c.index-members-begin.is refl c.in_ok-y.ensures.down
           are.sorted indented.lost_last c.section_end-end.ensures.alike (record { x_is = refl; width_is = refl; column_is = refl })
-          (sym (ap (λ m. m.section) c.index-members-begin.is)) c.loop-begin.invariant.adds c.in_ok-y.ensures.drawn;
+          (sym (ap (λ m. m.section) c.index-members-begin.is)) refl c.loop-begin.invariant.adds c.in_ok-y.ensures.drawn;
     }
 
 pub returns-clause-drawn : goal.returns-clause-drawn
