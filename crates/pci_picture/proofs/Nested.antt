@@ -208,7 +208,7 @@ lost_among_kept (InSection m) = refl
 lost_among_kept Lost = refl
 lost_among_kept Off = refl
 
-columns_of_all : (regions : List Headed) (site : Site) → HasColumnsOf (filter is_below_heading regions) site → HasColumnsOf regions site
+pub columns_of_all : (regions : List Headed) (site : Site) → HasColumnsOf (filter is_below_heading regions) site → HasColumnsOf regions site
 columns_of_all regions site columns =
     let deep : deepest (filter is_below_heading regions) ≡ deepest regions =
     ap (fold (λ depth (region : Headed). max depth region.depth) 1)

@@ -1,10 +1,10 @@
 -- The regions of sections while they are drawn.
-use Rattle.std.proofs.Common.{◌≡◌, ◌≤◌, ◌<◌, ◌+◌, ◌-◌, ◌==◌, ℕ, Bool, true, List, [], ◌∷◌, ◌++◌, map, take, drop, length, get_or, Result, Ok, Err, IfOk, refl, sym, ap, ap₂, subst, ◌∙◌, arith, inl, inr, codes}
+use Rattle.std.proofs.Common.{◌≡◌, ◌≤◌, ◌<◌, ◌+◌, ◌-◌, ◌==◌, ℕ, Bool, true, false, List, [], ◌∷◌, ◌++◌, map, take, drop, length, get_or, Result, Ok, Err, IfOk, refl, sym, ap, ap₂, subst, ◌∙◌, arith, inl, inr, codes}
 use Rattle.std.specs.List.{All, filter, flat_map, list_any, slice_split}
 use Rattle.std.specs.List.Sorted.{IsNonDecreasingBy, IsPermutation}
 use Rattle.std.specs.String.{string_bytes}
 use Rattle.std.proofs.lemmas.Bool.{cases_lt, eqb-true}
-use Rattle.std.proofs.lemmas.List.{append_assoc, append-nil, map-append, map_more, take_more, take-append-drop, take-take, drop-take, take_all, length-take, length-drop, get_or-take, get_or-drop, get_or_default}
+use Rattle.std.proofs.lemmas.List.{append_assoc, append-nil, map-append, map_more, take_more, take-append-drop, take-take, drop-take, take_all, length-map, length-take, length-drop, get_or-take, get_or-drop, get_or_default}
 use Rattle.std.proofs.lemmas.List.Concat.{flat_map-append}
 use Rattle.std.proofs.lemmas.List.Sorted.{IsNonDecreasingBy-drop, IsNonDecreasingBy-take, IsPermutation-trans, IsPermutation-append_left, IsPermutation-map, list_any-IsPermutation}
 use Rattle.std.proofs.lemmas.List.Elements.{All-nil, All-push, All-weaker}
@@ -18,7 +18,9 @@ use Rattle.pci_picture.specs.Looks.{IsTitled, Look, look_told}
 use Rattle.pci_picture.specs.Maps.{AreMembersOf, IsReadOf, lines_of_regions, regions_under, regions_of_members, regions_placed, kept_regions, lines_read}
 use Rattle.pci_picture.specs.Members.{AreIndentedBySection, AreSortedBySection, member_number}
 use Rattle.pci_picture.specs.Nested.{HasNestedBoxes}
+use Rattle.pci_picture.specs.OffRows.{AreRowsOfOff, IsOffRow, no_off_row, off_row, top_of_off}
 use Rattle.pci_picture.specs.Roots.{IsLostByRoot, Listed}
+use Rattle.pci_picture.specs.Trees.{down}
 use Rattle.pci_picture.specs.Sides.{HasSides}
 use Rattle.pci_picture.specs.FaultLines.{tree_top}
 use Rattle.pci_picture.specs.Said.{faults_said}
@@ -33,7 +35,7 @@ use Rattle.pci_picture.specs.declared.region.Region.{Region}
 use Rattle.pci_picture.proofs.Boxes.{then_adds, then_some, unchanged, writes_both, writes_none}
 use Rattle.pci_picture.proofs.Pictured.{HasAbove}
 use Rattle.pci_picture.proofs.Looks.{SameLooks, below_same, off_words_same, titled_same}
-use Rattle.pci_picture.proofs.Nested.{nested_of_all}
+use Rattle.pci_picture.proofs.Nested.{columns_of_all, nested_of_all}
 use Rattle.pci_picture.proofs.Groups.{no_group, group_more, grouped, sections_of_all}
 
 take_both : {X : Type 0} (m n : ℕ) (xs : List X) → take (m + n) xs ≡ take m xs ++ take n (drop m xs)
@@ -78,25 +80,44 @@ both_places regions front back n none some all empty is_front is_back first seco
 
 -- ---- one row of what is off more
 
-pub no_rows : {A : Type 0} (look : Look) (canvas : Canvas A) → AddsSome (AreOffBoxes look []) canvas canvas
-no_rows look canvas = record {
+pub no_rows : {A : Type 0} (look : Look) (x width y : ℕ) (canvas : Canvas A) → AddsSome (AreOffBoxes look x width y [] y) canvas canvas
+no_rows look x width y canvas = record {
   spots = [];
   bytes = [];
-  hold = record { drawn = refl; grey = All-nil (λ spot. spot.class ≡ codes "off"); titled = All-nil (IsTitled look); written = refl };
+  hold = record { rows = no_off_row y; drawn = refl; grey = All-nil (λ spot. spot.class ≡ codes "off"); titled = All-nil (IsTitled look); written = refl };
   adds = unchanged canvas;
   writes = writes_none canvas canvas refl;
 }
 
-pub none_off : {A : Type 0} (look : Look) (regions : List Region) (canvas : Canvas A) → (length regions == 0) ≡ true → AddsSome (AreOffBoxes look regions) canvas canvas
-none_off look [] canvas is = no_rows look canvas
-none_off look (region ∷ regions) canvas is = let l : length (region ∷ regions) ≡ 0 = eqb-true _ 0 is in absurd (omega (arith, l))
+pub none_off : {A : Type 0} (look : Look) (x width y : ℕ) (regions : List Region) (canvas : Canvas A) → (length regions == 0) ≡ true
+    → AddsSome (AreOffBoxes look x width (top_of_off y regions) regions y) canvas canvas
+none_off look x width y [] canvas is = no_rows look x width y canvas
+none_off look x width y (region ∷ regions) canvas is = let l : length (region ∷ regions) ≡ 0 = eqb-true _ 0 is in absurd (omega (arith, l))
 
-pub row_more : {A : Type 0} (look : Look) (regions : List Region) (i : ℕ) (region : Region) (x y width : ℕ) (first before after : Canvas A) → i < length regions
+-- one row more at the end
+off_row_more : (x width y between : ℕ) (spots : List BoxSpot) (spot : BoxSpot) → AreRowsOfOff x width y spots between → IsOffRow x width between spot
+    → AreRowsOfOff x width y (spots ++ spot ∷ []) (down between 14)
+off_row_more x width _ _ _ spot (no_off_row y) is = off_row y (down y 14) spot [] is (no_off_row (down y 14))
+off_row_more x width _ _ _ spot (off_row y between first spots here rest) is =
+    off_row y (down between 14) first (spots ++ spot ∷ []) here (off_row_more x width (down y 14) between spots spot rest is)
+
+-- something is off
+pub top_of_some : {X : Type 0} (y : ℕ) (xs : List X) → (length xs == 0) ≡ false → top_of_off y xs ≡ down y 22
+top_of_some y [] some = cc
+top_of_some y (x ∷ xs) some = refl
+
+top_alike : {X Y : Type 0} (y : ℕ) (xs : List X) (ys : List Y) → length xs ≡ length ys → top_of_off y xs ≡ top_of_off y ys
+top_alike y [] [] same = refl
+top_alike y [] (other ∷ ys) same = absurd (omega (arith, same))
+top_alike y (x ∷ xs) [] same = absurd (omega (arith, same))
+top_alike y (x ∷ xs) (other ∷ ys) same = refl
+
+pub row_more : {A : Type 0} (look : Look) (regions : List Region) (i : ℕ) (region : Region) (x y width top : ℕ) (first before after : Canvas A) → i < length regions
     → region ≡ get_or regions i region
-    → AddsSome (AreOffBoxes look (take i regions)) first before → AddsBoxOf (codes "off") (look.said region.line.now) region.line.now x y width 13 before after
+    → AddsSome (AreOffBoxes look x width top (take i regions) y) first before → AddsBoxOf (codes "off") (look.said region.line.now) region.line.now x y width 13 before after
     → ((title : List ℕ) → WritesBytes (look.off_words (spot_at x y width 13 (codes "off") title region.line.now)) before after)
-    → AddsSome (AreOffBoxes look (take (i + 1) regions)) first after
-row_more look regions i region x y width first before after inside at done one words =
+    → AddsSome (AreOffBoxes look x width top (take (i + 1) regions) (down y 14)) first after
+row_more look regions i region x y width top first before after inside at done one words =
     let more : lines_of_regions (take (i + 1) regions) ≡ lines_of_regions (take i regions) ++ region.line.now ∷ [] =
     map_more (λ r. r.line.now) regions i region inside
     ∙ ap (λ r. lines_of_regions (take i regions) ++ r.line.now ∷ []) (sym at) in
@@ -105,6 +126,7 @@ row_more look regions i region x y width first before after inside at done one w
       spots = done.spots ++ spot ∷ [];
       bytes = done.bytes ++ look.off_words spot;
       hold = record {
+        rows = off_row_more x width top y done.spots spot done.hold.rows (record { left_is = refl; width_is = refl; top_is = refl; height_is = refl });
         drawn = map-append (λ s. s.line) done.spots (spot ∷ []) ∙ ap (λ l. l ++ region.line.now ∷ []) done.hold.drawn ∙ sym more;
         grey = All-push (λ s. s.class ≡ codes "off") done.spots spot done.hold.grey refl;
         titled = All-push (IsTitled look) done.spots spot done.hold.titled one.titled;
@@ -116,14 +138,16 @@ row_more look regions i region x y width first before after inside at done one w
       writes = writes_both done.bytes (look.off_words spot) first before after done.writes (words one.title);
     }
 
-pub all_rows : {A : Type 0} (look : Look) (regions every : List Region) (i : ℕ) (first before after : Canvas A) → length regions ≤ i → regions ≡ every
-    → AddsToCanvas [] first before → string_bytes before.words ≡ string_bytes first.words → AddsSome (AreOffBoxes look (take i regions)) before after
-    → AddsSome (AreOffBoxes look every) first after
-all_rows look regions every i first before after past is head same done =
-    then_some (AreOffBoxes look every) first before after head (writes_none first before same) (subst (λ l. AddsSome (AreOffBoxes look l) before after) (take_all i regions past ∙ is) done)
+pub all_rows : {A : Type 0} (look : Look) (x width top y : ℕ) (regions every : List Region) (i : ℕ) (first before after : Canvas A) → length regions ≤ i → regions ≡ every
+    → AddsToCanvas [] first before → string_bytes before.words ≡ string_bytes first.words → AddsSome (AreOffBoxes look x width top (take i regions) y) before after
+    → AddsSome (AreOffBoxes look x width top every y) first after
+all_rows look x width top y regions every i first before after past is head same done =
+    then_some (AreOffBoxes look x width top every y) first before after head (writes_none first before same)
+    (subst (λ l. AddsSome (AreOffBoxes look x width top l y) before after) (take_all i regions past ∙ is) done)
 
-pub same_rows : {A : Type 0} (look : Look) (regions every : List Region) (first after : Canvas A) → regions ≡ every → AddsSome (AreOffBoxes look regions) first after → AddsSome (AreOffBoxes look every) first after
-same_rows look regions every first after is done = subst (λ l. AddsSome (AreOffBoxes look l) first after) is done
+pub same_rows : {A : Type 0} (look : Look) (x width y end : ℕ) (regions every : List Region) (first after : Canvas A) → regions ≡ every
+    → AddsSome (AreOffBoxes look x width (top_of_off y regions) regions end) first after → AddsSome (AreOffBoxes look x width (top_of_off y every) every end) first after
+same_rows look x width y end regions every first after is done = subst (λ l. AddsSome (AreOffBoxes look x width (top_of_off y l) l end) first after) is done
 
 -- ---- one section more
 
@@ -199,14 +223,14 @@ sorted_members lines before after is moved =
 
 -- ---- the whole
 
-pub whole_picture : {A T E : Type 0} (look : Look) (row : Site) (functions : List Listed) (map faults : List ℕ) (read : Map A) (new before between last : Canvas A) (is_told : Bool) (y height : ℕ) (result : Result T E) (bytes : T → List ℕ)
+pub whole_picture : {A T E : Type 0} (look : Look) (row : Site) (functions : List Listed) (map faults : List ℕ) (read : Map A) (new before between last : Canvas A) (is_told : Bool) (y ends height : ℕ) (result : Result T E) (bytes : T → List ℕ)
     → is_told ≡ list_any is_told_line (lines_read read) → HasAbove functions is_told faults (string_bytes before.words) → SameLooks look (look_told functions faults) → HasSides row → HasColumnsOf (kept_regions read) row → row.y ≡ tree_top (faults_said faults) → IsReadOf (slice_split is_feed map) read → y ≤ height
     → HasDrawn [] new → AddsToCanvas [] new before → AddsSome (AreOfSections look row functions read.lines.items y) before between
-    → AddsSome (AreOffBoxes look read.off.items) between last
+    → AddsSome (AreOffBoxes look (down row.x 132) row.width (top_of_off y read.off.items) read.off.items ends) between last
     → ((spots : List BoxSpot) → HasDrawn spots last → IfOk result (λ text. IsDrawnOf is_told spots (string_bytes last.words) height (bytes text)))
     → IfOk result (λ text. IsPictureOf functions map faults (bytes text))
-whole_picture look row functions map faults read new before between last is_told y height (Err e) bytes tells above same sides columns top told down none kept some off finished = tt
-whole_picture look row functions map faults read new before between last is_told y height (Ok text) bytes tells above same sides columns top told down none kept some off finished =
+whole_picture look row functions map faults read new before between last is_told y ends height (Err e) bytes tells above same sides columns top told lower none kept some off finished = tt
+whole_picture look row functions map faults read new before between last is_told y ends height (Ok text) bytes tells above same sides columns top told lower none kept some off finished =
     let joined : some.spots ++ off.spots ≡ all_of some.hold.sections ++ off.spots = ap (λ l. l ++ off.spots) (sym some.hold.joined) in
     let both : lines_drawn (some.spots ++ off.spots) ≡ lines_drawn some.spots ++ lines_of_regions read.off.items =
     map-append (λ s. s.line) some.spots off.spots ∙ ap (λ l. lines_drawn some.spots ++ l) off.hold.drawn in
@@ -232,6 +256,14 @@ whole_picture look row functions map faults read new before between last is_told
       below_none = off.hold.drawn ∙ told.off;
       grey = off.hold.grey;
       off_titled = titled_same look (look_told functions faults) same off.spots off.hold.titled;
+      row = row;
+      columns = columns_of_all (headed_regions map) row (subst (λ l. HasColumnsOf l row) told.kept columns);
+      bottom = ends;
+      off_rows =
+          subst (λ n. AreRowsOfOff n row.width (top_of_off y off.spots) off.spots ends) (ap (λ n. down n 132) columns.x_is)
+          (subst (λ n. AreRowsOfOff (down row.x 132) row.width n off.spots ends)
+          (top_alike y read.off.items off.spots
+          (sym (sym (length-map off.spots (λ (s : BoxSpot). s.line)) ∙ ap length off.hold.drawn ∙ length-map read.off.items (λ (r : Region). r.line.now)))) off.hold.rows);
       height = height;
       tree = above.tree;
       rows = above.rows;
@@ -244,7 +276,7 @@ whole_picture look row functions map faults read new before between last is_told
       stand = λ small.
           let told = (look_told functions faults).told in
           subst (λ n. StandBelow told n some.hold.sections y) top
-          (below_same look.told told same.told row.y y some.hold.sections (some.hold.stand (omega (arith, down, small))));
+          (below_same look.told told same.told row.y y some.hold.sections (some.hold.stand (omega (arith, lower, small))));
       nested =
           All-weaker (HasNestedBoxes look (filter is_below_heading (headed_regions map))) (HasNestedBoxes (look_told functions faults) (headed_regions map))
           (nested_of_all look (look_told functions faults) same (headed_regions map)) some.hold.sections

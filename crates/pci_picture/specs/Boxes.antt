@@ -3,6 +3,7 @@ use Rattle.std.specs.Prelude.{◌≡◌, ℕ, Bool, List, [], ◌∷◌, ◌++�
 use Rattle.std.specs.List.{All, flat_map, list_any}
 use Rattle.std.specs.List.Sorted.{IsPermutation}
 use Rattle.pci_picture.specs.Badges.{badges_told}
+use Rattle.pci_picture.specs.Columns.{HasColumnsOf}
 use Rattle.pci_picture.specs.Elements.{box_text, words_text, axis_text, tick_text, gap_text}
 use Rattle.pci_picture.specs.FaultLines.{fault_list_text, tree_top}
 use Rattle.pci_picture.specs.Headings.{AreSectionsOf, headed_regions, is_below_no_heading, lines_below_headings}
@@ -10,12 +11,14 @@ use Rattle.pci_picture.specs.Legends.{legend_text, marks_of_legend}
 use Rattle.pci_picture.specs.Lines.{is_feed, is_told_line, line_if_region, region_lines}
 use Rattle.pci_picture.specs.Looks.{IsTitled, look_told}
 use Rattle.pci_picture.specs.Nested.{HasNestedBoxes}
+use Rattle.pci_picture.specs.OffRows.{AreRowsOfOff, top_of_off}
 use Rattle.pci_picture.specs.Roots.{AreLostByRoot, Listed}
 use Rattle.pci_picture.specs.Said.{faults_said}
 use Rattle.pci_picture.specs.Spots.{Section, BoxSpot, spot_at, lines_drawn, all_of, words_of_sections, StandBelow}
 use Rattle.pci_picture.specs.Trees.{IsTreeText}
 use Rattle.pci_picture.specs.Whole.{picture_text}
 use Rattle.pci_picture.specs.declared.badge.Badge.{Badge}
+use Rattle.pci_picture.specs.declared.plan.Site.{Site}
 
 -- a box by its title, its class, its left end and its top, its width and its height
 pub record Titled : Type 0 where
@@ -102,7 +105,7 @@ words_drawn functions map faults tree sections off =
 -- is the line, below it the name of the function by those that are listed and the buses behind a window, and below that the lines of
 -- these faults. Each region out of place is in the section of the root from which its bus is reached, by the same functions, and of
 -- its space. Above the sections stand the faults, and beside them the tree of these functions.
--- The sections stand below each other, from where the tree begins
+-- The sections stand below each other, from where the tree begins, and below them stands the list of what is off
 pub record IsPictureOf (functions : List Listed) (map faults text : List ℕ) : Type 0 where
   pub sections : List Section
   pub off : List BoxSpot
@@ -111,12 +114,16 @@ pub record IsPictureOf (functions : List Listed) (map faults text : List ℕ) : 
   pub below_none : lines_drawn off ≡ lines_below_headings is_below_no_heading (headed_regions map)
   pub grey : All (λ spot. spot.class ≡ codes "off") off
   pub off_titled : All (IsTitled (look_told functions faults)) off
+  pub row : Site
+  pub columns : HasColumnsOf (headed_regions map) row
   pub height : ℕ
   pub tree : List ℕ
   pub rows : IsTreeBelowFaults functions faults tree
   pub drawn : IsDrawnOf (tells_ranges map) (all_of sections ++ off) (words_drawn functions map faults tree sections off) height text
   pub end : ℕ
   pub stand : height < 2 ^ 64 - 1 → StandBelow (look_told functions faults).told (tree_top (faults_said faults)) sections end
+  pub bottom : ℕ
+  pub off_rows : AreRowsOfOff 568 row.width (top_of_off end off) off bottom
   pub nested : All (HasNestedBoxes (look_told functions faults) (headed_regions map)) sections
   pub by_root : All (AreLostByRoot functions) sections
 

@@ -9,6 +9,7 @@ use Rattle.pci_picture.specs.Looks.{IsTitled, Look, looks_placed, looks_up_to, w
 use Rattle.pci_picture.specs.Maps.{headed_line, headed_member, lines_of_regions, regions_of_members, regions_placed, regions_under}
 use Rattle.pci_picture.specs.Members.{member_number}
 use Rattle.pci_picture.specs.Nested.{HasNestedBoxes}
+use Rattle.pci_picture.specs.OffRows.{AreRowsOfOff}
 use Rattle.pci_picture.specs.Roots.{AreLostByRoot, Listed}
 use Rattle.pci_picture.specs.Sides.{HasSides, StandBesideIn, count_in_place, sides_drawn, sides_of_width, widths_placed}
 use Rattle.pci_picture.specs.Spots.{Section, BoxSpot, first_address, region_last_address, classes_drawn, lines_drawn, all_of, words_of_sections, Rise, StandsFrom, EachStands, IsInSomeRegion, IsCutOf, base_of_section}
@@ -66,8 +67,9 @@ pub record AreOfSection (look : Look) (site : Site) (members : List Member) (end
   pub stand : end < 2 ^ 64 - 1 → StandsFrom look.told site.y site.section spots end
   pub beside : AreDrawnBeside look site members spots bytes
 
--- the boxes of what is off, and the text of the words in each, one behind the other
-pub record AreOffBoxes (look : Look) (regions : List Region) (spots : List BoxSpot) (bytes : List ℕ) : Type 0 where
+-- the boxes of what is off, from a height on up to another, and the text of the words in each, one behind the other
+pub record AreOffBoxes (look : Look) (x width top : ℕ) (regions : List Region) (end : ℕ) (spots : List BoxSpot) (bytes : List ℕ) : Type 0 where
+  pub rows : AreRowsOfOff x width top spots end
   pub drawn : lines_drawn spots ≡ lines_of_regions regions
   pub grey : All (λ spot. spot.class ≡ codes "off") spots
   pub titled : All (IsTitled look) spots

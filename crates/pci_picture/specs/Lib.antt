@@ -8,6 +8,7 @@ pub mod Stacked
 pub mod Lines
 pub mod Spots
 pub mod Headings
+pub mod OffRows
 pub mod Boxes
 pub mod Canvases
 pub mod Marks

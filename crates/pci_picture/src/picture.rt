@@ -11,10 +11,12 @@ ghost use Rattle.pci_picture.specs.ByRoots.{IsDrawnByRootsOfShow};
 ghost use Rattle.pci_picture.specs.Lines.{words_in_line};
 ghost use Rattle.pci_picture.specs.Maps.{AreMembersOf, kept_regions};
 ghost use Rattle.pci_picture.specs.Members.{AreIndentedBySection, AreSortedBySection};
+ghost use Rattle.pci_picture.specs.OffRows.{top_of_off};
 ghost use Rattle.pci_picture.specs.RegionWords.{words_if_off};
 ghost use Rattle.pci_picture.specs.Roots.{IsLostByRoot, listed_functions};
 ghost use Rattle.pci_picture.specs.Sides.{HasSides};
 ghost use Rattle.pci_picture.specs.Spots.{spot_at};
+ghost use Rattle.pci_picture.specs.Trees.{down};
 ghost use Rattle.pci_picture.specs.Whole.{IsPictureText};
 
 use super::board::{Board, Texts};
@@ -175,7 +177,8 @@ fn draw_off<A: Allocator + Copy>(
     board: &Board<'_, A>,
     site: &Site,
 ) -> Result<u64, OutOfMemory>
-    ensures drawn { IfOk result (λ _. AddsSome (AreOffBoxes (look_read board.entry.now) board.entry.now.map.off.items) canvas.old canvas.new) }
+    ensures drawn { IfOk result (λ end. AddsSome (AreOffBoxes (look_read board.entry.now) (down site.now.x 132) site.now.width
+        (top_of_off site.now.y board.entry.now.map.off.items) board.entry.now.map.off.items end) canvas.old canvas.new) }
     ensures down { IfOk result (λ end. site.now.y ≤ end) }
 {
     let mut y = site.y;
