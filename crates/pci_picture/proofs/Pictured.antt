@@ -28,19 +28,19 @@ pub top_told : {A : Type 0} (faults : List ℕ) (read : Faults A) (top lines : �
 top_told faults read top lines same below high at = omega (arith, at, below, high) ∙ ap tree_top same
 
 -- the words above the sections, with the tree of some functions
-pub record HasAbove (functions : List Listed) (is_told : Bool) (faults words : List ℕ) : Type 0 where
+pub record HasAbove (functions : List Listed) (is_told : Bool) (faults words : List ℕ) (end : ℕ) : Type 0 where
   pub tree : List ℕ
-  pub rows : IsTreeBelowFaults functions faults tree
+  pub rows : IsTreeBelowFaults functions faults tree end
   pub are : words ≡ words_above is_told faults tree
 
 -- the legend, the list of faults and the tree are written behind each other
-pub has_above : {A B : Type 0} (functions : List Listed) (is_told : Bool) (faults : List ℕ) (read : Faults A) (top lines : ℕ) (new counted legend listed tree : Canvas B)
+pub has_above : {A B : Type 0} (functions : List Listed) (is_told : Bool) (faults : List ℕ) (read : Faults A) (top lines end : ℕ) (new counted legend listed tree : Canvas B)
     → faults_read read ≡ faults_said faults → AreBadgesOf faults read
     → lines ≡ 72 + 14 * length (lines_within 40 (faults_read read)) → lines ≤ 646 → top ≡ min (lines + 22) (2 ^ 64 - 1)
     → string_bytes new.words ≡ [] → string_bytes counted.words ≡ string_bytes new.words → WritesBytes (legend_text 66 16 (marks_of_legend is_told)) counted legend
-    → WritesBytes (fault_list_text (faults_read read)) legend listed → WritesTree functions read.badges.items top listed tree
-    → HasAbove functions is_told faults (string_bytes tree.words)
-has_above functions is_told faults read top lines new counted legend listed tree same shown below high at empty none first second third =
+    → WritesBytes (fault_list_text (faults_read read)) legend listed → WritesTree functions read.badges.items top end listed tree
+    → HasAbove functions is_told faults (string_bytes tree.words) end
+has_above functions is_told faults read top lines end new counted legend listed tree same shown below high at empty none first second third =
     let marks = legend_text 66 16 (marks_of_legend is_told) in
     let list = fault_list_text (faults_read read) in
     record {
@@ -48,7 +48,7 @@ has_above functions is_told faults read top lines new counted legend listed tree
       rows = record {
         badges = read.badges.items;
         shown = shown;
-        below = subst (λ n. IsTreeText functions read.badges.items n third.text) (top_told faults read top lines same below high at) third.is;
+        below = subst (λ n. IsTreeText functions read.badges.items n third.text end) (top_told faults read top lines same below high at) third.is;
       };
       are =
           third.writes

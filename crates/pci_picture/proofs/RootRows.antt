@@ -104,12 +104,11 @@ module _ (functions : List Listed) (badges : List Badge) (top bus : ℕ) (marks 
   }
 
 pub tree_ends : (functions : List Listed) (badges : List Badge) (top bus : ℕ) (marks : List Bool) (y : ℕ) (old now : List ℕ) → 256 ≤ bus
-    → (tree : IsTreeUpTo functions badges top bus marks y old now) → IsTreeText functions badges top tree.text
+    → (tree : IsTreeUpTo functions badges top bus marks y old now) → IsTreeText functions badges top tree.text y
 tree_ends functions badges top bus marks y old now past tree =
     let none : 0 ≡ 256 - bus = omega (arith, past) in
     record {
       roots = tree.roots;
-      end = y;
       are = subst (AreRootRows functions [] (range_with_len 0 256)) (append-nil tree.roots)
           (tree.fills [] (subst (λ n. AreRootRows functions tree.drawn (range_with_len bus n) []) none (no_bus tree.drawn)));
       written = tree.written;

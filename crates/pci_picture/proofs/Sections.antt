@@ -1,5 +1,5 @@
 -- The regions of sections while they are drawn.
-use Rattle.std.proofs.Common.{◌≡◌, ◌≤◌, ◌<◌, ◌+◌, ◌-◌, ◌==◌, ℕ, Bool, true, false, List, [], ◌∷◌, ◌++◌, map, take, drop, length, get_or, Result, Ok, Err, IfOk, refl, sym, ap, ap₂, subst, ◌∙◌, arith, inl, inr, codes}
+use Rattle.std.proofs.Common.{◌≡◌, ◌≤◌, ◌<◌, ◌+◌, ◌-◌, ◌==◌, ℕ, Bool, true, false, max, List, [], ◌∷◌, ◌++◌, map, take, drop, length, get_or, Result, Ok, Err, IfOk, refl, sym, ap, ap₂, subst, ◌∙◌, arith, inl, inr, codes}
 use Rattle.std.specs.List.{All, filter, flat_map, list_any, slice_split}
 use Rattle.std.specs.List.Sorted.{IsNonDecreasingBy, IsPermutation}
 use Rattle.std.specs.String.{string_bytes}
@@ -223,14 +223,14 @@ sorted_members lines before after is moved =
 
 -- ---- the whole
 
-pub whole_picture : {A T E : Type 0} (look : Look) (row : Site) (functions : List Listed) (map faults : List ℕ) (read : Map A) (new before between last : Canvas A) (is_told : Bool) (y ends height : ℕ) (result : Result T E) (bytes : T → List ℕ)
-    → is_told ≡ list_any is_told_line (lines_read read) → HasAbove functions is_told faults (string_bytes before.words) → SameLooks look (look_told functions faults) → HasSides row → HasColumnsOf (kept_regions read) row → row.y ≡ tree_top (faults_said faults) → IsReadOf (slice_split is_feed map) read → y ≤ height
+pub whole_picture : {A T E : Type 0} (look : Look) (row : Site) (functions : List Listed) (map faults : List ℕ) (read : Map A) (new before between last : Canvas A) (is_told : Bool) (y ends tree_end height : ℕ) (result : Result T E) (bytes : T → List ℕ)
+    → is_told ≡ list_any is_told_line (lines_read read) → HasAbove functions is_told faults (string_bytes before.words) tree_end → SameLooks look (look_told functions faults) → HasSides row → HasColumnsOf (kept_regions read) row → row.y ≡ tree_top (faults_said faults) → IsReadOf (slice_split is_feed map) read → y ≤ height → height ≡ down (max ends tree_end) 16
     → HasDrawn [] new → AddsToCanvas [] new before → AddsSome (AreOfSections look row functions read.lines.items y) before between
     → AddsSome (AreOffBoxes look (down row.x 132) row.width (top_of_off y read.off.items) read.off.items ends) between last
     → ((spots : List BoxSpot) → HasDrawn spots last → IfOk result (λ text. IsDrawnOf is_told spots (string_bytes last.words) height (bytes text)))
     → IfOk result (λ text. IsPictureOf functions map faults (bytes text))
-whole_picture look row functions map faults read new before between last is_told y ends height (Err e) bytes tells above same sides columns top told lower none kept some off finished = tt
-whole_picture look row functions map faults read new before between last is_told y ends height (Ok text) bytes tells above same sides columns top told lower none kept some off finished =
+whole_picture look row functions map faults read new before between last is_told y ends tree_end height (Err e) bytes tells above same sides columns top told lower height_is none kept some off finished = tt
+whole_picture look row functions map faults read new before between last is_told y ends tree_end height (Ok text) bytes tells above same sides columns top told lower height_is none kept some off finished =
     let joined : some.spots ++ off.spots ≡ all_of some.hold.sections ++ off.spots = ap (λ l. l ++ off.spots) (sym some.hold.joined) in
     let both : lines_drawn (some.spots ++ off.spots) ≡ lines_drawn some.spots ++ lines_of_regions read.off.items =
     map-append (λ s. s.line) some.spots off.spots ∙ ap (λ l. lines_drawn some.spots ++ l) off.hold.drawn in
@@ -265,6 +265,8 @@ whole_picture look row functions map faults read new before between last is_told
           (top_alike y read.off.items off.spots
           (sym (sym (length-map off.spots (λ (s : BoxSpot). s.line)) ∙ ap length off.hold.drawn ∙ length-map read.off.items (λ (r : Region). r.line.now)))) off.hold.rows);
       height = height;
+      ends = height_is;
+      tree_end = tree_end;
       tree = above.tree;
       rows = above.rows;
       drawn =

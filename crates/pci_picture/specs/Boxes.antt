@@ -1,5 +1,5 @@
 -- Which boxes a picture has, by their titles and where they stand.
-use Rattle.std.specs.Prelude.{◌≡◌, ℕ, Bool, List, [], ◌∷◌, ◌++◌, ◌-◌, ◌^◌, ◌<◌, codes, if◌then◌else◌, map}
+use Rattle.std.specs.Prelude.{◌≡◌, ℕ, Bool, List, [], ◌∷◌, ◌++◌, ◌-◌, ◌^◌, ◌<◌, codes, max, if◌then◌else◌, map}
 use Rattle.std.specs.List.{All, flat_map, list_any}
 use Rattle.std.specs.List.Sorted.{IsPermutation}
 use Rattle.pci_picture.specs.Badges.{badges_told}
@@ -15,7 +15,7 @@ use Rattle.pci_picture.specs.OffRows.{AreRowsOfOff, top_of_off}
 use Rattle.pci_picture.specs.Roots.{AreLostByRoot, Listed}
 use Rattle.pci_picture.specs.Said.{faults_said}
 use Rattle.pci_picture.specs.Spots.{Section, BoxSpot, spot_at, lines_drawn, all_of, words_of_sections, StandBelow}
-use Rattle.pci_picture.specs.Trees.{IsTreeText}
+use Rattle.pci_picture.specs.Trees.{IsTreeText, down}
 use Rattle.pci_picture.specs.Whole.{picture_text}
 use Rattle.pci_picture.specs.declared.badge.Badge.{Badge}
 use Rattle.pci_picture.specs.declared.plan.Site.{Site}
@@ -85,11 +85,11 @@ tells_ranges map = list_any is_told_line (region_lines map)
 abbrev pub words_above : Bool → List ℕ → List ℕ → List ℕ
 words_above is_told faults tree = legend_text 66 16 (marks_of_legend is_told) ++ (fault_list_text (faults_said faults) ++ tree)
 
--- the tree of some functions, with the faults of a text
-pub record IsTreeBelowFaults (functions : List Listed) (faults tree : List ℕ) : Type 0 where
+-- the tree of some functions, with the faults of a text, and where it ends
+pub record IsTreeBelowFaults (functions : List Listed) (faults tree : List ℕ) (end : ℕ) : Type 0 where
   pub badges : List Badge
   pub shown : IsPermutation (badges_told faults) badges
-  pub below : IsTreeText functions badges (tree_top (faults_said faults)) tree
+  pub below : IsTreeText functions badges (tree_top (faults_said faults)) tree end
 
 -- the words of a picture with the tree of its functions: those above the sections, those of the sections, and those of what is off
 abbrev pub words_drawn : List Listed → List ℕ → List ℕ → List ℕ → List Section → List BoxSpot → List ℕ
@@ -105,7 +105,8 @@ words_drawn functions map faults tree sections off =
 -- is the line, below it the name of the function by those that are listed and the buses behind a window, and below that the lines of
 -- these faults. Each region out of place is in the section of the root from which its bus is reached, by the same functions, and of
 -- its space. Above the sections stand the faults, and beside them the tree of these functions.
--- The sections stand below each other, from where the tree begins, and below them stands the list of what is off
+-- The sections stand below each other, from where the tree begins, and below them stands the list of what is off. The picture is
+-- 16 units higher than that list and the tree
 pub record IsPictureOf (functions : List Listed) (map faults text : List ℕ) : Type 0 where
   pub sections : List Section
   pub off : List BoxSpot
@@ -118,12 +119,14 @@ pub record IsPictureOf (functions : List Listed) (map faults text : List ℕ) : 
   pub columns : HasColumnsOf (headed_regions map) row
   pub height : ℕ
   pub tree : List ℕ
-  pub rows : IsTreeBelowFaults functions faults tree
+  pub tree_end : ℕ
+  pub rows : IsTreeBelowFaults functions faults tree tree_end
   pub drawn : IsDrawnOf (tells_ranges map) (all_of sections ++ off) (words_drawn functions map faults tree sections off) height text
   pub end : ℕ
   pub stand : height < 2 ^ 64 - 1 → StandBelow (look_told functions faults).told (tree_top (faults_said faults)) sections end
   pub bottom : ℕ
   pub off_rows : AreRowsOfOff 568 row.width (top_of_off end off) off bottom
+  pub ends : height ≡ down (max bottom tree_end) 16
   pub nested : All (HasNestedBoxes (look_told functions faults) (headed_regions map)) sections
   pub by_root : All (AreLostByRoot functions) sections
 

@@ -111,9 +111,8 @@ pub data AreRootsWritten (badges : List Badge) : ℕ → List (List TreePlace) �
       → AreRootsWritten badges (down below 8) roots more end
       → AreRootsWritten badges y (rows ∷ roots) (text ++ more) end
 
--- the text of the tree of some functions, from a height on
-pub record IsTreeText (functions : List Listed) (badges : List Badge) (top : ℕ) (text : List ℕ) : Type 0 where
+-- the text of the tree of some functions, from a height on up to another
+pub record IsTreeText (functions : List Listed) (badges : List Badge) (top : ℕ) (text : List ℕ) (end : ℕ) : Type 0 where
   pub roots : List (List TreePlace)
-  pub end : ℕ
   pub are : AreRootRows functions [] (range_with_len 0 256) roots
   pub written : AreRootsWritten badges top roots text end

@@ -73,8 +73,8 @@ pub record WritesRoot {A : Type 0} (functions : List Listed) (badges : List Badg
   pub bus : WritesBus functions badges drawn root (down top 16) below marks before after
   pub ends : end ≡ down below 8
 
--- the tree is written, from a height on
-pub record WritesTree {A : Type 0} (functions : List Listed) (badges : List Badge) (top : ℕ) (before after : Canvas A) : Type 0 where
+-- the tree is written, from a height on up to another
+pub record WritesTree {A : Type 0} (functions : List Listed) (badges : List Badge) (top end : ℕ) (before after : Canvas A) : Type 0 where
   pub text : List ℕ
-  pub is : IsTreeText functions badges top text
+  pub is : IsTreeText functions badges top text end
   pub writes : WritesBytes text before after

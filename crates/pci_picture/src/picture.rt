@@ -1,5 +1,5 @@
 //! The picture of a board.
-ghost use Rattle.std.specs.Prelude.{◌≡◌, ◌<◌, ◌≤◌, ◌+◌, ◌-◌, ◌^◌, List, ℕ, [], codes, min, length, IfOk, OnOk};
+ghost use Rattle.std.specs.Prelude.{◌≡◌, ◌<◌, ◌≤◌, ◌+◌, ◌-◌, ◌^◌, List, ℕ, [], codes, max, min, length, IfOk, OnOk};
 ghost use Rattle.std.specs.List.{All};
 ghost use Rattle.std.specs.String.{string_bytes};
 ghost use Rattle.pci_picture.specs.BoardLooks.{look_read};
@@ -255,7 +255,8 @@ fn draw_off_row<A: Allocator + Copy>(
 
 /// The height of a picture, of where its sections and lists end and where its tree ends.
 fn bottom_of(end: u64, tree_end: u64) -> u64
-    ensures { end ≤ result }
+    ensures least { end ≤ result }
+    ensures exact { result ≡ down (max end tree_end) 16 }
 {
     end.max(tree_end).saturating_add(MARGIN)
 }

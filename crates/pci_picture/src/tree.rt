@@ -300,8 +300,8 @@ pub fn draw_tree<A: Allocator + Copy>(
     top: u64,
 ) -> Result<u64, OutOfMemory>
     ensures adds { IfOk result (λ _. AddsToCanvas [] canvas.old canvas.new) }
-    ensures tree { IfOk result (λ _. WritesTree (listed_functions board.entry.now.functions.items)
-        board.entry.now.faults.badges.items top canvas.old canvas.new) }
+    ensures tree { IfOk result (λ end. WritesTree (listed_functions board.entry.now.functions.items)
+        board.entry.now.faults.badges.items top end canvas.old canvas.new) }
 {
     let above = buses_above(board.functions.as_slice());
     let mut drawn = [false; 256];
