@@ -8,7 +8,7 @@ use Rattle.pci_picture.specs.Elements.{box_text, words_text, axis_text, tick_tex
 use Rattle.pci_picture.specs.Boxes.{HasTitles, no_element, a_box, a_line, at_axis, a_tick, a_gap, Titled, titled, titled_line, titled_spot, HasSpots, AreDrawn, IsDrawnOf}
 use Rattle.pci_picture.specs.Spots.{BoxSpot, spot_at}
 use Rattle.pci_picture.specs.Whole.{picture_text}
-use Rattle.pci_picture.specs.Canvases.{HasDrawn, AddsToCanvas, AddsBoxOf, AddsSome, WritesBytes}
+use Rattle.pci_picture.specs.Canvases.{HasDrawn, AddsToCanvas, AddsBoxOf, AddsSome, DrawsBytes, WritesBytes}
 use Rattle.pci_picture.specs.declared.canvas.Canvas.{Canvas}
 
 -- boxes behind boxes
@@ -84,6 +84,8 @@ added_box x y width height class anchor title before after empty element none ma
             (spots_append spots (titled_spot (titled x y width height class title)) (string_bytes before.boxes) _ drawn.in_boxes (box_spots x y width height class anchor title));
         in_words = subst (HasTitles []) (sym words) drawn.in_words;
       };
+  boxed = element;
+  draws = boxes;
   bytes = [];
   writes = words ∙ sym (append-nil (string_bytes before.words));
 }
@@ -101,6 +103,8 @@ added_bare made bare before after empty element none is boxes words = record {
             (spots_append spots [] (string_bytes before.boxes) made drawn.in_boxes (bare_spots made bare));
         in_words = subst (HasTitles []) (sym words) drawn.in_words;
       };
+  boxed = element;
+  draws = boxes;
   bytes = [];
   writes = words ∙ sym (append-nil (string_bytes before.words));
 }
@@ -118,14 +122,23 @@ added_words made bare before after empty element none is boxes words = record {
         in_words = subst (HasTitles []) (sym (words ∙ ap (λ l. string_bytes before.words ++ l) e))
             (titles_append [] [] (string_bytes before.words) made drawn.in_words bare);
       };
+  boxed = [];
+  draws = boxes ∙ sym (append-nil (string_bytes before.boxes));
   bytes = element;
   writes = words;
 }
+
+-- the element itself, behind the boxes
+pub draws_made : {A : Type 0} (made : List ℕ) (before after : Canvas A) (empty element : List ℕ) → empty ≡ [] → element ≡ empty ++ made
+    → string_bytes after.boxes ≡ string_bytes before.boxes ++ element → DrawsBytes made before after
+draws_made made before after empty element none is boxes = boxes ∙ ap (λ l. string_bytes before.boxes ++ l) (is ∙ ap (λ l. l ++ made) none)
 
 -- nothing is added
 pub unchanged : {A : Type 0} (canvas : Canvas A) → AddsToCanvas [] canvas canvas
 unchanged canvas = record {
   behind = λ spots drawn. subst (λ l. HasDrawn l canvas) (sym (append-nil spots)) drawn;
+  boxed = [];
+  draws = sym (append-nil (string_bytes canvas.boxes));
   bytes = [];
   writes = sym (append-nil (string_bytes canvas.words));
 }
@@ -136,6 +149,8 @@ pub then_adds : {A : Type 0} (first second : List BoxSpot) (before between after
 then_adds first second before between after one other = record {
   behind = λ spots drawn.
       subst (λ l. HasDrawn l after) (append_assoc spots first second) (other.behind (spots ++ first) (one.behind spots drawn));
+  boxed = one.boxed ++ other.boxed;
+  draws = other.draws ∙ ap (λ l. l ++ other.boxed) one.draws ∙ append_assoc (string_bytes before.boxes) one.boxed other.boxed;
   bytes = one.bytes ++ other.bytes;
   writes = other.writes ∙ ap (λ l. l ++ other.bytes) one.writes ∙ append_assoc (string_bytes before.words) one.bytes other.bytes;
 }
@@ -159,6 +174,12 @@ pub writes_both : {A : Type 0} (one other : List ℕ) (before between after : Ca
     → WritesBytes one before between → WritesBytes other between after → WritesBytes (one ++ other) before after
 writes_both one other before between after first second =
     second ∙ ap (λ l. l ++ other) first ∙ append_assoc (string_bytes before.words) one other
+
+-- boxes behind boxes
+pub draws_both : {A : Type 0} (one other : List ℕ) (before between after : Canvas A)
+    → DrawsBytes one before between → DrawsBytes other between after → DrawsBytes (one ++ other) before after
+draws_both one other before between after first second =
+    second ∙ ap (λ l. l ++ other) first ∙ append_assoc (string_bytes before.boxes) one other
 
 -- at the end of a function, whose last step may fail
 pub none_ok : {A T E : Type 0} (result : Result T E) (before between after : Canvas A) → string_bytes between.words ≡ string_bytes before.words

@@ -13,9 +13,15 @@ HasDrawn spots canvas = AreDrawn spots (string_bytes canvas.boxes) (string_bytes
 abbrev pub WritesBytes : {A : Type 0} → List ℕ → Canvas A → Canvas A → Type 0
 WritesBytes bytes before after = string_bytes after.words ≡ string_bytes before.words ++ bytes
 
--- these are added behind those that a canvas has, and words behind its words
+-- bytes stand behind the boxes that a canvas has
+abbrev pub DrawsBytes : {A : Type 0} → List ℕ → Canvas A → Canvas A → Type 0
+DrawsBytes bytes before after = string_bytes after.boxes ≡ string_bytes before.boxes ++ bytes
+
+-- these are added behind those that a canvas has, boxes behind its boxes, and words behind its words
 pub record AddsToCanvas {A : Type 0} (more : List BoxSpot) (before after : Canvas A) : Type 0 where
   pub behind : (spots : List BoxSpot) → HasDrawn spots before → HasDrawn (spots ++ more) after
+  pub boxed : List ℕ
+  pub draws : DrawsBytes boxed before after
   pub bytes : List ℕ
   pub writes : WritesBytes bytes before after
 

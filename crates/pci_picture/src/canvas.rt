@@ -40,7 +40,8 @@ pub struct Canvas<A: Allocator> {
 }
 
 impl<A: Allocator + Copy> Canvas<A> {
-    ghost use Rattle.pci_picture.specs.Canvases.{HasDrawn, AddsToCanvas, WritesBytes};
+    ghost use Rattle.pci_picture.specs.Canvases.{HasDrawn, AddsToCanvas, DrawsBytes, WritesBytes};
+    ghost use Rattle.pci_picture.specs.Elements.{box_text, words_text};
     ghost use Rattle.pci_picture.specs.Labels.{cut_words, label_text};
 
     /// A canvas with no element.
@@ -83,6 +84,8 @@ impl<A: Allocator + Copy> Canvas<A> {
     pub fn add_box(&mut self, shape: Shape<'_>, title: &[u8]) -> Result<(), OutOfMemory>
         ensures adds { OnOk result (AddsToCanvas (titled_spot (titled shape.entry.at.x shape.entry.at.y shape.entry.at.width
             shape.entry.at.height shape.entry.class.now title.now)) self.old self.new) }
+        ensures draws { OnOk result (DrawsBytes (box_text shape.entry.at.x shape.entry.at.y shape.entry.at.width shape.entry.at.height
+            shape.entry.class.now shape.entry.anchor.now title.now) self.old self.new) }
         ensures writes { OnOk result (string_bytes self.new.words ≡ string_bytes self.old.words) }
     {
         self.element.clear();
@@ -99,6 +102,7 @@ impl<A: Allocator + Copy> Canvas<A> {
     /// Writes a line of words among the boxes.
     pub fn add_heading(&mut self, label: Label<'_>, words: &[u8]) -> Result<(), OutOfMemory>
         ensures adds { OnOk result (AddsToCanvas [] self.old self.new) }
+        ensures draws { OnOk result (DrawsBytes (words_text label.entry.x label.entry.y label.entry.class.now words.now) self.old self.new) }
         ensures writes { OnOk result (string_bytes self.new.words ≡ string_bytes self.old.words) }
     {
         self.element.clear();
@@ -145,6 +149,7 @@ impl<A: Allocator + Copy> Canvas<A> {
     /// Writes a line of words, where there are any.
     pub fn add_words(&mut self, label: Label<'_>, words: &[u8]) -> Result<(), OutOfMemory>
         ensures adds { OnOk result (AddsToCanvas [] self.old self.new) }
+        ensures draws { OnOk result (string_bytes self.new.boxes ≡ string_bytes self.old.boxes) }
         ensures writes { OnOk result (WritesBytes (label_text label.entry.x label.entry.y label.entry.class.now words.entry.now)
             self.old self.new) }
     {
