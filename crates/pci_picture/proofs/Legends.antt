@@ -1,9 +1,10 @@
--- The words of the legend, while it is drawn.
+-- The words and the boxes of the legend, while it is drawn.
 use Rattle.std.proofs.Common.{◌≡◌, ◌≤◌, ◌<◌, ◌+◌, ◌-◌, ◌*◌, ◌^◌, ℕ, Bool, true, false, List, [], ◌++◌, length, drop, get_or, sym, ap, ◌∙◌, arith}
 use Rattle.std.specs.Prelude.{min}
 use Rattle.std.proofs.lemmas.List.{append_assoc, drop_more}
+use Rattle.pci_picture.specs.Elements.{box_text}
 use Rattle.pci_picture.specs.Labels.{label_text}
-use Rattle.pci_picture.specs.Legends.{legend_text, marks_of_legend, words_of_mark}
+use Rattle.pci_picture.specs.Legends.{class_of_mark, legend_boxes, legend_text, marks_of_legend, title_of_mark, words_of_mark}
 use Rattle.pci_picture.specs.declared.legend.Mark.{Mark}
 use Rattle.pci_picture.specs.declared.legend.Mark.TheVariants.{Window, Bar, Prefetchable, Rom, Free, Clash, Lost, Off, Shared, Fits, Told, Held}
 
@@ -46,4 +47,18 @@ mark_written marks base left i mark before now after all inside at is writes =
     ∙ ap (λ l. now ++ l)
     (ap (λ m. label_text (left + 21) base [] (words_of_mark m) ++ legend_text base (left + 34 + 7 * length (words_of_mark m)) (drop (i + 1) marks)) at
     ∙ ap (legend_text base left) (sym (drop_more marks i mark inside)))
+    ∙ is
+
+-- the same of its box
+pub mark_boxed : (marks : List Mark) (base left i : ℕ) (mark : Mark) (before now after all : List ℕ) → i < length marks → mark ≡ get_or marks i mark
+    → now ++ legend_boxes base left (drop i marks) ≡ before ++ all
+    → after ≡ now ++ box_text left (base - 9) 16 11 (class_of_mark mark) [] (title_of_mark mark)
+    → after ++ legend_boxes base (left + 34 + 7 * length (words_of_mark mark)) (drop (i + 1) marks) ≡ before ++ all
+mark_boxed marks base left i mark before now after all inside at is draws =
+    let box = box_text left (base - 9) 16 11 (class_of_mark mark) [] (title_of_mark mark) in
+    let rest = legend_boxes base (left + 34 + 7 * length (words_of_mark mark)) (drop (i + 1) marks) in
+    ap (λ l. l ++ rest) draws ∙ append_assoc now box rest
+    ∙ ap (λ l. now ++ l)
+    (ap (λ m. box_text left (base - 9) 16 11 (class_of_mark m) [] (title_of_mark m) ++ legend_boxes base (left + 34 + 7 * length (words_of_mark m)) (drop (i + 1) marks)) at
+    ∙ ap (legend_boxes base left) (sym (drop_more marks i mark inside)))
     ∙ is

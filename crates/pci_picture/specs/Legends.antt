@@ -1,5 +1,6 @@
--- The words of the legend.
-use Rattle.std.specs.Prelude.{ℕ, Bool, ◌+◌, ◌*◌, List, [], ◌∷◌, ◌++◌, codes, length, if◌then◌else◌}
+-- The words of the legend, and its boxes.
+use Rattle.std.specs.Prelude.{ℕ, Bool, ◌+◌, ◌-◌, ◌*◌, List, [], ◌∷◌, ◌++◌, codes, length, if◌then◌else◌}
+use Rattle.pci_picture.specs.Elements.{box_text}
 use Rattle.pci_picture.specs.Labels.{label_text}
 use Rattle.pci_picture.specs.declared.legend.Mark.{Mark}
 use Rattle.pci_picture.specs.declared.legend.Mark.TheVariants.{Window, Bar, Prefetchable, Rom, Free, Clash, Lost, Off, Shared, Fits, Told, Held}
@@ -19,6 +20,36 @@ words_of_mark Fits = codes "where it would fit"
 words_of_mark Told = codes "told"
 words_of_mark Held = codes "held"
 
+-- the classes of its box
+abbrev pub class_of_mark : Mark → List ℕ
+class_of_mark Window = codes "window"
+class_of_mark Bar = codes "bar"
+class_of_mark Prefetchable = codes "pref"
+class_of_mark Rom = codes "rom"
+class_of_mark Free = codes "free"
+class_of_mark Clash = codes "bar clash"
+class_of_mark Lost = codes "bar lost"
+class_of_mark Off = codes "off"
+class_of_mark Shared = codes "shared"
+class_of_mark Fits = codes "fits"
+class_of_mark Told = codes "told"
+class_of_mark Held = codes "held"
+
+-- the title of its box, which for two of them is shorter than the words
+abbrev pub title_of_mark : Mark → List ℕ
+title_of_mark Window = codes "window"
+title_of_mark Bar = codes "BAR"
+title_of_mark Prefetchable = codes "prefetchable"
+title_of_mark Rom = codes "ROM"
+title_of_mark Free = codes "free"
+title_of_mark Clash = codes "clash"
+title_of_mark Lost = codes "not reached"
+title_of_mark Off = codes "off"
+title_of_mark Shared = codes "shared"
+title_of_mark Fits = codes "fits"
+title_of_mark Told = codes "told"
+title_of_mark Held = codes "held"
+
 -- the marks of a legend: those of told ranges stand there where there are any
 unfoldable pub marks_of_legend : Bool → List Mark
 marks_of_legend is_told =
@@ -29,3 +60,10 @@ abbrev pub legend_text : ℕ → ℕ → List Mark → List ℕ
 legend_text base left [] = []
 legend_text base left (mark ∷ marks) =
     label_text (left + 21) base [] (words_of_mark mark) ++ legend_text base (left + 34 + 7 * length (words_of_mark mark)) marks
+
+-- their boxes: each is 16 units wide and 11 high, begins where its mark begins, and has its top 9 units above the line of the words
+abbrev pub legend_boxes : ℕ → ℕ → List Mark → List ℕ
+legend_boxes base left [] = []
+legend_boxes base left (mark ∷ marks) =
+    box_text left (base - 9) 16 11 (class_of_mark mark) [] (title_of_mark mark)
+    ++ legend_boxes base (left + 34 + 7 * length (words_of_mark mark)) marks

@@ -1,9 +1,10 @@
 //! The legend.
 ghost use Rattle.std.specs.Prelude.{◌≡◌, ◌+◌, ◌^◌, ◌-◌, [], min, IfOk, OnOk};
 ghost use Rattle.pci_picture.specs.Boxes.{titled_line};
-ghost use Rattle.pci_picture.specs.Canvases.{AddsToCanvas, WritesBytes};
+ghost use Rattle.pci_picture.specs.Canvases.{AddsToCanvas, DrawsBytes, WritesBytes};
+ghost use Rattle.pci_picture.specs.Elements.{box_text};
 ghost use Rattle.pci_picture.specs.Labels.{label_text};
-ghost use Rattle.pci_picture.specs.Legends.{legend_text, marks_of_legend, words_of_mark};
+ghost use Rattle.pci_picture.specs.Legends.{class_of_mark, legend_boxes, legend_text, marks_of_legend, title_of_mark, words_of_mark};
 
 use super::canvas::{Canvas, Label, Shape};
 use super::elements::Frame;
@@ -46,7 +47,9 @@ static LEGEND: [Mark; 12] = [
 
 impl Mark {
     /// The classes of its box.
-    fn class(self) -> &'static str {
+    fn class(self) -> &'static str
+        ensures { result.now ≡ class_of_mark self }
+    {
         match self {
             Mark::Window => "window",
             Mark::Bar => "bar",
@@ -66,8 +69,9 @@ impl Mark {
     /// The title of its box.
     #[tactic(auto, unfolding(crate::specs::Lines::is_region_line, crate::specs::Lines::is_range, crate::specs::Lines::words_in_line))]
     fn title(self) -> &'static str
+        ensures told { result.now ≡ title_of_mark self }
         // it is no line of a region
-        ensures { titled_line result.now ≡ [] }
+        ensures bare { titled_line result.now ≡ [] }
     {
         match self {
             Mark::Window => "window",
@@ -114,6 +118,7 @@ fn draw_entry<A: Allocator + Copy>(
     y: u64,
 ) -> Result<(), OutOfMemory>
     ensures adds { OnOk result (AddsToCanvas [] canvas.old canvas.new) }
+    ensures draws { OnOk result (DrawsBytes (box_text x (y - 9) 16 11 (class_of_mark mark) [] (title_of_mark mark)) canvas.old canvas.new) }
     ensures writes { OnOk result (WritesBytes (label_text (min (x + 21) (2 ^ 64 - 1)) y [] (words_of_mark mark)) canvas.old canvas.new) }
 {
     let at = Frame {
@@ -154,6 +159,7 @@ pub fn draw_legend<A: Allocator + Copy>(
     y: u64,
 ) -> Result<u64, OutOfMemory>
     ensures adds { IfOk result (λ _. AddsToCanvas [] canvas.old canvas.new) }
+    ensures draws { IfOk result (λ _. DrawsBytes (legend_boxes y 16 (marks_of_legend is_told)) canvas.old canvas.new) }
     ensures writes { IfOk result (λ _. WritesBytes (legend_text y 16 (marks_of_legend is_told)) canvas.old canvas.new) }
 {
     let mut x = LEFT;

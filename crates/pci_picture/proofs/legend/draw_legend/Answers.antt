@@ -3,13 +3,13 @@ use Rattle.std.specs.String.{string_bytes}
 use Rattle.std.proofs.lemmas.List.{append-nil, drop_all, get_or_default}
 use Rattle.pci_picture.specs.Labels.{label_text}
 use Rattle.pci_picture.specs.declared.legend.Mark.TheVariants.{Window}
-use Rattle.pci_picture.specs.Legends.{legend_text, marks_of_legend, words_of_mark}
+use Rattle.pci_picture.specs.Legends.{legend_boxes, legend_text, marks_of_legend, words_of_mark}
 use Rattle.pci_picture.proofs.Boxes.{unchanged, then_draws}
-use Rattle.pci_picture.proofs.Legends.{few_marks, mark_written, room_of_mark}
+use Rattle.pci_picture.proofs.Legends.{few_marks, mark_boxed, mark_written, room_of_mark}
 use Rattle.pci_picture.proofs.legend.draw_legend.Goals as goal
 
 pub loop-mark-init : goal.loop-mark-init
-loop-mark-init g c = record { adds = unchanged c.args.canvas.now; low = omega arith; writes = refl }
+loop-mark-init g c = record { adds = unchanged c.args.canvas.now; draws = refl; low = omega arith; writes = refl }
 
 pub loop-mark-preserved : goal.loop-mark-preserved
 loop-mark-preserved g c =
@@ -25,6 +25,10 @@ loop-mark-preserved g c =
     (c.saturating_mul-room.ensures ∙ ap (λ l. min (length l * 7) (2 ^ 64 - 1)) c.words.ensures) c.saturating_add-x.ensures in
     record {
       adds = then_draws _ _ _ _ c.loop-mark.invariant.adds c.in_ok-draw_entry.ensures.adds;
+      draws =
+          ap (λ n. string_bytes c.draw_entry.new.canvas.boxes ++ legend_boxes c.args.y n (drop (i + 1) marks)) room.0
+          ∙ mark_boxed marks c.args.y left i mark (string_bytes c.args.canvas.now.boxes) (string_bytes c.loop-mark.canvas.boxes) (string_bytes c.draw_entry.new.canvas.boxes)
+          (legend_boxes c.args.y 16 marks) (omega (arith, c.loop-mark-test.true, long)) at c.loop-mark.invariant.draws c.in_ok-draw_entry.ensures.draws;
       low = room.1;
       writes =
           ap (λ n. string_bytes c.draw_entry.new.canvas.words ++ legend_text c.args.y n (drop (i + 1) marks)) room.0
@@ -32,6 +36,14 @@ loop-mark-preserved g c =
           (legend_text c.args.y 16 marks) (omega (arith, c.loop-mark-test.true, long)) at c.loop-mark.invariant.writes
           (c.in_ok-draw_entry.ensures.writes ∙ ap (λ n. string_bytes c.loop-mark.canvas.words ++ label_text n c.args.y [] (words_of_mark mark)) room.2);
     }
+
+pub returns-clause-draws : goal.returns-clause-draws
+returns-clause-draws g c =
+    let marks = marks_of_legend c.args.is_told in
+    sym (ap (λ l. string_bytes c.loop-mark.canvas.boxes ++ legend_boxes c.args.y c.loop-mark.x l)
+    (drop_all c.loop-mark.mark-index marks (omega (arith, c.loop-mark-test.false, ap length c.marks_of-mark-items.ensures)))
+    ∙ append-nil (string_bytes c.loop-mark.canvas.boxes))
+    ∙ c.loop-mark.invariant.draws
 
 pub returns-clause-writes : goal.returns-clause-writes
 returns-clause-writes g c =
