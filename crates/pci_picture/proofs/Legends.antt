@@ -4,7 +4,7 @@ use Rattle.std.specs.Prelude.{min}
 use Rattle.std.proofs.lemmas.List.{append_assoc, drop_more}
 use Rattle.pci_picture.specs.Elements.{box_text}
 use Rattle.pci_picture.specs.Labels.{label_text}
-use Rattle.pci_picture.specs.Legends.{class_of_mark, legend_boxes, legend_text, marks_of_legend, title_of_mark, words_of_mark}
+use Rattle.pci_picture.specs.Legends.{class_of_mark, last_begins, legend_boxes, legend_text, marks_of_legend, title_of_mark, words_of_mark}
 use Rattle.pci_picture.specs.declared.legend.Mark.{Mark}
 use Rattle.pci_picture.specs.declared.legend.Mark.TheVariants.{Window, Bar, Prefetchable, Rom, Free, Clash, Lost, Off, Shared, Fits, Told, Held}
 
@@ -62,3 +62,9 @@ mark_boxed marks base left i mark before now after all inside at is draws =
     (ap (λ m. box_text left (base - 9) 16 11 (class_of_mark m) [] (title_of_mark m) ++ legend_boxes base (left + 34 + 7 * length (words_of_mark m)) (drop (i + 1) marks)) at
     ∙ ap (legend_boxes base left) (sym (drop_more marks i mark inside)))
     ∙ is
+
+-- the last mark begins behind this one, or where this one does
+pub mark_passed : (marks : List Mark) (left before i : ℕ) (mark : Mark) → i < length marks → mark ≡ get_or marks i mark
+    → last_begins left (left + 34 + 7 * length (words_of_mark mark)) (drop (i + 1) marks) ≡ last_begins before left (drop i marks)
+mark_passed marks left before i mark inside at =
+    ap (λ m. last_begins left (left + 34 + 7 * length (words_of_mark m)) (drop (i + 1) marks)) at ∙ ap (last_begins before left) (sym (drop_more marks i mark inside))

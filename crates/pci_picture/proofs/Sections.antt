@@ -13,6 +13,7 @@ use Rattle.pci_picture.specs.Canvases.{AddsToCanvas, AddsBoxOf, AddsSome, HasDra
 use Rattle.pci_picture.specs.Columns.{HasColumnsOf}
 use Rattle.pci_picture.specs.Drawings.{AreGrouped, AreOffBoxes, AreOfSection, AreOfSections, HasRoomOf, IsRunOfSection, sections_of}
 use Rattle.pci_picture.specs.Headings.{AreSectionsOf, headed_regions, is_below_heading}
+use Rattle.pci_picture.specs.Legends.{last_begins, marks_of_legend}
 use Rattle.pci_picture.specs.Lines.{is_feed, is_told_line, region_lines}
 use Rattle.pci_picture.specs.Looks.{IsTitled, Look, look_told}
 use Rattle.pci_picture.specs.Maps.{AreMembersOf, IsReadOf, lines_of_regions, regions_under, regions_of_members, regions_placed, kept_regions, lines_read}
@@ -223,14 +224,15 @@ sorted_members lines before after is moved =
 
 -- ---- the whole
 
-pub whole_picture : {A T E : Type 0} (look : Look) (row : Site) (functions : List Listed) (map faults : List ℕ) (read : Map A) (new before between last : Canvas A) (is_told : Bool) (y ends tree_end height : ℕ) (result : Result T E) (bytes : T → List ℕ)
-    → is_told ≡ list_any is_told_line (lines_read read) → HasAbove functions is_told faults (string_bytes before.words) tree_end → SameLooks look (look_told functions faults) → HasSides row → HasColumnsOf (kept_regions read) row → row.y ≡ tree_top (faults_said faults) → IsReadOf (slice_split is_feed map) read → y ≤ height → height ≡ down (max ends tree_end) 16
+pub whole_picture : {A T E : Type 0} (look : Look) (row : Site) (functions : List Listed) (map faults : List ℕ) (read : Map A) (new before between last : Canvas A) (is_told : Bool) (y ends tree_end width height legend : ℕ) (result : Result T E) (bytes : T → List ℕ)
+    → is_told ≡ list_any is_told_line (lines_read read) → HasAbove functions is_told faults (string_bytes before.words) tree_end → SameLooks look (look_told functions faults) → HasSides row → HasColumnsOf (kept_regions read) row → row.y ≡ tree_top (faults_said faults) → IsReadOf (slice_split is_feed map) read → y ≤ height → height ≡ down (max ends tree_end) 16 → width ≡ max (down (down row.x 148) row.width) (down legend 140)
+    → legend ≡ last_begins 16 16 (marks_of_legend is_told)
     → HasDrawn [] new → AddsToCanvas [] new before → AddsSome (AreOfSections look row functions read.lines.items y) before between
     → AddsSome (AreOffBoxes look (down row.x 132) row.width (top_of_off y read.off.items) read.off.items ends) between last
-    → ((spots : List BoxSpot) → HasDrawn spots last → IfOk result (λ text. IsDrawnOf is_told spots (string_bytes last.words) height (bytes text)))
+    → ((spots : List BoxSpot) → HasDrawn spots last → IfOk result (λ text. IsDrawnOf is_told spots (string_bytes last.words) width height (bytes text)))
     → IfOk result (λ text. IsPictureOf functions map faults (bytes text))
-whole_picture look row functions map faults read new before between last is_told y ends tree_end height (Err e) bytes tells above same sides columns top told lower height_is none kept some off finished = tt
-whole_picture look row functions map faults read new before between last is_told y ends tree_end height (Ok text) bytes tells above same sides columns top told lower height_is none kept some off finished =
+whole_picture look row functions map faults read new before between last is_told y ends tree_end width height legend (Err e) bytes tells above same sides columns top told lower height_is width_is legend_is none kept some off finished = tt
+whole_picture look row functions map faults read new before between last is_told y ends tree_end width height legend (Ok text) bytes tells above same sides columns top told lower height_is width_is legend_is none kept some off finished =
     let joined : some.spots ++ off.spots ≡ all_of some.hold.sections ++ off.spots = ap (λ l. l ++ off.spots) (sym some.hold.joined) in
     let both : lines_drawn (some.spots ++ off.spots) ≡ lines_drawn some.spots ++ lines_of_regions read.off.items =
     map-append (λ s. s.line) some.spots off.spots ∙ ap (λ l. lines_drawn some.spots ++ l) off.hold.drawn in
@@ -265,14 +267,18 @@ whole_picture look row functions map faults read new before between last is_told
           (top_alike y read.off.items off.spots
           (sym (sym (length-map off.spots (λ (s : BoxSpot). s.line)) ∙ ap length off.hold.drawn ∙ length-map read.off.items (λ (r : Region). r.line.now)))) off.hold.rows);
       height = height;
+      width = width;
+      wide =
+          width_is ∙ ap (λ n. max (down (down row.x 148) row.width) (down n 140)) legend_is
+          ∙ ap₂ (λ l b. max (down (down l 148) row.width) (down (last_begins 16 16 (marks_of_legend b)) 140)) columns.x_is told_is;
       ends = height_is;
       tree_end = tree_end;
       tree = above.tree;
       rows = above.rows;
       drawn =
-          subst (λ w. IsDrawnOf (tells_ranges map) (all_of some.hold.sections ++ off.spots) w height (bytes text)) words
-          (subst (λ b. IsDrawnOf b (all_of some.hold.sections ++ off.spots) (string_bytes last.words) height (bytes text)) told_is
-          (subst (λ l. IsDrawnOf is_told l (string_bytes last.words) height (bytes text)) joined
+          subst (λ w. IsDrawnOf (tells_ranges map) (all_of some.hold.sections ++ off.spots) w width height (bytes text)) words
+          (subst (λ b. IsDrawnOf b (all_of some.hold.sections ++ off.spots) (string_bytes last.words) width height (bytes text)) told_is
+          (subst (λ l. IsDrawnOf is_told l (string_bytes last.words) width height (bytes text)) joined
           (finished (some.spots ++ off.spots) (off.adds.behind some.spots (some.adds.behind [] (kept.behind [] none))))));
       end = y;
       stand = λ small.

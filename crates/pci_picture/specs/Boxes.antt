@@ -7,7 +7,7 @@ use Rattle.pci_picture.specs.Columns.{HasColumnsOf}
 use Rattle.pci_picture.specs.Elements.{box_text, words_text, axis_text, tick_text, gap_text}
 use Rattle.pci_picture.specs.FaultLines.{fault_list_text, tree_top}
 use Rattle.pci_picture.specs.Headings.{AreSectionsOf, headed_regions, is_below_no_heading, lines_below_headings}
-use Rattle.pci_picture.specs.Legends.{legend_text, marks_of_legend}
+use Rattle.pci_picture.specs.Legends.{last_begins, legend_text, marks_of_legend}
 use Rattle.pci_picture.specs.Lines.{is_feed, is_told_line, line_if_region, region_lines}
 use Rattle.pci_picture.specs.Looks.{IsTitled, look_told}
 use Rattle.pci_picture.specs.Nested.{HasNestedBoxes}
@@ -70,10 +70,9 @@ pub record AreDrawn (spots : List BoxSpot) (boxes words : List ℕ) : Type 0 whe
   pub in_boxes : HasSpots spots boxes
   pub in_words : HasTitles [] words
 
--- a picture with these regions, with these words behind its boxes, and with this height, that has told ranges or none
-pub record IsDrawnOf (is_told : Bool) (spots : List BoxSpot) (words : List ℕ) (height : ℕ) (text : List ℕ) : Type 0 where
+-- a picture with these regions, with these words behind its boxes, and of this width and height, that has told ranges or none
+pub record IsDrawnOf (is_told : Bool) (spots : List BoxSpot) (words : List ℕ) (width height : ℕ) (text : List ℕ) : Type 0 where
   pub boxes : List ℕ
-  pub width : ℕ
   pub drawn : HasSpots spots (boxes ++ words)
   pub says : text ≡ picture_text is_told boxes words width height
 
@@ -106,7 +105,7 @@ words_drawn functions map faults tree sections off =
 -- these faults. Each region out of place is in the section of the root from which its bus is reached, by the same functions, and of
 -- its space. Above the sections stand the faults, and beside them the tree of these functions.
 -- The sections stand below each other, from where the tree begins, and below them stands the list of what is off. The picture is
--- 16 units higher than that list and the tree
+-- 16 units higher than that list and the tree. It is 16 units wider than the sections, and has 140 units for the last mark of the legend
 pub record IsPictureOf (functions : List Listed) (map faults text : List ℕ) : Type 0 where
   pub sections : List Section
   pub off : List BoxSpot
@@ -117,15 +116,17 @@ pub record IsPictureOf (functions : List Listed) (map faults text : List ℕ) : 
   pub off_titled : All (IsTitled (look_told functions faults)) off
   pub row : Site
   pub columns : HasColumnsOf (headed_regions map) row
+  pub width : ℕ
   pub height : ℕ
   pub tree : List ℕ
   pub tree_end : ℕ
   pub rows : IsTreeBelowFaults functions faults tree tree_end
-  pub drawn : IsDrawnOf (tells_ranges map) (all_of sections ++ off) (words_drawn functions map faults tree sections off) height text
+  pub drawn : IsDrawnOf (tells_ranges map) (all_of sections ++ off) (words_drawn functions map faults tree sections off) width height text
   pub end : ℕ
   pub stand : height < 2 ^ 64 - 1 → StandBelow (look_told functions faults).told (tree_top (faults_said faults)) sections end
   pub bottom : ℕ
   pub off_rows : AreRowsOfOff 568 row.width (top_of_off end off) off bottom
+  pub wide : width ≡ max (down 584 row.width) (down (last_begins 16 16 (marks_of_legend (tells_ranges map))) 140)
   pub ends : height ≡ down (max bottom tree_end) 16
   pub nested : All (HasNestedBoxes (look_told functions faults) (headed_regions map)) sections
   pub by_root : All (AreLostByRoot functions) sections

@@ -67,3 +67,8 @@ legend_boxes base left [] = []
 legend_boxes base left (mark ∷ marks) =
     box_text left (base - 9) 16 11 (class_of_mark mark) [] (title_of_mark mark)
     ++ legend_boxes base (left + 34 + 7 * length (words_of_mark mark)) marks
+
+-- where the last mark begins, of those from a left end on, where the one before them begins at a place
+abbrev pub last_begins : ℕ → ℕ → List Mark → ℕ
+last_begins before left [] = before
+last_begins before left (mark ∷ marks) = last_begins left (left + 34 + 7 * length (words_of_mark mark)) marks

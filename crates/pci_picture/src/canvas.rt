@@ -207,7 +207,7 @@ impl<A: Allocator + Copy> Canvas<A> {
     ) -> Result<String<A>, OutOfMemory>
         ensures closed { IfOk result (λ text. IsPictureText (string_bytes text)) }
         ensures drawn { (spots : List BoxSpot) → HasDrawn spots self.now
-            → IfOk result (λ text. IsDrawnOf is_told spots (string_bytes self.now.words) height (string_bytes text)) }
+            → IfOk result (λ text. IsDrawnOf is_told spots (string_bytes self.now.words) width height (string_bytes text)) }
         ensures says { IfOk result (λ text. string_bytes text
             ≡ picture_text is_told (string_bytes self.now.boxes) (string_bytes self.now.words) width height) }
     {

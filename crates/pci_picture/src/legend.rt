@@ -4,7 +4,7 @@ ghost use Rattle.pci_picture.specs.Boxes.{titled_line};
 ghost use Rattle.pci_picture.specs.Canvases.{AddsToCanvas, DrawsBytes, WritesBytes};
 ghost use Rattle.pci_picture.specs.Elements.{box_text};
 ghost use Rattle.pci_picture.specs.Labels.{label_text};
-ghost use Rattle.pci_picture.specs.Legends.{class_of_mark, legend_boxes, legend_text, marks_of_legend, title_of_mark, words_of_mark};
+ghost use Rattle.pci_picture.specs.Legends.{class_of_mark, last_begins, legend_boxes, legend_text, marks_of_legend, title_of_mark, words_of_mark};
 
 use super::canvas::{Canvas, Label, Shape};
 use super::elements::Frame;
@@ -161,6 +161,7 @@ pub fn draw_legend<A: Allocator + Copy>(
     ensures adds { IfOk result (λ _. AddsToCanvas [] canvas.old canvas.new) }
     ensures draws { IfOk result (λ _. DrawsBytes (legend_boxes y 16 (marks_of_legend is_told)) canvas.old canvas.new) }
     ensures writes { IfOk result (λ _. WritesBytes (legend_text y 16 (marks_of_legend is_told)) canvas.old canvas.new) }
+    ensures last { IfOk result (λ last. last ≡ last_begins 16 16 (marks_of_legend is_told)) }
 {
     let mut x = LEFT;
     let mut last = LEFT;
