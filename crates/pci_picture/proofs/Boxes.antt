@@ -181,6 +181,11 @@ pub draws_both : {A : Type 0} (one other : List ℕ) (before between after : Can
 draws_both one other before between after first second =
     second ∙ ap (λ l. l ++ other) first ∙ append_assoc (string_bytes before.boxes) one other
 
+-- a line of words, by what they are
+pub heading_drawn : {A : Type 0} (x y : ℕ) (before after : Canvas A) (words own told : List ℕ) → words ≡ own → own ≡ told → DrawsBytes (words_text x y [] words) before after
+    → DrawsBytes (words_text x y [] told) before after
+heading_drawn x y before after words own told same is draws = subst (λ l. DrawsBytes (words_text x y [] l) before after) (same ∙ is) draws
+
 -- at the end of a function, whose last step may fail
 pub none_ok : {A T E : Type 0} (result : Result T E) (before between after : Canvas A) → string_bytes between.words ≡ string_bytes before.words
     → IfOk result (λ _. string_bytes after.words ≡ string_bytes between.words) → IfOk result (λ _. WritesBytes [] before after)

@@ -67,3 +67,4 @@ pub mod Crowded
 pub mod Beside
 pub mod Rising
 pub mod Siblings
+pub mod Counts

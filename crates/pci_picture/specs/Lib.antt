@@ -45,3 +45,4 @@ pub mod Rows
 pub mod Trees
 pub mod Walks
 pub mod FaultLines
+pub mod Counts

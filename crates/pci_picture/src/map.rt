@@ -2,10 +2,11 @@
 ghost use Rattle.std.specs.Prelude.{◌≡◌, ◌/◌, [], ◌∷◌, IsTrue, IfOk, OnOk};
 ghost use Rattle.std.specs.List.{list_any, slice_split};
 ghost use Rattle.pci_picture.specs.Columns.{deepest};
+ghost use Rattle.pci_picture.specs.Counts.{count_of_regions, is_counted_region};
 ghost use Rattle.pci_picture.specs.Depths.{AreChained, KnowsDepths, StandsWithin, reading_of};
 ghost use Rattle.pci_picture.specs.Headings.{Headed, depth_behind, headed, headed_behind, heading_told, is_lost, number_of_section, read_on};
 ghost use Rattle.pci_picture.specs.Lines.{is_feed, is_one_line, is_told_line};
-ghost use Rattle.pci_picture.specs.Maps.{IsReadOf, TakesUp, kept_regions, lines_read};
+ghost use Rattle.pci_picture.specs.Maps.{IsReadOf, TakesUp, headed_line, kept_regions, lines_read};
 
 use super::memory::OutOfMemory;
 use super::reading::{hex_byte, indent, stripped, word};
@@ -72,6 +73,13 @@ fn heading_of(line: &[u8]) -> Heading
     } else {
         Heading::Off
     }
+}
+
+/// Whether a line is of a section, and of a function.
+fn is_counted(line: &Line<'_>) -> bool
+    ensures { result ≡ is_counted_region (headed_line line.entry.now) }
+{
+    line.section.is_some() && line.region.key != 0
 }
 
 /// A map whose first lines were read.
@@ -203,11 +211,16 @@ impl<'a, A: Allocator + Copy> Map<'a, A> {
     }
 
     /// How many regions of functions the sections have.
-    pub fn region_count(&self) -> usize {
-        self.lines
-            .iter()
-            .filter(|line| line.section.is_some() && line.region.key != 0)
-            .count()
+    pub fn region_count(&self) -> usize
+        ensures { result ≡ count_of_regions (kept_regions self.entry.now) }
+    {
+        let mut count = 0;
+        for line in &self.lines {
+            if is_counted(line) {
+                count += 1;
+            }
+        }
+        count
     }
 
     /// Whether a line is of a told range.

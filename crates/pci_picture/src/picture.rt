@@ -1,10 +1,11 @@
 //! The picture of a board.
-ghost use Rattle.std.specs.Prelude.{◌≡◌, ◌<◌, ◌≤◌, ◌+◌, ◌-◌, ◌^◌, List, ℕ, [], codes, max, min, length, IfOk, OnOk};
+ghost use Rattle.std.specs.Prelude.{◌≡◌, ◌<◌, ◌≤◌, ◌+◌, ◌++◌, ◌-◌, ◌^◌, List, ℕ, [], codes, min, length, IfOk, OnOk, max};
 ghost use Rattle.std.specs.List.{All};
 ghost use Rattle.std.specs.String.{string_bytes};
 ghost use Rattle.pci_picture.specs.BoardLooks.{look_read};
-ghost use Rattle.pci_picture.specs.Canvases.{AddsBoxOf, AddsSome, AddsToCanvas, WritesBytes};
+ghost use Rattle.pci_picture.specs.Canvases.{AddsBoxOf, AddsSome, AddsToCanvas, DrawsBytes, WritesBytes};
 ghost use Rattle.pci_picture.specs.Columns.{HasColumnsOf};
+ghost use Rattle.pci_picture.specs.Counts.{count_of_faults, count_of_regions, counts_text, words_of_counts};
 ghost use Rattle.pci_picture.specs.Depths.{AreChained};
 ghost use Rattle.pci_picture.specs.Drawings.{AreOffBoxes, AreOfSections, IsRunOfSection};
 ghost use Rattle.pci_picture.specs.ByRoots.{IsDrawnByRootsOfShow};
@@ -45,7 +46,10 @@ const LEAF: u64 = 330;
 const MARGIN: u64 = 16;
 
 /// How many functions, regions and faults a board has, in words.
-fn counts_of<A: Allocator + Copy>(alloc: A, board: &Board<'_, A>) -> Result<Words<A>, OutOfMemory> {
+fn counts_of<A: Allocator + Copy>(alloc: A, board: &Board<'_, A>) -> Result<Words<A>, OutOfMemory>
+    ensures { IfOk result (λ words. words.bytes.items ≡ words_of_counts (length board.entry.now.functions.items)
+        (count_of_regions (kept_regions board.entry.now.map)) (length board.entry.now.faults.faults.items)) }
+{
     let faults = board.faults.faults.len();
     let mut words = Words::new(alloc);
     words.put_number(alloc, board.functions.len())?;
@@ -62,12 +66,17 @@ fn put_faults<A: Allocator + Copy>(
     alloc: A,
     words: &mut Words<A>,
     faults: usize,
-) -> Result<(), OutOfMemory> {
+) -> Result<(), OutOfMemory>
+    ensures { OnOk result (words.new.bytes.items ≡ words.old.bytes.items ++ count_of_faults faults) }
+{
     if faults == 0 {
         return words.put(b"no fault");
     }
+    if faults == 1 {
+        return words.put(b"1 fault");
+    }
     words.put_number(alloc, faults)?;
-    words.put(if faults == 1 { b" fault" } else { b" faults" })
+    words.put(b" faults")
 }
 
 /// Writes the title and how many functions, regions and faults there are.
@@ -77,6 +86,8 @@ fn write_counts<A: Allocator + Copy>(
     board: &Board<'_, A>,
 ) -> Result<(), OutOfMemory>
     ensures adds { OnOk result (AddsToCanvas [] canvas.old canvas.new) }
+    ensures draws { OnOk result (DrawsBytes (counts_text (length board.entry.now.functions.items)
+        (count_of_regions (kept_regions board.entry.now.map)) (length board.entry.now.faults.faults.items)) canvas.old canvas.new) }
     ensures writes { OnOk result (string_bytes canvas.new.words ≡ string_bytes canvas.old.words) }
 {
     let title = Label {
