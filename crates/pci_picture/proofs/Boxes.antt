@@ -221,13 +221,15 @@ none_titles text none = subst (HasTitles []) (sym none) no_element
 
 -- the picture of what is drawn
 pub drawn_of : {T E : Type 0} (result : Result T E) (bytes : T → List ℕ) (is_told : Bool) (boxes words : List ℕ) (width height : ℕ)
-    (spots : List BoxSpot) → AreDrawn spots boxes words
-    → IfOk result (λ t. bytes t ≡ picture_text is_told boxes words width height) → IfOk result (λ t. IsDrawnOf is_told spots words width height (bytes t))
-drawn_of (Err e) bytes is_told boxes words width height spots drawn is = tt
-drawn_of (Ok t) bytes is_told boxes words width height spots drawn is = record {
-  boxes = boxes;
-  drawn = subst (λ l. HasSpots l (boxes ++ words)) (append-nil spots) (spots_append spots [] boxes words drawn.in_boxes (bare_spots words drawn.in_words));
-  says = is;
+    (spots : List BoxSpot) (head behind : List ℕ) → AreDrawn spots boxes words → boxes ≡ head ++ behind
+    → IfOk result (λ t. bytes t ≡ picture_text is_told boxes words width height) → IfOk result (λ t. IsDrawnOf is_told spots head words width height (bytes t))
+drawn_of (Err e) bytes is_told boxes words width height spots head behind drawn at is = tt
+drawn_of (Ok t) bytes is_told boxes words width height spots head behind drawn at is = record {
+  behind = behind;
+  drawn =
+      subst (λ b. HasSpots spots (b ++ words)) at
+      (subst (λ l. HasSpots l (boxes ++ words)) (append-nil spots) (spots_append spots [] boxes words drawn.in_boxes (bare_spots words drawn.in_words)));
+  says = is ∙ ap (λ b. picture_text is_told b words width height) at;
 }
 
 -- ---- at the end of a function: its last step is a call, which may fail

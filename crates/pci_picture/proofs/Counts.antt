@@ -1,11 +1,19 @@
 -- How many regions of functions a map has, and its counts in words.
-use Rattle.std.proofs.Common.{◌≡◌, ◌<◌, ◌+◌, ℕ, cond, List, [], ◌++◌, codes, map, take, length, get_or, sym, ap, ap₂, ◌∙◌, arith}
+use Rattle.std.proofs.Common.{◌≡◌, ◌<◌, ◌+◌, ◌==◌, ◌&&◌, not, ℕ, Bool, true, false, refl, cond, List, [], ◌++◌, codes, map, take, length, get_or, sym, ap, ap₂, ◌∙◌, arith}
 use Rattle.std.specs.Fmt.{decimal}
+use Rattle.std.specs.List.{filter}
 use Rattle.std.proofs.lemmas.List.{get_or-map, length-map}
+use Rattle.std.proofs.lemmas.List.Elements.{filter_agree}
 use Rattle.std.proofs.lemmas.List.Filters.{length-filter_more}
 use Rattle.pci_picture.specs.Counts.{count_of_faults, count_of_regions, is_counted_region, words_of_counts}
+use Rattle.pci_picture.specs.Headings.{Headed, is_below_heading, is_below_no_heading, is_in_section}
+use Rattle.pci_picture.specs.Lines.{words_in_line}
 use Rattle.pci_picture.specs.Maps.{headed_line}
+use Rattle.pci_picture.specs.Marks.{key_of_region}
+use Rattle.pci_picture.specs.declared.map.Heading.{Heading}
+use Rattle.pci_picture.specs.declared.map.Heading.TheVariants.{Section as InSection, Lost, Off}
 use Rattle.pci_picture.specs.declared.map.Line.{Line}
+use Rattle.pci_picture.proofs.Filtered.{filter_twice}
 
 -- one line more
 pub count_more : (lines : List Line) (i : ℕ) (line : Line) → i < length lines → line ≡ get_or lines i line
@@ -32,3 +40,19 @@ counts_put functions regions faults f r n none one two three four five six is_f 
     (is_three ∙ ap (λ l. l ++ decimal r) (is_two ∙ ap (λ l. l ++ codes " functions, ") (is_one ∙ ap (λ l. l ++ decimal f) is_none)))))
     ∙ ap₂ (λ a b. words_of_counts a b n) is_f is_r
     ∙ ap (words_of_counts functions regions) is_n
+
+-- those in sections stand below headings
+counted_below : (heading : Heading) (has_key : Bool) → ((is_in_section heading && has_key) && not (is_below_no_heading heading)) ≡ (is_in_section heading && has_key)
+counted_below (InSection m) true = refl
+counted_below (InSection m) false = refl
+counted_below Lost true = refl
+counted_below Lost false = refl
+counted_below Off true = refl
+counted_below Off false = refl
+
+pub counted_kept : (regions : List Headed) → count_of_regions (filter is_below_heading regions) ≡ count_of_regions regions
+counted_kept regions =
+    ap length
+    (filter_twice is_counted_region is_below_heading regions
+    ∙ filter_agree (λ region. is_counted_region region && is_below_heading region) is_counted_region
+    (λ region. counted_below region.heading (not (key_of_region (words_in_line region.line) == 0))) regions)

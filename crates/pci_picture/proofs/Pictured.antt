@@ -1,12 +1,13 @@
 -- What is said of a picture, of where its regions out of place are.
-use Rattle.std.proofs.Common.{◌≡◌, ◌≤◌, ◌+◌, ◌-◌, ◌*◌, ◌^◌, ℕ, Bool, List, [], ◌++◌, length, Result, Ok, Err, IfOk, ap, arith, subst, ◌∙◌}
+use Rattle.std.proofs.Common.{◌≡◌, ◌≤◌, ◌+◌, ◌-◌, ◌*◌, ◌^◌, ℕ, Bool, List, [], ◌++◌, length, Result, Ok, Err, IfOk, ap, ap₂, arith, subst, ◌∙◌}
 use Rattle.std.specs.Prelude.{min}
 use Rattle.std.specs.String.{string_bytes}
 use Rattle.std.proofs.lemmas.List.{append_assoc}
 use Rattle.pci_picture.specs.Badges.{AreBadgesOf}
 use Rattle.pci_picture.specs.Boxes.{IsPictureOf, IsTreeBelowFaults, words_above}
 use Rattle.pci_picture.specs.ByRoots.{IsDrawnByRootsOfShow}
-use Rattle.pci_picture.specs.Canvases.{WritesBytes}
+use Rattle.pci_picture.specs.Canvases.{AddsToCanvas, DrawsBytes, WritesBytes}
+use Rattle.pci_picture.specs.Counts.{counts_text}
 use Rattle.pci_picture.specs.FaultLines.{fault_list_text, faults_read, lines_within, tree_top}
 use Rattle.pci_picture.specs.Legends.{legend_text, marks_of_legend}
 use Rattle.pci_picture.specs.Named.{AreFunctionsTitled}
@@ -56,3 +57,37 @@ has_above functions is_told faults read top lines end new counted legend listed 
           ∙ append_assoc marks list third.text
           ∙ ap (λ said. marks ++ (fault_list_text said ++ third.text)) same;
     }
+
+-- ---- boxes
+
+-- some boxes begin with these bytes
+pub record HasFront (head boxes : List ℕ) : Type 0 where
+  pub behind : List ℕ
+  pub are : boxes ≡ head ++ behind
+
+-- the counts and the legend are drawn first
+pub has_front : {B : Type 0} (counts marks : List ℕ) (new counted legend listed tree : Canvas B) → string_bytes new.boxes ≡ [] → DrawsBytes counts new counted
+    → DrawsBytes marks counted legend → AddsToCanvas [] legend listed → AddsToCanvas [] listed tree → HasFront (counts ++ marks) (string_bytes tree.boxes)
+has_front counts marks new counted legend listed tree empty first second list rows = record {
+  behind = list.boxed ++ rows.boxed;
+  are =
+      rows.draws
+      ∙ ap (λ l. l ++ rows.boxed) (list.draws ∙ ap (λ l. l ++ list.boxed) (second ∙ ap (λ l. l ++ marks) (first ∙ ap (λ l. l ++ counts) empty)))
+      ∙ append_assoc (counts ++ marks) list.boxed rows.boxed;
+}
+
+-- the same with numbers that are told otherwise
+pub front_told : (functions regions faults listed told : ℕ) (marks boxes : List ℕ) → functions ≡ listed → faults ≡ told
+    → HasFront (counts_text functions regions faults ++ marks) boxes → HasFront (counts_text listed regions told ++ marks) boxes
+front_told functions regions faults listed told marks boxes same alike front = record {
+  behind = front.behind;
+  are = front.are ∙ ap₂ (λ a b. counts_text a regions b ++ marks ++ front.behind) same alike;
+}
+
+-- boxes behind such boxes
+pub front_more : (head told behind one other first between last : List ℕ) → first ≡ head ++ behind → between ≡ first ++ one → last ≡ between ++ other
+    → head ≡ told → last ≡ told ++ (behind ++ (one ++ other))
+front_more head told behind one other first between last is_first is_between is_last same =
+    is_last ∙ ap (λ l. l ++ other) is_between ∙ append_assoc first one other ∙ ap (λ l. l ++ (one ++ other)) is_first
+    ∙ append_assoc head behind (one ++ other)
+    ∙ ap (λ h. h ++ (behind ++ (one ++ other))) same

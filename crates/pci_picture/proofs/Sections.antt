@@ -8,12 +8,13 @@ use Rattle.std.proofs.lemmas.List.{append_assoc, append-nil, map-append, map_mor
 use Rattle.std.proofs.lemmas.List.Concat.{flat_map-append}
 use Rattle.std.proofs.lemmas.List.Sorted.{IsNonDecreasingBy-drop, IsNonDecreasingBy-take, IsPermutation-trans, IsPermutation-append_left, IsPermutation-map, list_any-IsPermutation}
 use Rattle.std.proofs.lemmas.List.Elements.{All-nil, All-push, All-weaker}
-use Rattle.pci_picture.specs.Boxes.{IsDrawnOf, IsPictureOf, tells_ranges, words_above, words_drawn}
+use Rattle.pci_picture.specs.Boxes.{IsDrawnOf, IsPictureOf, boxes_above, tells_ranges, words_above, words_drawn}
 use Rattle.pci_picture.specs.Canvases.{AddsToCanvas, AddsBoxOf, AddsSome, HasDrawn, WritesBytes}
 use Rattle.pci_picture.specs.Columns.{HasColumnsOf}
+use Rattle.pci_picture.specs.Counts.{count_of_regions, counts_text}
 use Rattle.pci_picture.specs.Drawings.{AreGrouped, AreOffBoxes, AreOfSection, AreOfSections, HasRoomOf, IsRunOfSection, sections_of}
 use Rattle.pci_picture.specs.Headings.{AreSectionsOf, headed_regions, is_below_heading}
-use Rattle.pci_picture.specs.Legends.{last_begins, marks_of_legend}
+use Rattle.pci_picture.specs.Legends.{last_begins, marks_of_legend, legend_boxes}
 use Rattle.pci_picture.specs.Lines.{is_feed, is_told_line, region_lines}
 use Rattle.pci_picture.specs.Looks.{IsTitled, Look, look_told}
 use Rattle.pci_picture.specs.Maps.{AreMembersOf, IsReadOf, lines_of_regions, regions_under, regions_of_members, regions_placed, kept_regions, lines_read}
@@ -34,7 +35,8 @@ use Rattle.pci_picture.specs.declared.plan.Site.{Site}
 use Rattle.pci_picture.specs.declared.plan.Placed.{Placed}
 use Rattle.pci_picture.specs.declared.region.Region.{Region}
 use Rattle.pci_picture.proofs.Boxes.{then_adds, then_some, unchanged, writes_both, writes_none}
-use Rattle.pci_picture.proofs.Pictured.{HasAbove}
+use Rattle.pci_picture.proofs.Counts.{counted_kept}
+use Rattle.pci_picture.proofs.Pictured.{HasAbove, HasFront, front_more}
 use Rattle.pci_picture.proofs.Looks.{SameLooks, below_same, off_words_same, titled_same}
 use Rattle.pci_picture.proofs.Nested.{columns_of_all, nested_of_all}
 use Rattle.pci_picture.proofs.Groups.{no_group, group_more, grouped, sections_of_all}
@@ -225,14 +227,17 @@ sorted_members lines before after is moved =
 -- ---- the whole
 
 pub whole_picture : {A T E : Type 0} (look : Look) (row : Site) (functions : List Listed) (map faults : List ℕ) (read : Map A) (new before between last : Canvas A) (is_told : Bool) (y ends tree_end width height legend : ℕ) (result : Result T E) (bytes : T → List ℕ)
-    → is_told ≡ list_any is_told_line (lines_read read) → HasAbove functions is_told faults (string_bytes before.words) tree_end → SameLooks look (look_told functions faults) → HasSides row → HasColumnsOf (kept_regions read) row → row.y ≡ tree_top (faults_said faults) → IsReadOf (slice_split is_feed map) read → y ≤ height → height ≡ down (max ends tree_end) 16 → width ≡ max (down (down row.x 148) row.width) (down legend 140)
+    → is_told ≡ list_any is_told_line (lines_read read) → HasAbove functions is_told faults (string_bytes before.words) tree_end
+    → HasFront (counts_text (length functions) (count_of_regions (kept_regions read)) (length (faults_said faults)) ++ legend_boxes 66 16 (marks_of_legend is_told)) (string_bytes before.boxes)
+    → SameLooks look (look_told functions faults) → HasSides row → HasColumnsOf (kept_regions read) row → row.y ≡ tree_top (faults_said faults) → IsReadOf (slice_split is_feed map) read → y ≤ height → height ≡ down (max ends tree_end) 16 → width ≡ max (down (down row.x 148) row.width) (down legend 140)
     → legend ≡ last_begins 16 16 (marks_of_legend is_told)
     → HasDrawn [] new → AddsToCanvas [] new before → AddsSome (AreOfSections look row functions read.lines.items y) before between
     → AddsSome (AreOffBoxes look (down row.x 132) row.width (top_of_off y read.off.items) read.off.items ends) between last
-    → ((spots : List BoxSpot) → HasDrawn spots last → IfOk result (λ text. IsDrawnOf is_told spots (string_bytes last.words) width height (bytes text)))
+    → ((spots : List BoxSpot) (head behind : List ℕ) → HasDrawn spots last → string_bytes last.boxes ≡ head ++ behind
+    → IfOk result (λ text. IsDrawnOf is_told spots head (string_bytes last.words) width height (bytes text)))
     → IfOk result (λ text. IsPictureOf functions map faults (bytes text))
-whole_picture look row functions map faults read new before between last is_told y ends tree_end width height legend (Err e) bytes tells above same sides columns top told lower height_is width_is legend_is none kept some off finished = tt
-whole_picture look row functions map faults read new before between last is_told y ends tree_end width height legend (Ok text) bytes tells above same sides columns top told lower height_is width_is legend_is none kept some off finished =
+whole_picture look row functions map faults read new before between last is_told y ends tree_end width height legend (Err e) bytes tells above start same sides columns top told lower height_is width_is legend_is none kept some off finished = tt
+whole_picture look row functions map faults read new before between last is_told y ends tree_end width height legend (Ok text) bytes tells above start same sides columns top told lower height_is width_is legend_is none kept some off finished =
     let joined : some.spots ++ off.spots ≡ all_of some.hold.sections ++ off.spots = ap (λ l. l ++ off.spots) (sym some.hold.joined) in
     let both : lines_drawn (some.spots ++ off.spots) ≡ lines_drawn some.spots ++ lines_of_regions read.off.items =
     map-append (λ s. s.line) some.spots off.spots ∙ ap (λ l. lines_drawn some.spots ++ l) off.hold.drawn in
@@ -244,6 +249,14 @@ whole_picture look row functions map faults read new before between last is_told
     ∙ ap₂ (λ s o. front ++ (s ++ o)) (sym some.hold.written) (off.hold.written ∙ off_words_same look (look_told functions faults) same off.spots)
     ∙ ap (λ l. l ++ (words_of_sections some.hold.sections ++ flat_map ((look_told functions faults).off_words) off.spots))
     (above.are ∙ ap (λ b. words_above b faults above.tree) told_is) in
+    let head : List ℕ = boxes_above functions map faults in
+    let behind : List ℕ = start.behind ++ (some.adds.boxed ++ off.adds.boxed) in
+    let boxes : string_bytes last.boxes ≡ head ++ behind =
+    front_more (counts_text (length functions) (count_of_regions (kept_regions read)) (length (faults_said faults)) ++ legend_boxes 66 16 (marks_of_legend is_told))
+    head start.behind some.adds.boxed off.adds.boxed (string_bytes before.boxes) (string_bytes between.boxes) (string_bytes last.boxes)
+    start.are some.adds.draws off.adds.draws
+    (ap₂ (λ n b. counts_text (length functions) n (length (faults_said faults)) ++ legend_boxes 66 16 (marks_of_legend b))
+    (ap count_of_regions told.kept ∙ counted_kept (headed_regions map)) told_is) in
     record {
       sections = some.hold.sections;
       off = off.spots;
@@ -276,10 +289,10 @@ whole_picture look row functions map faults read new before between last is_told
       tree = above.tree;
       rows = above.rows;
       drawn =
-          subst (λ w. IsDrawnOf (tells_ranges map) (all_of some.hold.sections ++ off.spots) w width height (bytes text)) words
-          (subst (λ b. IsDrawnOf b (all_of some.hold.sections ++ off.spots) (string_bytes last.words) width height (bytes text)) told_is
-          (subst (λ l. IsDrawnOf is_told l (string_bytes last.words) width height (bytes text)) joined
-          (finished (some.spots ++ off.spots) (off.adds.behind some.spots (some.adds.behind [] (kept.behind [] none))))));
+          subst (λ w. IsDrawnOf (tells_ranges map) (all_of some.hold.sections ++ off.spots) head w width height (bytes text)) words
+          (subst (λ b. IsDrawnOf b (all_of some.hold.sections ++ off.spots) head (string_bytes last.words) width height (bytes text)) told_is
+          (subst (λ l. IsDrawnOf is_told l head (string_bytes last.words) width height (bytes text)) joined
+          (finished (some.spots ++ off.spots) head behind (off.adds.behind some.spots (some.adds.behind [] (kept.behind [] none))) boxes)));
       end = y;
       stand = λ small.
           let told = (look_told functions faults).told in

@@ -1,5 +1,5 @@
 -- Which boxes a picture has, by their titles and where they stand.
-use Rattle.std.specs.Prelude.{◌≡◌, ℕ, Bool, List, [], ◌∷◌, ◌++◌, ◌-◌, ◌^◌, ◌<◌, codes, max, if◌then◌else◌, map}
+use Rattle.std.specs.Prelude.{◌≡◌, ℕ, Bool, List, [], ◌∷◌, ◌++◌, ◌-◌, ◌^◌, ◌<◌, codes, max, if◌then◌else◌, map, length}
 use Rattle.std.specs.List.{All, flat_map, list_any}
 use Rattle.std.specs.List.Sorted.{IsPermutation}
 use Rattle.pci_picture.specs.Badges.{badges_told}
@@ -7,7 +7,8 @@ use Rattle.pci_picture.specs.Columns.{HasColumnsOf}
 use Rattle.pci_picture.specs.Elements.{box_text, words_text, axis_text, tick_text, gap_text}
 use Rattle.pci_picture.specs.FaultLines.{fault_list_text, tree_top}
 use Rattle.pci_picture.specs.Headings.{AreSectionsOf, headed_regions, is_below_no_heading, lines_below_headings}
-use Rattle.pci_picture.specs.Legends.{last_begins, legend_text, marks_of_legend}
+use Rattle.pci_picture.specs.Legends.{last_begins, legend_text, marks_of_legend, legend_boxes}
+use Rattle.pci_picture.specs.Counts.{count_of_regions, counts_text}
 use Rattle.pci_picture.specs.Lines.{is_feed, is_told_line, line_if_region, region_lines}
 use Rattle.pci_picture.specs.Looks.{IsTitled, look_told}
 use Rattle.pci_picture.specs.Nested.{HasNestedBoxes}
@@ -70,15 +71,22 @@ pub record AreDrawn (spots : List BoxSpot) (boxes words : List ℕ) : Type 0 whe
   pub in_boxes : HasSpots spots boxes
   pub in_words : HasTitles [] words
 
--- a picture with these regions, with these words behind its boxes, and of this width and height, that has told ranges or none
-pub record IsDrawnOf (is_told : Bool) (spots : List BoxSpot) (words : List ℕ) (width height : ℕ) (text : List ℕ) : Type 0 where
-  pub boxes : List ℕ
-  pub drawn : HasSpots spots (boxes ++ words)
-  pub says : text ≡ picture_text is_told boxes words width height
+-- a picture with these regions, with these bytes at the head of its boxes, with these words behind its boxes, and of this width and
+-- height, that has told ranges or none
+pub record IsDrawnOf (is_told : Bool) (spots : List BoxSpot) (head words : List ℕ) (width height : ℕ) (text : List ℕ) : Type 0 where
+  pub behind : List ℕ
+  pub drawn : HasSpots spots (head ++ behind ++ words)
+  pub says : text ≡ picture_text is_told (head ++ behind) words width height
 
 -- a map has a line of a told range, or of one that somebody holds
 abbrev pub tells_ranges : List ℕ → Bool
 tells_ranges map = list_any is_told_line (region_lines map)
+
+-- the boxes above the list of faults: the title and the counts, and below them the legend
+abbrev pub boxes_above : List Listed → List ℕ → List ℕ → List ℕ
+boxes_above functions map faults =
+    counts_text (length functions) (count_of_regions (headed_regions map)) (length (faults_said faults))
+    ++ legend_boxes 66 16 (marks_of_legend (tells_ranges map))
 
 -- the words above the sections: those of the legend, below them the lines of the faults, and below these the tree
 abbrev pub words_above : Bool → List ℕ → List ℕ → List ℕ
@@ -105,7 +113,8 @@ words_drawn functions map faults tree sections off =
 -- these faults. Each region out of place is in the section of the root from which its bus is reached, by the same functions, and of
 -- its space. Above the sections stand the faults, and beside them the tree of these functions.
 -- The sections stand below each other, from where the tree begins, and below them stands the list of what is off. The picture is
--- 16 units higher than that list and the tree. It is 16 units wider than the sections, and has 140 units for the last mark of the legend
+-- 16 units higher than that list and the tree. It is 16 units wider than the sections, and has 140 units for the last mark of the legend.
+-- The boxes begin with the title, with how many functions, regions and faults there are, and with the legend
 pub record IsPictureOf (functions : List Listed) (map faults text : List ℕ) : Type 0 where
   pub sections : List Section
   pub off : List BoxSpot
@@ -121,7 +130,8 @@ pub record IsPictureOf (functions : List Listed) (map faults text : List ℕ) : 
   pub tree : List ℕ
   pub tree_end : ℕ
   pub rows : IsTreeBelowFaults functions faults tree tree_end
-  pub drawn : IsDrawnOf (tells_ranges map) (all_of sections ++ off) (words_drawn functions map faults tree sections off) width height text
+  pub drawn : IsDrawnOf (tells_ranges map) (all_of sections ++ off) (boxes_above functions map faults)
+      (words_drawn functions map faults tree sections off) width height text
   pub end : ℕ
   pub stand : height < 2 ^ 64 - 1 → StandBelow (look_told functions faults).told (tree_top (faults_said faults)) sections end
   pub bottom : ℕ

@@ -1,6 +1,6 @@
 //! The elements of a picture that were drawn so far.
 ghost use Rattle.std.specs.String.{string_bytes};
-ghost use Rattle.std.specs.Prelude.{◌≡◌, ◌++◌, List, [], IfOk, OnOk};
+ghost use Rattle.std.specs.Prelude.{◌≡◌, ◌++◌, List, ℕ, [], IfOk, OnOk};
 ghost use Rattle.pci_picture.specs.Xml.{IsContent};
 ghost use Rattle.pci_picture.specs.Whole.{IsPictureText, picture_text};
 ghost use Rattle.pci_picture.specs.Boxes.{titled, titled_spot, IsDrawnOf};
@@ -48,6 +48,7 @@ impl<A: Allocator + Copy> Canvas<A> {
     pub fn new(alloc: A) -> Canvas<A>
         ensures drawn { HasDrawn [] result }
         ensures empty { string_bytes result.words ≡ [] }
+        ensures blank { string_bytes result.boxes ≡ [] }
     {
         Canvas {
             boxes: String::new(alloc),
@@ -206,8 +207,8 @@ impl<A: Allocator + Copy> Canvas<A> {
         height: u64,
     ) -> Result<String<A>, OutOfMemory>
         ensures closed { IfOk result (λ text. IsPictureText (string_bytes text)) }
-        ensures drawn { (spots : List BoxSpot) → HasDrawn spots self.now
-            → IfOk result (λ text. IsDrawnOf is_told spots (string_bytes self.now.words) width height (string_bytes text)) }
+        ensures drawn { (spots : List BoxSpot) (head behind : List ℕ) → HasDrawn spots self.now → string_bytes self.now.boxes ≡ head ++ behind
+            → IfOk result (λ text. IsDrawnOf is_told spots head (string_bytes self.now.words) width height (string_bytes text)) }
         ensures says { IfOk result (λ text. string_bytes text
             ≡ picture_text is_told (string_bytes self.now.boxes) (string_bytes self.now.words) width height) }
     {

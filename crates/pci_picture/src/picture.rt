@@ -307,6 +307,7 @@ pub fn picture_of<A: Allocator + Copy>(
     // below its headings, and in it the boxes stand at the heights of their addresses. A box is marked where a fault names its
     // region. Its title is the line, what its function is called, the buses behind a window, and all such faults. A region out of
     // place is drawn in the section of the root from which its bus is reached, by the functions that `show` lists, and of its space.
+    // Its boxes begin with the title, with how many functions, regions and faults there are, and with the legend.
     // Its words are those of the legend, the lines of the faults, up to 40, below them the tree of the functions, and then those of
     // the boxes, in their order
     ensures drawn { IfOk result (λ text. IsDrawnByRootsOfShow texts.entry.now.show.now texts.entry.now.titles.now

@@ -16,4 +16,5 @@ returns g c = record {
     in_words = none_titles (string_bytes c.new-2.result) c.new-2.ensures.bytes;
   };
   empty = c.new-2.ensures.bytes;
+  blank = c.new.ensures.bytes;
 }
