@@ -1,8 +1,9 @@
 -- The tree of buses.
 use Rattle.std.specs.Prelude.{◌≡◌, ℕ, Bool, ◌+◌, ◌-◌, ◌*◌, ◌^◌, ◌==◌, ◌&&◌, true, false, not, min, Option, Some, None, List, [], ◌∷◌, ◌++◌, codes, if◌then◌else◌}
 use Rattle.std.specs.List.{filter, list_any, range_with_len}
-use Rattle.std.specs.Option.{is_none}
+use Rattle.std.specs.Option.{is_none, is_some}
 use Rattle.pci_picture.specs.Badges.{ShowBadges}
+use Rattle.pci_picture.specs.Elements.{box_text}
 use Rattle.pci_picture.specs.Lines.{is_nonempty_word}
 use Rattle.pci_picture.specs.Roots.{Listed, bus_above, secondary_of}
 use Rattle.pci_picture.specs.Rows.{TreeRow, tree_row_text, words_of_row}
@@ -85,6 +86,15 @@ down y units = min (y + units) (2 ^ 64 - 1)
 -- a row is red where faults stand beside it, else grey where its function is off
 abbrev pub class_of_row : List ℕ → Bool → List ℕ
 class_of_row beside is_on = if is_nonempty_word beside then codes "alarm" else (if is_on then [] else codes "quiet")
+
+-- the class of a row's box: that of a window for a bridge, that of a register where the function is on, else grey
+abbrev pub class_of_tree_box : Listed → List ℕ
+class_of_tree_box function = if is_some function.buses then codes "window" else (if function.is_on then codes "bar" else codes "off")
+
+-- the box of a row with its top at a height, whose title is the slot
+abbrev pub tree_box_text : ℕ → TreePlace → List ℕ
+tree_box_text y place =
+    box_text (16 + 14 * place.steps) (down y 2) 8 9 (class_of_tree_box place.function) [] place.function.word
 
 -- a row with its top at a height; a step is 14 units wide. At its right end stands the number of each fault that shows beside the
 -- function, once

@@ -170,6 +170,7 @@ impl<A: Allocator + Copy> Canvas<A> {
         width: u64,
     ) -> Result<(), OutOfMemory>
         ensures adds { OnOk result (AddsToCanvas [] self.old self.new) }
+        ensures draws { OnOk result (string_bytes self.new.boxes ≡ string_bytes self.old.boxes) }
         ensures writes { OnOk result (WritesBytes (label_text label.entry.x label.entry.y label.entry.class.now
             (cut_words width words.old.bytes.items)) self.old self.new) }
     {

@@ -3,11 +3,12 @@ ghost use Rattle.std.specs.Prelude.{◌≡◌, ◌++◌, [], ℕ, List, Some, No
 ghost use Rattle.std.specs.List.{Contains};
 ghost use Rattle.pci_picture.specs.Badges.{ShowBadges, badges_beside};
 ghost use Rattle.pci_picture.specs.Ranks.{badge_word};
-ghost use Rattle.pci_picture.specs.Canvases.{AddsToCanvas, WritesBytes};
+ghost use Rattle.pci_picture.specs.Canvases.{AddsToCanvas, DrawsBytes, WritesBytes};
+ghost use Rattle.pci_picture.specs.Elements.{box_text};
 ghost use Rattle.pci_picture.specs.Roots.{AreBusesAbove, listed_function, listed_functions};
 ghost use Rattle.pci_picture.specs.Rows.{words_of_row};
 ghost use Rattle.pci_picture.specs.Starts.{StandOnBus};
-ghost use Rattle.pci_picture.specs.Trees.{class_of_row, is_tree_root};
+ghost use Rattle.pci_picture.specs.Trees.{class_of_row, class_of_tree_box, is_tree_root, tree_box_text};
 ghost use Rattle.pci_picture.specs.Walks.{AreMarked, IsBusBegun, IsNextFunction, WritesBus, WritesRoot, WritesRow, WritesTree, left_of, place_of, unmarked_behind};
 
 use super::badge::Badge;
@@ -83,7 +84,18 @@ fn badges_of<A: Allocator + Copy>(
     Ok(words)
 }
 
-/// Draws the box of a function. Its class is `window` for a bridge, `bar` for a function that decodes, else `off`.
+/// The class of a function's box: `window` for a bridge, `bar` for a function that decodes, else `off`.
+fn box_class(function: &Function<'_>) -> &'static [u8]
+    ensures { result.now ≡ class_of_tree_box (listed_function function.entry.now) }
+{
+    match function.buses {
+        Some(_) => b"window",
+        None if function.is_on => b"bar",
+        None => b"off",
+    }
+}
+
+/// Draws the box of a function.
 fn draw_function<A: Allocator + Copy>(
     canvas: &mut Canvas<A>,
     function: &Function<'_>,
@@ -91,13 +103,10 @@ fn draw_function<A: Allocator + Copy>(
     y: u64,
 ) -> Result<(), OutOfMemory>
     ensures adds { OnOk result (AddsToCanvas [] canvas.old canvas.new) }
+    ensures draws { OnOk result (DrawsBytes (box_text x y 8 9 (class_of_tree_box (listed_function function.entry.now)) []
+        function.entry.now.slot.now) canvas.old canvas.new) }
     ensures writes { OnOk result (WritesBytes [] canvas.old canvas.new) }
 {
-    let class: &[u8] = match function.buses {
-        Some(_) => b"window",
-        None if function.is_on => b"bar",
-        None => b"off",
-    };
     let at = Frame {
         x,
         y,
@@ -106,7 +115,7 @@ fn draw_function<A: Allocator + Copy>(
     };
     let shape = Shape {
         at,
-        class,
+        class: box_class(function),
         anchor: b"",
     };
     canvas.add_box(shape, function.slot)
@@ -155,6 +164,7 @@ fn draw_row<A: Allocator + Copy>(
     y: u64,
 ) -> Result<(), OutOfMemory>
     ensures adds { OnOk result (AddsToCanvas [] canvas.old canvas.new) }
+    ensures draws { OnOk result (DrawsBytes (tree_box_text y (place_of function.entry.now depth)) canvas.old canvas.new) }
     ensures row { Contains board.entry.now.functions.items function.entry.now
         → OnOk result (WritesRow board.entry.now.faults.badges.items y (place_of function.entry.now depth) canvas.old canvas.new) }
 {

@@ -1,10 +1,12 @@
-use Rattle.std.proofs.Common.{[], ◌≡◌, ◌++◌, ◌∙◌, ap, ◌+◌, ◌-◌, ◌*◌, ◌^◌, length, arith}
+use Rattle.std.proofs.Common.{[], ◌≡◌, ◌++◌, ◌∙◌, ap, ap₂, ◌+◌, ◌-◌, ◌*◌, ◌^◌, length, arith}
 use Rattle.std.specs.Prelude.{codes, min}
 use Rattle.std.specs.String.{string_bytes}
 use Rattle.std.proofs.lemmas.Result.{on_ok_weaker}
+use Rattle.pci_picture.specs.Elements.{box_text}
 use Rattle.pci_picture.specs.Labels.{label_text}
+use Rattle.pci_picture.specs.Roots.{listed_function}
 use Rattle.pci_picture.specs.Rows.{TreeRow}
-use Rattle.pci_picture.specs.Trees.{class_of_row}
+use Rattle.pci_picture.specs.Trees.{class_of_row, class_of_tree_box}
 use Rattle.pci_picture.proofs.Boxes.{then_ok, then_draws}
 use Rattle.pci_picture.proofs.Rows.{cut_off, row_written}
 use Rattle.pci_picture.proofs.tree.draw_row.Goals as goal
@@ -45,3 +47,12 @@ returns-clause-row g c own =
           (c.saturating_sub-2.ensures ∙ ap (λ n. 400 - n) wide ∙ cut_off 400 (length row.beside * 7) (omega arith));
     })
     c.add_words.ensures.writes
+
+pub returns-clause-draws : goal.returns-clause-draws
+returns-clause-draws g c =
+    let boxes = string_bytes c.args.canvas.now.boxes in
+    let function = c.args.function.now in
+    on_ok_weaker c.add_words.result
+    (λ same. same ∙ c.in_ok-add_cut.ensures.draws ∙ c.in_ok-draw_function.ensures.draws
+    ∙ ap₂ (λ m n. boxes ++ box_text (16 + 14 * m) n 8 9 (class_of_tree_box (listed_function function)) [] function.slot.now) c.min.ensures c.saturating_add.ensures)
+    c.add_words.ensures.draws
